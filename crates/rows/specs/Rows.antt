@@ -1,0 +1,81 @@
+-- Both sides of each line (01): what the definitions give, beside what 01 says; one table, one theorem.
+-- The sets of the caller are any sets, so that "exactly" and "never" are said of all of them.
+use Prim.Native.Nat.{ℕ}
+use mathlib.Core.Path.{_≡_, refl}
+use mathlib.Core.Bool.{Bool, true, false, _&&_, _||_}
+use mathlib.Core.List.{List, [], _∷_}
+use Rattle.laws.specs.Walks.{ifSo}
+use Rattle.rules.specs.declared.Sets.{Sets}
+use Rattle.rules.specs.declared.Right.the-variants.{CreateDf, CreateEf}
+use Rattle.rules.specs.Descriptor.{classOf, structureOf, df, ef, neither}
+use Rattle.rules.specs.Condition.{bit, holdsOf, met, fulfilled, allOf, oneOf}
+use Rattle.rules.specs.Group.{slotsOf, scAt, nextOf, someGroup}
+use Rattle.rules.specs.Rule.{grantedOf, allowsOf, holdsAt}
+
+-- a row: the number of its line, what the definitions give, what 01 says
+pub record Row : Type 0 where
+  pub line : ℕ
+  pub gives : ℕ
+  pub says : ℕ
+
+abbrev pub number : ℕ → ℕ → ℕ → Row
+number w a b = record { line = w; gives = a; says = b }
+
+abbrev pub test : ℕ → Bool → Bool → Row
+test w a b = number w (ifSo a 1) (ifSo b 1)
+
+abbrev pub empty : Sets
+empty = record { messaging = 0; external = 0; user = 0 }
+
+abbrev pub full : Sets
+full = record { messaging = 0xFFFF; external = 0xFFFF; user = 0xFFFF }
+
+-- the structures of W8
+abbrev pub transparent : ℕ
+transparent = 1
+
+abbrev pub linear : ℕ
+linear = 2
+
+abbrev pub cyclic : ℕ
+cyclic = 6
+
+abbrev pub rows : Sets → List Row
+rows x =
+    -- W1: SC 00 holds with empty sets, FF doesn't with full sets
+    test 1 (holdsOf 0x00 empty) true
+    ∷ test 1 (holdsOf 0xFF full) false
+    -- W2: SC 11 holds exactly with user bit 1
+    ∷ test 2 (holdsOf 0x11 x) (bit (x .user) 1)
+    -- W3: SC B2 needs external and user bit 2, SC 32 either
+    ∷ test 3 (holdsOf 0xB2 x) (bit (x .external) 2 && bit (x .user) 2)
+    ∷ test 3 (holdsOf 0x32 x) (bit (x .external) 2 || bit (x .user) 2)
+    -- W4: SC 80 and 1F never hold
+    ∷ test 4 (holdsOf 0x80 x) false
+    ∷ test 4 (holdsOf 0x1F x) false
+    -- W5: rule 06 00 FF: DF creation yes, EF creation no
+    ∷ test 5 (grantedOf (0x06 ∷ 0x00 ∷ 0xFF ∷ []) CreateDf x) true
+    ∷ test 5 (grantedOf (0x06 ∷ 0x00 ∷ 0xFF ∷ []) CreateEf x) false
+    -- W6: 02 FF 02 00: EF creation yes
+    ∷ test 6 (grantedOf (0x02 ∷ 0xFF ∷ 0x02 ∷ 0x00 ∷ []) CreateEf x) true
+    -- W8: 78 DF, 41 transparent, 42 linear, 46 cyclic, 79 and 21 neither
+    ∷ number 8 (classOf 0x78) df
+    ∷ number 8 (classOf 0x41) ef ∷ number 8 (structureOf 0x41) transparent
+    ∷ number 8 (classOf 0x42) ef ∷ number 8 (structureOf 0x42) linear
+    ∷ number 8 (classOf 0x46) ef ∷ number 8 (structureOf 0x46) cyclic
+    ∷ number 8 (classOf 0x79) neither
+    ∷ number 8 (classOf 0x21) neither
+    ∷ []
+
+abbrev pub allGive : List Row → List ℕ
+allGive [] = []
+allGive (r ∷ rs) = r .gives ∷ allGive rs
+
+abbrev pub allSay : List Row → List ℕ
+allSay [] = []
+allSay (r ∷ rs) = r .says ∷ allSay rs
+
+-- in every row the definitions give what 01 says
+pub both-sides : (x : Sets) → allGive (rows x) ≡ allSay (rows x)
+unfolding holdsOf met fulfilled allOf oneOf grantedOf allowsOf holdsAt slotsOf scAt nextOf someGroup classOf
+both-sides x = refl

@@ -1,0 +1,54 @@
+-- The life-cycle byte (01 "Image", offset 2): soundness and commands speak of its class alone, never of the
+-- byte.
+use Prim.Native.Nat.{ℕ}
+use mathlib.Core.Bool.{Bool, not, cond, _&&_, _||_}
+use lib.Dec.{eqb}
+
+-- the classes
+abbrev pub noLife : ℕ
+noLife = 0
+
+abbrev pub creation : ℕ
+creation = 1
+
+abbrev pub initialisation : ℕ
+initialisation = 2
+
+abbrev pub activated : ℕ
+activated = 3
+
+abbrev pub deactivated : ℕ
+deactivated = 4
+
+abbrev pub terminated : ℕ
+terminated = 5
+
+-- 01, 03, 04, 05 or 0C
+unfoldable pub lifeOf : ℕ → ℕ
+lifeOf x =
+    cond (eqb x 0x01) creation
+    (cond (eqb x 0x03) initialisation
+    (cond (eqb x 0x04) deactivated
+    (cond (eqb x 0x05) activated
+    (cond (eqb x 0x0C) terminated noLife))))
+
+abbrev pub isActivated : ℕ → Bool
+isActivated x = eqb (lifeOf x) activated
+
+abbrev pub isDeactivated : ℕ → Bool
+isDeactivated x = eqb (lifeOf x) deactivated
+
+abbrev pub isTerminated : ℕ → Bool
+isTerminated x = eqb (lifeOf x) terminated
+
+-- a record may hold it
+unfoldable pub knownLife : ℕ → Bool
+knownLife x = not (eqb (lifeOf x) noLife)
+
+-- CREATE FILE takes it: 01, 03, 04 or 05
+unfoldable pub newLife : ℕ → Bool
+newLife x = knownLife x && not (isTerminated x)
+
+-- ACTIVATE FILE takes it to activated: 01, 03 or 04
+unfoldable pub canActivate : ℕ → Bool
+canActivate x = eqb (lifeOf x) creation || (eqb (lifeOf x) initialisation || eqb (lifeOf x) deactivated)

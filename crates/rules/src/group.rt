@@ -1,0 +1,55 @@
+// One group of a compact rule: an AM byte and one SC byte for each of its set bits b7 to b1, the highest
+// first (01 "Descriptor and rules", compact rule). Total for any bytes: a group that runs past the end of
+// its rule has FF, never, for the SC bytes that are not there.
+ghost use mathlib.Core.Path.{_≡_};
+ghost use Prim.Native.Nat.{_<_};
+ghost use lib.ListN.{length};
+ghost use Rattle.rules.specs.Group.{scAt, slotsOf, nextOf};
+
+// The SC byte at a place, for a bit that is set (1); FF, never, for one that is not.
+fn sc_at(rule: &[u8], at: usize, on: u8) -> u8
+    ensures { λ r. ⌜ r ≡ scAt (now (rule .entry)) at on ⌝ }
+{
+    if on != 1 {
+        return 0xFF;
+    }
+    if at < rule.len() {
+        return rule[at];
+    }
+    0xFF
+}
+
+// The seven condition slots of the group at `at`: slot 0 is b7, slot 6 is b1.
+pub fn unpack(rule: &[u8], at: usize) -> [u8; 7]
+    requires { ⌜ at < length (now rule) ⌝ }
+    ensures { λ r. ⌜ r ≡ slotsOf (now (rule .entry)) at ⌝ }
+{
+    let am = rule[at];
+    let b7 = at + 1;
+    let b6 = b7 + (am / 64 % 2) as usize;
+    let b5 = b6 + (am / 32 % 2) as usize;
+    let b4 = b5 + (am / 16 % 2) as usize;
+    let b3 = b4 + (am / 8 % 2) as usize;
+    let b2 = b3 + (am / 4 % 2) as usize;
+    let b1 = b2 + (am / 2 % 2) as usize;
+    [
+        sc_at(rule, b7, am / 64 % 2),
+        sc_at(rule, b6, am / 32 % 2),
+        sc_at(rule, b5, am / 16 % 2),
+        sc_at(rule, b4, am / 8 % 2),
+        sc_at(rule, b3, am / 4 % 2),
+        sc_at(rule, b2, am / 2 % 2),
+        sc_at(rule, b1, am % 2),
+    ]
+}
+
+// The place after the group at `at`.
+pub fn next(rule: &[u8], at: usize) -> usize
+    requires { ⌜ at < length (now rule) ⌝ }
+    ensures { λ r. ⌜ r ≡ nextOf (now (rule .entry)) at ⌝ }
+{
+    let am = rule[at];
+    let high = am / 64 % 2 + am / 32 % 2 + am / 16 % 2 + am / 8 % 2;
+    let low = am / 4 % 2 + am / 2 % 2 + am % 2;
+    at + 1 + (high as usize) + (low as usize)
+}
