@@ -1,0 +1,125 @@
+//! CREATE's data with one breach each (01, "CREATE": "Any breach of this
+//! paragraph's data rules ... are 6A80").
+
+use crate::random::Random;
+use crate::rules;
+use crate::template::{good, record_lengths, template, FileData, Object};
+
+/// Good data or data with one breach; sometimes only bytes.
+pub fn any(random: &mut Random) -> Vec<u8> {
+    let data = good(random);
+    match random.below(10) {
+        0..=2 => template(&data.objects()),
+        3..=5 => of_a_value(random, data),
+        6 | 7 => of_the_list(random, &data),
+        8 => of_a_length(random, &data),
+        _ => {
+            let length = random.range(1, 40) as usize;
+            let mut bytes = random.bytes(length);
+            bytes[0] = random.pick([0x62, 0x62, bytes[0]]);
+            bytes
+        }
+    }
+}
+
+/// Every object in its place, one value wrong.
+fn of_a_value(random: &mut Random, mut data: FileData) -> Vec<u8> {
+    match random.below(8) {
+        0 => data.size = 0,
+        1 => data.identifier = random.pick([0x3FFF, 0x7FFF, 0xFFFF]),
+        2 => data.life_cycle = random.pick([0x00, 0x02, 0x06, 0x07, 0x0C, 0x0D, 0xFF]),
+        3 => data.rule = rules::broken(random),
+        4 => data.name = Some(vec![0xA0; random.pick([0, 17, 18])]),
+        5 => data.descriptor = random.pick([0x79, 0x21, 0xB8, 0xC1, 0x40, 0x43, 0x51, 0x00, 0xFF]),
+        6 => of_the_records(random, &mut data),
+        _ => {
+            let mut objects = data.objects();
+            let place = random.below(objects.len());
+            wrong_value_length(random, &mut objects[place]);
+            return template(&objects);
+        }
+    }
+    template(&data.objects())
+}
+
+/// Record length and size that do not fit one another.
+fn of_the_records(random: &mut Random, data: &mut FileData) {
+    data.descriptor = random.pick([0x42, 0x46]);
+    data.name = None;
+    let (length, size) = random.pick([
+        (0, 20),
+        (10, 25),
+        (1, 255),
+        (256, 256),
+        (255, 255 * 255),
+        (7, 0),
+        (20, 10),
+        (0x0101, 0x0101),
+    ]);
+    debug_assert!(!record_lengths(size).contains(&length) || length == 0);
+    data.record_length = Some(length);
+    data.size = size;
+    data.size_bytes = 4;
+    if random.chance(20) {
+        data.record_length = None;
+    }
+}
+
+fn wrong_value_length(random: &mut Random, object: &mut Object) {
+    if random.chance(50) {
+        object.1.push(random.byte());
+    } else {
+        object.1.pop();
+    }
+}
+
+/// Objects left out, doubled, exchanged, added or with another tag.
+fn of_the_list(random: &mut Random, data: &FileData) -> Vec<u8> {
+    let mut objects = data.objects();
+    let place = random.below(objects.len());
+    let other = random.below(objects.len());
+    match random.below(6) {
+        0 => {
+            objects.remove(place);
+        }
+        1 => {
+            let twice = objects[place].clone();
+            objects.insert(other, twice);
+        }
+        2 => objects.swap(place, other),
+        3 => objects[place].0 = random.pick([0x80, 0x81, 0x84, 0x8B, 0xAB, 0x88, 0xC6, 0x00]),
+        4 => {
+            let added = random.pick([0x88, 0x8B, 0xAB, 0x84, 0x85, 0xA5, 0x86, 0xC6, 0x90]);
+            let length = random.below(4);
+            objects.insert(other, (added, random.bytes(length)));
+        }
+        _ => objects.extend([(0x85, Vec::new()), (0xA5, Vec::new())]),
+    }
+    template(&objects)
+}
+
+/// Lengths that do not meet, in 62 or in an object, and trailing bytes.
+fn of_a_length(random: &mut Random, data: &FileData) -> Vec<u8> {
+    let mut bytes = template(&data.objects());
+    match random.below(7) {
+        0 => bytes[1] = bytes[1].wrapping_add(1),
+        1 => bytes[1] = bytes[1].wrapping_sub(1),
+        2 => bytes.push(random.byte()),
+        3 => {
+            let length = random.below(bytes.len()).max(1);
+            bytes.truncate(length);
+        }
+        4 => bytes.insert(1, 0x81),
+        5 => {
+            let place = random.below(bytes.len() - 3) + 3;
+            bytes[place] = random.pick([0x80, 0x81, 0x00, 0x7F, 0xFF]);
+        }
+        _ => {
+            // Beyond 7F inside, and still not more than Lc can tell.
+            let mut objects = data.objects();
+            objects.push((0x85, vec![0; 0x70]));
+            bytes = template(&objects);
+        }
+    }
+    bytes
+}

@@ -1,0 +1,235 @@
+//! Images damaged in one field: for each field of header and record the
+//! values just beyond what soundness allows (01, "Image").
+
+use model::Card;
+
+use crate::random::Random;
+
+/// The field that was damaged.
+#[derive(Clone, Copy, PartialEq, Eq, PartialOrd, Ord, Debug)]
+#[allow(missing_docs)]
+pub enum Field {
+    BufferLength,
+    Mark,
+    Version,
+    SlotCount,
+    CurrentDf,
+    CurrentEf,
+    HeaderZeros,
+    FreeRecord,
+    Kind,
+    Descriptor,
+    LifeCycle,
+    ByteThree,
+    Identifier,
+    Parent,
+    Level,
+    RecordLength,
+    Size,
+    Name,
+    NamePadding,
+    Rule,
+    RulePadding,
+    Tail,
+}
+
+impl Field {
+    /// All fields.
+    pub const ALL: [Field; 22] = [
+        Field::BufferLength,
+        Field::Mark,
+        Field::Version,
+        Field::SlotCount,
+        Field::CurrentDf,
+        Field::CurrentEf,
+        Field::HeaderZeros,
+        Field::FreeRecord,
+        Field::Kind,
+        Field::Descriptor,
+        Field::LifeCycle,
+        Field::ByteThree,
+        Field::Identifier,
+        Field::Parent,
+        Field::Level,
+        Field::RecordLength,
+        Field::Size,
+        Field::Name,
+        Field::NamePadding,
+        Field::Rule,
+        Field::RulePadding,
+        Field::Tail,
+    ];
+}
+
+/// The image of a sound card with one field damaged. A few damages happen to
+/// leave the image sound; the tests state the share.
+pub fn damaged(random: &mut Random, card: &Card, field: Field) -> Vec<u8> {
+    let mut image = card.encode();
+    let used: Vec<_> = card.used_slots().collect();
+    let slot = random.choose(&used).copied().unwrap_or(0);
+    match field {
+        Field::BufferLength => resize(random, &mut image),
+        Field::Mark => set(&mut image, random.range(0, 2) as usize, &[random.byte() | 0x80]),
+        Field::Version => set16(&mut image, 3, random.pick([0, 2, 3, 0x0100, 0xFFFF])),
+        Field::SlotCount => {
+            let slots = card.records.len() as u16;
+            let count = random.pick([0, 1, slots - 1, slots + 1, 1024, 0xFFFF]);
+            set16(&mut image, 5, count);
+        }
+        Field::CurrentDf | Field::CurrentEf => current(random, card, field, &mut image),
+        Field::HeaderZeros => {
+            let at = random.range(11, 15) as usize;
+            set(&mut image, at, &[random.byte() | 1]);
+        }
+        Field::FreeRecord => {
+            let free: Vec<_> =
+                (0..card.records.len()).filter(|&s| !card.record(s).is_used()).collect();
+            let slot = random.choose(&free).copied().unwrap_or(slot);
+            let offset = random.below(64);
+            set(&mut image, at(slot, offset), &[random.byte() | 1]);
+        }
+        _ => record(random, card, field, slot, &mut image),
+    }
+    image
+}
+
+/// Damage in a used record.
+fn record(random: &mut Random, card: &Card, field: Field, slot: usize, image: &mut [u8]) {
+    match field {
+        Field::Kind => set(image, at(slot, 0), &[random.pick([0, 3, 0xFF, 1, 2])]),
+        Field::Descriptor => {
+            let byte = random.pick([0x00, 0x79, 0x21, 0xB8, 0xC1, 0x40, 0x44, 0xFF]);
+            set(image, at(slot, 1), &[byte]);
+        }
+        Field::LifeCycle => {
+            let byte = random.pick([0x00, 0x02, 0x06, 0x07, 0x08, 0x0D, 0x0F, 0xFF]);
+            set(image, at(slot, 2), &[byte]);
+        }
+        Field::ByteThree => set(image, at(slot, 3), &[random.byte() | 1]),
+        Field::Identifier => set16(image, at(slot, 4), bad_identifier(random, card, slot)),
+        Field::Parent => {
+            let slots = card.records.len() as u16;
+            let parent = random.pick([slot as u16, slots, 0xFFFF, slots - 1]);
+            let parent = if slot == 0 { parent.max(1) } else { parent };
+            set16(image, at(slot, 6), parent);
+        }
+        Field::Level => {
+            let level = card.record(slot).level;
+            set16(image, at(slot, 8), random.pick([level + 1, level.wrapping_sub(1), 0xFFFF]));
+        }
+        Field::RecordLength => {
+            let length = card.record(slot).record_length;
+            let bad = if length == 0 { 1 } else { random.pick([0, 256, 0xFFFF]) };
+            set16(image, at(slot, 10), bad);
+        }
+        Field::Size => set(image, at(slot, 12), &bad_size(random, card, slot).to_be_bytes()),
+        Field::Name | Field::NamePadding => name(random, card, field, slot, image),
+        Field::Rule | Field::RulePadding => rule(random, card, field, slot, image),
+        _ => {
+            let offset = random.range(50, 63) as usize;
+            set(image, at(slot, offset), &[random.byte() | 1]);
+        }
+    }
+}
+
+/// A current DF that is none, a current EF that is not its child EF.
+fn current(random: &mut Random, card: &Card, field: Field, image: &mut [u8]) {
+    let slots = card.records.len();
+    let wrong = |slot: &usize| match field {
+        Field::CurrentDf => !card.record(*slot).is_df(),
+        _ => !card.record(*slot).is_ef() || card.parent(*slot) != card.current_df,
+    };
+    let candidates: Vec<_> = (0..slots + 2).filter(wrong).collect();
+    let slot = random.choose(&candidates).copied().unwrap_or(slots);
+    let place = if field == Field::CurrentDf { 7 } else { 9 };
+    set16(image, place, slot as u16);
+}
+
+/// Reserved, a sibling's, or of a directory above.
+fn bad_identifier(random: &mut Random, card: &Card, slot: usize) -> u16 {
+    if slot == 0 {
+        return random.pick([0x3F01, 0x7F10, 0x0000]);
+    }
+    let parent = card.parent(slot);
+    let mut taken: Vec<_> = card
+        .children(parent)
+        .filter(|&other| other != slot)
+        .chain(card.above(slot))
+        .map(|other| card.record(other).identifier)
+        .collect();
+    taken.extend([0x3FFF, 0x7FFF, 0xFFFF]);
+    random.choose(&taken).copied().unwrap_or(0xFFFF)
+}
+
+/// 0, one above what the directory can pay, one below what the children
+/// take, or so large that 32-bit sums wrap.
+fn bad_size(random: &mut Random, card: &Card, slot: usize) -> u32 {
+    let record = card.record(slot);
+    let fitting = match slot {
+        0 => 64 * (card.records.len() as u64 - 1),
+        _ => card.room(card.parent(slot)) + u64::from(record.size),
+    };
+    let one_above = u32::try_from(fitting + 1).unwrap_or(u32::MAX);
+    let one_below = u32::try_from(card.charged(slot)).unwrap_or(0).saturating_sub(1);
+    random.pick([0, one_above, one_above, one_below, u32::MAX, 0xFFFF_FFC0])
+}
+
+/// A name of an EF, a name twice, a length beyond 16, padding that is not
+/// zero.
+fn name(random: &mut Random, card: &Card, field: Field, slot: usize, image: &mut [u8]) {
+    let own = &card.record(slot).name;
+    let others: Vec<_> = card
+        .records
+        .iter()
+        .map(|record| &record.name)
+        .filter(|name| !name.is_empty() && *name != own)
+        .collect();
+    let other = random.choose(&others).copied();
+    match (field, other) {
+        (Field::NamePadding, _) if own.len() < 16 => {
+            let offset = random.range(17 + own.len() as u32, 32) as usize;
+            set(image, at(slot, offset), &[random.byte() | 1]);
+        }
+        (_, Some(other)) => {
+            let mut bytes = vec![other.len() as u8];
+            bytes.extend(other);
+            bytes.resize(17, 0);
+            set(image, at(slot, 16), &bytes);
+        }
+        _ => set(image, at(slot, 16), &[random.pick([17, 18, 0xFF])]),
+    }
+}
+
+/// A length of 0 or beyond 16, a malformed rule, padding that is not zero.
+fn rule(random: &mut Random, card: &Card, field: Field, slot: usize, image: &mut [u8]) {
+    let length = card.record(slot).rule.len();
+    if field == Field::RulePadding && length < 16 {
+        let offset = random.range(34 + length as u32, 49) as usize;
+        set(image, at(slot, offset), &[random.byte() | 1]);
+    } else if random.chance(50) {
+        set(image, at(slot, 33), &[random.pick([0, 17, 0xFF])]);
+    } else {
+        let first = image[at(slot, 34)];
+        set(image, at(slot, 34), &[first | 0x80]);
+    }
+}
+
+fn resize(random: &mut Random, image: &mut Vec<u8>) {
+    let length = image.len();
+    let wrong = random.pick([0, 15, 16, length - 64, length - 1, length + 1, length + 64]);
+    image.resize(wrong, 0);
+}
+
+fn at(slot: usize, offset: usize) -> usize {
+    16 + 64 * slot + offset
+}
+
+fn set(image: &mut [u8], at: usize, bytes: &[u8]) {
+    if let Some(part) = image.get_mut(at..at + bytes.len()) {
+        part.copy_from_slice(bytes);
+    }
+}
+
+fn set16(image: &mut [u8], at: usize, number: u16) {
+    set(image, at, &number.to_be_bytes());
+}

@@ -1,0 +1,175 @@
+//! The kinds of cases, their mix, and the endless row of cases of a seed.
+
+use model::Card;
+
+use crate::case::Case;
+use crate::damage::{damaged, Field};
+use crate::history::{fitting_command, history};
+use crate::random::Random;
+use crate::{breach, images, makers, raw, rules, states, streams, worst};
+
+/// What a case is made for.
+#[derive(Clone, Copy, PartialEq, Eq, PartialOrd, Ord, Debug)]
+pub enum Kind {
+    /// A history on a fresh card.
+    History,
+    /// A fitting command on a sound image.
+    SoundCommand,
+    /// A report on a sound image.
+    SoundReport,
+    /// A fitting command on an image damaged in one field.
+    DamagedCommand,
+    /// A report on an image damaged in one field.
+    DamagedReport,
+    /// A raw command on a sound image.
+    RawCommand,
+    /// A command with one thing wrong on a sound image.
+    NearMiss,
+    /// CREATE's data, good or broken.
+    Template,
+    /// A call of the maker.
+    Make,
+    /// A run of replay.
+    Replay,
+    /// A rule under a state.
+    Rule,
+    /// A fitting command or a report on a worst-case card.
+    Worst,
+}
+
+impl Kind {
+    /// All kinds with their weights in the mix.
+    pub const MIX: [(Kind, usize); 12] = [
+        (Kind::History, 100),
+        (Kind::SoundCommand, 300),
+        (Kind::SoundReport, 60),
+        (Kind::DamagedCommand, 90),
+        (Kind::DamagedReport, 40),
+        (Kind::RawCommand, 70),
+        (Kind::NearMiss, 110),
+        (Kind::Template, 120),
+        (Kind::Make, 30),
+        (Kind::Replay, 30),
+        (Kind::Rule, 45),
+        (Kind::Worst, 5),
+    ];
+
+    /// The name on the command line of the program.
+    pub fn name(self) -> String {
+        format!("{self:?}").to_lowercase()
+    }
+
+    /// The kind of a name.
+    pub fn from_name(name: &str) -> Option<Kind> {
+        Kind::MIX.iter().map(|(kind, _)| *kind).find(|kind| kind.name() == name)
+    }
+}
+
+/// A case and what it was made for.
+#[derive(Clone, PartialEq, Eq, Debug)]
+pub struct Made {
+    /// What it was made for.
+    pub kind: Kind,
+    /// The case.
+    pub case: Case,
+}
+
+/// The endless row of cases of a seed.
+#[derive(Clone, Debug)]
+pub struct Generator {
+    seed: u64,
+    next: u64,
+    only: Option<Kind>,
+}
+
+impl Generator {
+    /// All kinds, by the mix.
+    pub fn new(seed: u64) -> Generator {
+        Generator { seed, next: 0, only: None }
+    }
+
+    /// One kind only.
+    pub fn only(seed: u64, kind: Kind) -> Generator {
+        Generator { seed, next: 0, only: Some(kind) }
+    }
+
+    /// The row from a later case on.
+    pub fn starting_at(self, index: u64) -> Generator {
+        Generator { next: index, ..self }
+    }
+
+    /// The case with this number.
+    pub fn case(&self, index: u64) -> Made {
+        let mut random = Random::for_case(self.seed, index);
+        let mixed = random.weighted(&Kind::MIX).unwrap_or(Kind::History);
+        let kind = self.only.unwrap_or(mixed);
+        Made { kind, case: make_case(&mut random, kind) }
+    }
+}
+
+impl Iterator for Generator {
+    type Item = Made;
+
+    fn next(&mut self) -> Option<Made> {
+        let made = self.case(self.next);
+        self.next += 1;
+        Some(made)
+    }
+}
+
+/// One case of a kind.
+pub fn make_case(random: &mut Random, kind: Kind) -> Case {
+    match kind {
+        Kind::History => Case::History(history(random)),
+        Kind::SoundCommand => {
+            let card = images::sound_card(random);
+            fitting(random, &card, card.encode())
+        }
+        Kind::SoundReport => Case::Report { image: images::sound_image(random) },
+        Kind::DamagedCommand => {
+            let card = images::sound_card(random);
+            let field = random.pick(Field::ALL);
+            let image = damaged(random, &card, field);
+            fitting(random, &card, image)
+        }
+        Kind::DamagedReport => {
+            let card = images::sound_card(random);
+            let field = random.pick(Field::ALL);
+            Case::Report { image: damaged(random, &card, field) }
+        }
+        Kind::RawCommand => {
+            let image = images::sound_image(random);
+            let (command, state) = (raw::raw(random), states::any(random));
+            Case::OneCommand { image, command, state }
+        }
+        Kind::NearMiss => {
+            let card = images::sound_card(random);
+            let (command, state) = (raw::near_miss(random, &card), states::mostly_full(random));
+            Case::OneCommand { image: card.encode(), command, state }
+        }
+        Kind::Template => Case::Template { data: breach::any(random) },
+        Kind::Make => {
+            let (buffer, total, rule) = makers::call(random);
+            Case::Make { buffer, total, rule }
+        }
+        Kind::Replay => Case::Replay { input: streams::input(random) },
+        Kind::Rule => Case::Rule { rule: rules::any(random), state: states::any(random) },
+        Kind::Worst => worst_case(random),
+    }
+}
+
+/// A command that fits the card, on its image or a damaged one.
+fn fitting(random: &mut Random, card: &Card, image: Vec<u8>) -> Case {
+    let command = fitting_command(random, card);
+    let state = if random.chance(70) { states::mostly_full(random) } else { states::any(random) };
+    Case::OneCommand { image, command, state }
+}
+
+fn worst_case(random: &mut Random) -> Case {
+    let cards = worst::cards();
+    let image = random.choose(&cards).map(|worst| worst.image.clone()).unwrap_or_default();
+    match Card::decode(&image) {
+        Some(card) if random.chance(75) => fitting(random, &card, image),
+        _ => Case::Report { image },
+    }
+}

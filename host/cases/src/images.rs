@@ -1,0 +1,174 @@
+//! Sound images at random: files in any slots, in any life cycle, with names
+//! and rules of all sorts, and any of them current (01, "Image").
+
+use model::edition::Edition;
+use model::{Card, Kind, Record};
+
+use crate::choices::free_identifier;
+use crate::random::Random;
+use crate::rules;
+use crate::template::record_lengths;
+
+/// How many slots a card has: mostly few, seldom the most.
+pub fn slot_count(random: &mut Random) -> usize {
+    let many = match random.below(200) {
+        0 => return 1023,
+        1..=9 => (65, 160),
+        10..=49 => (17, 64),
+        50..=69 => (2, 3),
+        _ => (4, 16),
+    };
+    random.range(many.0, many.1) as usize
+}
+
+/// A sound image.
+pub fn sound_image(random: &mut Random) -> Vec<u8> {
+    sound_card(random).encode()
+}
+
+/// A sound card.
+pub fn sound_card(random: &mut Random) -> Card {
+    let slots = slot_count(random);
+    let mut card = empty_card(random, slots);
+    let files = random.below(slots);
+    for _ in 0..files {
+        add_file(random, &mut card);
+    }
+    choose_current(random, &mut card);
+    card
+}
+
+/// Only the root, in one of the ways that soundness leaves open.
+fn empty_card(random: &mut Random, slots: usize) -> Card {
+    let most = 64 * (slots as u32 - 1);
+    let total = if random.chance(75) { most } else { random.range(1, most) };
+    let mut card = Card {
+        edition: Edition::BASE,
+        current_df: 0,
+        current_ef: None,
+        records: vec![Record::FREE; slots],
+    };
+    let root = Record {
+        kind: Kind::Df,
+        descriptor: random.pick([0x38, 0x38, 0x78]),
+        life_cycle: life_cycle(random, 2),
+        identifier: 0x3F00,
+        size: total,
+        name: name(random, &card, 10),
+        rule: rules::mostly_open(random),
+        ..Record::FREE
+    };
+    card.put(0, root);
+    card
+}
+
+/// Adds a file in a free slot to a directory that has room, if there is one.
+pub fn add_file(random: &mut Random, card: &mut Card) -> Option<()> {
+    let free: Vec<_> = (0..card.records.len()).filter(|&s| !card.record(s).is_used()).collect();
+    let slot = *random.choose(&free)?;
+    let directories: Vec<_> = card.used_slots().filter(|&s| card.record(s).is_df()).collect();
+    let df = *random.choose(&directories)?;
+    let most = u32::try_from(card.room(df).checked_sub(64)?).ok()?;
+    if most == 0 {
+        return None;
+    }
+    let size = match random.below(8) {
+        0 => most,
+        1 => 1,
+        2 | 3 => random.range(1, most),
+        _ => random.range(1, most.min(90)),
+    };
+    let record = if random.chance(40) {
+        directory(random, card, size.max(most / 3).max(1))
+    } else {
+        elementary(random, size)
+    };
+    let placed = Record {
+        identifier: free_identifier(random, card, df),
+        parent: df as u16,
+        level: card.record(df).level + 1,
+        ..record
+    };
+    card.put(slot, placed);
+    Some(())
+}
+
+fn directory(random: &mut Random, card: &Card, total: u32) -> Record {
+    Record {
+        kind: Kind::Df,
+        descriptor: random.pick([0x38, 0x78]),
+        life_cycle: life_cycle(random, 10),
+        size: total,
+        name: name(random, card, 40),
+        rule: some_rule(random),
+        ..Record::FREE
+    }
+}
+
+fn elementary(random: &mut Random, size: u32) -> Record {
+    let lengths = record_lengths(size);
+    let length = random.choose(&lengths).copied().filter(|_| size % 3 != 1);
+    let descriptor = match length {
+        None => random.pick([0x01, 0x09, 0x41, 0x49]),
+        Some(_) => random.pick([0x02, 0x06, 0x0A, 0x0E, 0x42, 0x46, 0x4A, 0x4E]),
+    };
+    Record {
+        kind: Kind::Ef,
+        descriptor,
+        life_cycle: life_cycle(random, 10),
+        record_length: length.unwrap_or(0),
+        size,
+        rule: some_rule(random),
+        ..Record::FREE
+    }
+}
+
+fn some_rule(random: &mut Random) -> Vec<u8> {
+    if random.chance(60) {
+        rules::mostly_open(random)
+    } else {
+        rules::well_formed(random)
+    }
+}
+
+/// Terminated so many times out of a hundred, else any other state.
+fn life_cycle(random: &mut Random, terminated: usize) -> u8 {
+    if random.chance(terminated) {
+        0x0C
+    } else {
+        random.pick([0x05, 0x05, 0x05, 0x05, 0x04, 0x03, 0x01])
+    }
+}
+
+/// A name so many times out of a hundred that is not yet on the card; some
+/// differ from another only by a zero at the end.
+fn name(random: &mut Random, card: &Card, percent: usize) -> Vec<u8> {
+    if !random.chance(percent) {
+        return Vec::new();
+    }
+    let other = random.below(card.records.len());
+    let mut name = card.record(other).name.clone();
+    if name.is_empty() || name.len() == 16 || random.chance(70) {
+        let length = random.range(1, 16) as usize;
+        name = random.bytes(length);
+    } else {
+        name.push(0);
+    }
+    let taken = card.records.iter().any(|record| record.name == name);
+    if taken {
+        Vec::new()
+    } else {
+        name
+    }
+}
+
+/// Any DF becomes current, and half of the time one of its EFs.
+fn choose_current(random: &mut Random, card: &mut Card) {
+    let directories: Vec<_> = card.used_slots().filter(|&s| card.record(s).is_df()).collect();
+    let df = random.choose(&directories).copied().unwrap_or(0);
+    card.make_current(df);
+    let files: Vec<_> = card.children(df).filter(|&s| card.record(s).is_ef()).collect();
+    if let (true, Some(&ef)) = (random.chance(50), random.choose(&files)) {
+        card.make_current(ef);
+    }
+}

@@ -1,0 +1,58 @@
+//! Cases for the card of document 01, made from a seed, for the comparison of
+//! the proved card with the model ("Other cases are run by program and
+//! compared with an independent one").
+//!
+//! Case number i of seed s depends on s and i alone, so a single case can be
+//! made again:
+//!
+//! ```
+//! use cases::Generator;
+//! let all: Vec<_> = Generator::new(7).take(20).collect();
+//! assert_eq!(Generator::new(7).case(13), all[13]);
+//! for made in all {
+//!     for case in made.case.lines() {
+//!         println!("{} > {}", case.line(), case.result());
+//!     }
+//! }
+//! ```
+//!
+//! | what | where |
+//! |---|---|
+//! | kinds of cases and the mix | [`generator`] |
+//! | the cases themselves | [`case`] |
+//! | histories on fresh cards | [`history`], [`themes`], [`actions`], [`creations`], [`choices`] |
+//! | sound images at random | [`images`] |
+//! | images damaged in one field | [`damage`] |
+//! | raw commands and near-misses | [`raw`] |
+//! | every near-miss in turn | [`near`] |
+//! | CREATE's data, good and broken | [`template`], [`breach`] |
+//! | rules, states | [`rules`], [`states`] |
+//! | maker's calls, replay's streams | [`makers`], [`streams`] |
+//! | worst-case cards | [`worst`] |
+
+#![forbid(unsafe_code)]
+#![warn(missing_docs)]
+
+pub mod actions;
+pub mod breach;
+pub mod case;
+pub mod choices;
+pub mod creations;
+pub mod damage;
+pub mod generator;
+pub mod history;
+pub mod images;
+pub mod makers;
+pub mod near;
+pub mod random;
+pub mod raw;
+pub mod rules;
+pub mod states;
+pub mod streams;
+pub mod template;
+pub mod themes;
+pub mod worst;
+
+pub use case::{Case, History, Step};
+pub use generator::{Generator, Kind, Made};
+pub use random::Random;

@@ -1,0 +1,40 @@
+//! Calls of the maker on both sides of each of its checks (01, "Making and
+//! reporting").
+
+use crate::images::slot_count;
+use crate::random::Random;
+use crate::rules;
+
+/// A buffer, a total and a root rule.
+pub fn call(random: &mut Random) -> (Vec<u8>, u32, Vec<u8>) {
+    let slots = slot_count(random);
+    let most = 64 * (slots as u32 - 1);
+    let good_length = 16 + 64 * slots;
+    let length = if random.chance(85) { good_length } else { wrong_length(random, good_length) };
+    let total = match random.below(10) {
+        0 => random.pick([0, most + 1, u32::MAX, 0xFFFF_FFC0, 65_409]),
+        1 => 1,
+        2..=4 => random.range(1, most),
+        _ => most,
+    };
+    let rule = match random.below(10) {
+        0 => rules::broken(random),
+        1 => rules::any(random),
+        2..=5 => rules::open(),
+        _ => rules::well_formed(random),
+    };
+    (contents(random, length), total, rule)
+}
+
+fn wrong_length(random: &mut Random, good: usize) -> usize {
+    random.pick([0, 1, 15, 16, 79, 80, good - 1, good + 1, good + 16, 16 + 64 * 1024])
+}
+
+/// What the buffer held before: zeros or anything.
+fn contents(random: &mut Random, length: usize) -> Vec<u8> {
+    if random.chance(50) {
+        vec![0; length]
+    } else {
+        random.bytes(length)
+    }
+}

@@ -1,0 +1,91 @@
+//! Every near-miss, not at random: each instruction's good command with every
+//! other class, instruction, parameter, Lc and length (01, steps A to G).
+
+use model::{Card, State};
+
+use crate::actions::{bare, delete, select};
+use crate::case::{Case, History, Step};
+use crate::rules;
+use crate::template::{FileData, Object};
+
+/// How many bytes too many are tried.
+const BYTES_TOO_MANY: usize = 3;
+
+/// The good command of each instruction for [`card`].
+pub fn good_commands() -> Vec<Vec<u8>> {
+    let mut commands = vec![select(0x6F07), delete(0x6F07), file(0x6F08, 0x41, None).command()];
+    commands.extend([0x44, 0x04, 0xE8, 0xE6, 0xFE].map(bare));
+    commands
+}
+
+/// The image on which they are tried: a DF in the root is current, with an
+/// EF in it.
+pub fn card() -> Vec<u8> {
+    let directory = FileData { size: 256, ..file(0x7F10, 0x78, Some(vec![0])) };
+    let commands = [directory.command(), file(0x6F07, 0x41, None).command()];
+    let history = History {
+        slots: 8,
+        total: 448,
+        rule: rules::open(),
+        steps: commands.map(|command| Step { command, state: State::FULL }).into(),
+    };
+    let mut image = history.fresh_image();
+    history.play(|_, _, _, after| image = after.to_vec());
+    debug_assert!(Card::decode(&image).is_some());
+    image
+}
+
+/// A file without anything that may be left out.
+fn file(identifier: u16, descriptor: u8, pin_status: Option<Vec<u8>>) -> FileData {
+    let last: Option<Object> = None;
+    FileData {
+        descriptor,
+        second: 0x21,
+        record_length: None,
+        identifier,
+        name: None,
+        life_cycle: 0x05,
+        rule: rules::open(),
+        size: 9,
+        size_bytes: 2,
+        pin_status: pin_status.unwrap_or_default(),
+        last,
+    }
+}
+
+/// All near-misses of a good command: each of its first five bytes with every
+/// other value, cut to every shorter length, and lengthened.
+pub fn near_misses_of(good: &[u8]) -> Vec<Vec<u8>> {
+    let mut found = Vec::new();
+    for (place, &right) in good.iter().enumerate().take(5) {
+        for wrong in (0..=255).filter(|&byte| byte != right) {
+            let mut command = good.to_vec();
+            command[place] = wrong;
+            found.push(command);
+        }
+    }
+    found.extend((0..good.len()).map(|length| good[..length].to_vec()));
+    for extra in 1..=BYTES_TOO_MANY {
+        let mut command = good.to_vec();
+        command.resize(good.len() + extra, 0);
+        // Once with Lc as it was, once with Lc telling the new length.
+        if let Some(lc) = command.len().checked_sub(5).filter(|_| good.len() > 4) {
+            let mut told = command.clone();
+            told[4] = lc as u8;
+            found.push(told);
+        }
+        found.push(command);
+    }
+    found
+}
+
+/// All near-misses of all instructions, as cases.
+pub fn every_near_miss() -> impl Iterator<Item = Case> {
+    let image = card();
+    let commands = good_commands().into_iter().flat_map(|good| near_misses_of(&good));
+    commands.map(move |command| Case::OneCommand {
+        image: image.clone(),
+        command,
+        state: State::FULL,
+    })
+}

@@ -1,0 +1,128 @@
+//! Access rules: open, with many groups, well formed at random, broken
+//! (01, "Descriptor and rules").
+
+use crate::random::Random;
+
+/// Longest rule that a record takes.
+pub const LONGEST: usize = 16;
+
+/// Everything always.
+pub fn open() -> Vec<u8> {
+    vec![0x7F, 0, 0, 0, 0, 0, 0, 0]
+}
+
+/// Mostly open; else well formed at random.
+pub fn mostly_open(random: &mut Random) -> Vec<u8> {
+    if random.chance(85) {
+        open()
+    } else {
+        well_formed(random)
+    }
+}
+
+/// A well-formed rule of 1 to 16 bytes.
+pub fn well_formed(random: &mut Random) -> Vec<u8> {
+    match random.below(6) {
+        0 => open(),
+        1 => many_groups(random),
+        2 => vec![0x7F; 1].into_iter().chain((0..7).map(|_| condition(random))).collect(),
+        3 => vec![0; random.range(1, 16) as usize],
+        _ => {
+            let longest = random.range(1, 16) as usize;
+            groups(random, longest)
+        }
+    }
+}
+
+/// Many groups of one or two bits, most of them refusing, so that a later one
+/// decides.
+pub fn many_groups(random: &mut Random) -> Vec<u8> {
+    let bit = 1u8 << random.below(7);
+    let mut rule = Vec::new();
+    while rule.len() + 3 <= LONGEST {
+        if random.chance(70) {
+            rule.extend([bit, random.pick([0xFF, 0xFF, 0x80, 0x1F, 0x11])]);
+        } else {
+            let other = 1u8 << random.below(7);
+            rule.push(bit | other);
+            rule.extend((0..(bit | other).count_ones()).map(|_| condition(random)));
+        }
+    }
+    if random.chance(60) && rule.len() + 2 <= LONGEST {
+        rule.extend([bit, 0]);
+    }
+    rule
+}
+
+/// Groups at random, filling at most `longest` bytes, at least one.
+fn groups(random: &mut Random, longest: usize) -> Vec<u8> {
+    let mut rule = Vec::new();
+    loop {
+        let am = random.byte() & random.byte() & 0x7F;
+        let bytes = 1 + am.count_ones() as usize;
+        if rule.len() + bytes > longest {
+            break;
+        }
+        rule.push(am);
+        rule.extend((1..bytes).map(|_| condition(random)));
+    }
+    if rule.is_empty() {
+        rule.push(0);
+    }
+    rule
+}
+
+/// An SC byte; the ones named in W1 to W4 come often.
+pub fn condition(random: &mut Random) -> u8 {
+    match random.below(10) {
+        0..=3 => 0x00,
+        4 => 0xFF,
+        5 => random.pick([0x11, 0xB2, 0x32, 0x80, 0x1F, 0x90, 0x10, 0x70, 0xF0, 0xFE]),
+        6 => 0x10 | (random.byte() & 0x0F),
+        _ => random.byte(),
+    }
+}
+
+/// A rule that no record takes: malformed or of a wrong length.
+pub fn broken(random: &mut Random) -> Vec<u8> {
+    let mut rule = well_formed(random);
+    match random.below(6) {
+        0 => Vec::new(),
+        1 => {
+            rule[0] |= 0x80;
+            rule
+        }
+        2 => vec![0; random.range(17, 20) as usize],
+        3 => {
+            let mut rule = open();
+            rule.truncate(random.range(1, 7) as usize);
+            rule
+        }
+        4 => {
+            let mut rule = open();
+            rule.push(0x80 | random.byte());
+            rule
+        }
+        _ => {
+            rule.truncate(LONGEST - 1);
+            rule.push(0xFF);
+            rule
+        }
+    }
+}
+
+/// A rule of any sort and length, also the empty one.
+pub fn any(random: &mut Random) -> Vec<u8> {
+    match random.below(10) {
+        0..=5 => well_formed(random),
+        6 | 7 => broken(random),
+        8 => {
+            let length = random.below(20);
+            random.bytes(length)
+        }
+        _ => {
+            let longest = random.range(17, 40) as usize;
+            groups(random, longest)
+        }
+    }
+}

@@ -1,0 +1,123 @@
+//! What a history is about: each theme mixes the actions in its own way.
+
+use crate::actions::Action;
+use crate::random::Random;
+
+/// The subject of a history.
+#[derive(Clone, Copy, PartialEq, Eq, Debug)]
+pub enum Theme {
+    /// A little of everything.
+    Mixed,
+    /// Sizes at the exact room, one above, and near FFFFFFFF.
+    Sizes,
+    /// One identifier deleted and created again.
+    Recreated,
+    /// Directories in directories.
+    Deep,
+    /// Names, taken and free.
+    Names,
+    /// Rules with many groups under all sorts of states.
+    Rules,
+    /// All life cycles.
+    LifeCycles,
+    /// Terminated trees and what still works in them.
+    Terminated,
+}
+
+impl Theme {
+    /// All themes.
+    pub const ALL: [Theme; 8] = [
+        Theme::Mixed,
+        Theme::Sizes,
+        Theme::Recreated,
+        Theme::Deep,
+        Theme::Names,
+        Theme::Rules,
+        Theme::LifeCycles,
+        Theme::Terminated,
+    ];
+
+    /// The next action: mostly of the theme, else any.
+    pub fn action(self, random: &mut Random) -> Action {
+        if random.chance(20) {
+            return Action::any(random);
+        }
+        let own = random.weighted(self.weights());
+        own.unwrap_or_else(|| Action::any(random))
+    }
+
+    /// The theme's own actions and their weights.
+    fn weights(self) -> &'static [(Action, usize)] {
+        match self {
+            Theme::Mixed => &[],
+            Theme::Sizes => &SIZES,
+            Theme::Recreated => &RECREATED,
+            Theme::Deep => &DEEP,
+            Theme::Names => &NAMES,
+            Theme::Rules => &RULES,
+            Theme::LifeCycles => &LIFE_CYCLES,
+            Theme::Terminated => &TERMINATED,
+        }
+    }
+}
+
+const SIZES: [(Action, usize); 7] = [
+    (Action::CreateEf, 4),
+    (Action::CreateDf, 3),
+    (Action::CreateExact, 3),
+    (Action::CreateOneAbove, 2),
+    (Action::CreateHuge, 1),
+    (Action::DeleteChild, 4),
+    (Action::SelectUp, 2),
+];
+
+const RECREATED: [(Action, usize); 6] = [
+    (Action::DeleteChild, 6),
+    (Action::DeleteCurrentEf, 4),
+    (Action::CreateLastDeleted, 8),
+    (Action::CreateEf, 3),
+    (Action::CreateDf, 1),
+    (Action::SelectUp, 2),
+];
+
+const DEEP: [(Action, usize); 5] = [
+    (Action::CreateDeep, 12),
+    (Action::CreateEf, 1),
+    (Action::SelectUp, 2),
+    (Action::SelectBeside, 1),
+    (Action::DeleteChild, 1),
+];
+
+const NAMES: [(Action, usize); 4] = [
+    (Action::CreateNamed, 8),
+    (Action::CreateTakenName, 2),
+    (Action::SelectUp, 4),
+    (Action::DeleteChild, 2),
+];
+
+const RULES: [(Action, usize); 6] = [
+    (Action::CreateRuled, 6),
+    (Action::DeleteChild, 3),
+    (Action::SelectChild, 3),
+    (Action::Activate, 2),
+    (Action::Deactivate, 2),
+    (Action::SelectUp, 2),
+];
+
+const LIFE_CYCLES: [(Action, usize); 5] = [
+    (Action::CreateInState, 4),
+    (Action::Activate, 4),
+    (Action::Deactivate, 4),
+    (Action::SelectChild, 4),
+    (Action::SelectUp, 2),
+];
+
+const TERMINATED: [(Action, usize); 7] = [
+    (Action::CreateDf, 4),
+    (Action::CreateEf, 4),
+    (Action::TerminateEf, 2),
+    (Action::TerminateDf, 2),
+    (Action::SelectUp, 6),
+    (Action::SelectChild, 3),
+    (Action::DeleteChild, 2),
+];

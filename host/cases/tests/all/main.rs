@@ -1,0 +1,11 @@
+//! The tests of the generator, one module a subject, in one program so that
+//! they build quickly.
+
+#![forbid(unsafe_code)]
+
+mod common;
+mod coverage;
+mod determinism;
+mod histories;
+mod images;
+mod near;

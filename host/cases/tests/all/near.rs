@@ -1,0 +1,76 @@
+//! Every near-miss in turn: the good commands work, and each near-miss is
+//! refused with the word of the step that it misses.
+
+use cases::near::{card, every_near_miss, good_commands, near_misses_of};
+use cases::Case;
+use model::command::Instruction;
+use model::{command, sound, words, State, Word};
+
+/// The word of a command on the card of the near-misses.
+fn word(bytes: &[u8]) -> Word {
+    let mut image = card();
+    let outcome = command(&mut image, bytes, &State::FULL);
+    assert_eq!(outcome.answer, 0);
+    outcome.word
+}
+
+#[test]
+fn the_good_commands_pass_the_steps_a_to_j() {
+    assert!(sound(&card()));
+    let given: Vec<_> = good_commands().iter().map(|good| word(good)).collect();
+    // ACTIVATE finds the EF activated already.
+    let mut wanted = [words::SUCCESS; 8];
+    wanted[3] = words::CONDITIONS_NOT_SATISFIED;
+    assert_eq!(given, wanted);
+}
+
+fn tells(lc: u8, command: &[u8]) -> bool {
+    lc > 0 && command.len() == 5 + usize::from(lc)
+}
+
+/// The word of a near-miss, from the first thing in which it differs.
+fn expected(good: &[u8], miss: &[u8]) -> Option<Word> {
+    if miss.len() < 4 {
+        return Some(words::WRONG_LENGTH);
+    }
+    match (0..good.len().min(miss.len())).find(|&place| good[place] != miss[place]) {
+        Some(0) if miss[0] <= 3 => Some(words::CONDITIONS_NOT_SATISFIED),
+        Some(0) => Some(words::UNKNOWN_CLASS),
+        Some(1) if Instruction::ALL.iter().all(|(ins, _)| *ins != miss[1]) => {
+            Some(words::UNKNOWN_INSTRUCTION)
+        }
+        // Another instruction: it has its own parameters and lengths.
+        Some(1) => None,
+        Some(2 | 3) => Some(words::WRONG_PARAMETERS),
+        // A CREATE whose Lc tells the longer length fails in its data.
+        _ if good[1] == 0xE0 && miss.get(4).is_some_and(|&lc| tells(lc, miss)) => {
+            Some(words::WRONG_DATA)
+        }
+        _ => Some(words::WRONG_LENGTH),
+    }
+}
+
+#[test]
+fn each_near_miss_is_refused_at_its_step() {
+    let (mut judged, mut other) = (0, 0);
+    for good in good_commands() {
+        for miss in near_misses_of(&good) {
+            match expected(&good, &miss) {
+                Some(wanted) => {
+                    assert_eq!(word(&miss), wanted, "{miss:02X?}");
+                    judged += 1;
+                }
+                None => other += 1,
+            }
+        }
+    }
+    assert!(judged > 8000, "{judged} judged");
+    assert_eq!(other, 8 * 7, "each instruction turned into the seven others");
+}
+
+#[test]
+fn they_are_all_given_as_cases() {
+    let count = good_commands().iter().map(|good| near_misses_of(good).len()).sum::<usize>();
+    assert_eq!(every_near_miss().count(), count);
+    assert!(every_near_miss().all(|case| matches!(case, Case::OneCommand { .. })));
+}

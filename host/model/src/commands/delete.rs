@@ -1,0 +1,36 @@
+//! DELETE FILE, a child of the current DF: 01, "DELETE". No life cycle is
+//! checked.
+
+use crate::card::Card;
+use crate::command::refuse_if;
+use crate::record::Record;
+use crate::rule::{grants, Right};
+use crate::security::State;
+use crate::words::{Word, FILE_NOT_FOUND, SECURITY_NOT_SATISFIED, SUCCESS};
+
+/// Steps I and J, then the effect.
+pub fn run(card: &mut Card, identifier: u16, state: &State) -> Result<Word, Word> {
+    let child = step_i_child(card, identifier)?;
+    step_j_security(card, child, state)?;
+    for slot in card.beneath(child) {
+        card.put(slot, Record::FREE);
+    }
+    card.put(child, Record::FREE);
+    if card.current_ef == Some(child) {
+        card.current_ef = None;
+    }
+    Ok(SUCCESS)
+}
+
+fn step_i_child(card: &Card, identifier: u16) -> Result<usize, Word> {
+    card.children(card.current_df)
+        .find(|&slot| card.record(slot).identifier == identifier)
+        .ok_or(FILE_NOT_FOUND)
+}
+
+/// The child's b7 or the current DF's b1.
+fn step_j_security(card: &Card, child: usize, state: &State) -> Result<(), Word> {
+    let by_child = grants(&card.record(child).rule, Right::DeleteSelf, state);
+    let by_directory = grants(&card.record(card.current_df).rule, Right::DeleteChild, state);
+    refuse_if(!by_child && !by_directory, SECURITY_NOT_SATISFIED)
+}

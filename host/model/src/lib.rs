@@ -1,0 +1,65 @@
+//! The card of document 01 ("What the build covers, and its rules") in plain
+//! Rust: maker, soundness, the eight commands, report and replay.
+//!
+//! The model exists to be compared with the proved card, so it shares nothing
+//! with it. It follows one way throughout: decode the image into a list of
+//! records, judge, encode. No input makes it panic: every access to a slice
+//! goes through `get`, and a slot that does not exist reads as a free record.
+//!
+//! | what | where |
+//! |---|---|
+//! | level, versions, variants | [`edition`] |
+//! | status words, answers | [`words`], [`answers`] |
+//! | image layout | [`card`], [`record`], [`bytes`] |
+//! | soundness | [`soundness`] |
+//! | descriptor, life cycle, rule | [`descriptor`], [`life_cycle`], [`rule`] |
+//! | security state | [`security`] |
+//! | maker, report, replay | [`maker`], [`mod@report`], [`mod@replay`] |
+//! | steps A to G of a command | [`mod@command`] |
+//! | steps H to L of each command | [`commands`] |
+//! | demand 3's ledger | [`ledger`] |
+//! | the line format of the vectors | [`lines`] |
+
+#![forbid(unsafe_code)]
+#![warn(missing_docs)]
+#![deny(
+    clippy::indexing_slicing,
+    clippy::unwrap_used,
+    clippy::expect_used,
+    clippy::panic,
+    clippy::unreachable,
+    clippy::todo,
+    clippy::unimplemented
+)]
+
+pub mod answers;
+pub mod bytes;
+pub mod card;
+pub mod command;
+pub mod commands;
+pub mod descriptor;
+pub mod edition;
+pub mod ledger;
+pub mod life_cycle;
+pub mod lines;
+pub mod maker;
+pub mod record;
+pub mod replay;
+pub mod report;
+pub mod rule;
+pub mod security;
+pub mod soundness;
+pub mod template;
+pub mod words;
+
+pub use answers::Answer;
+pub use card::Card;
+pub use command::{command, Outcome};
+pub use ledger::Ledger;
+pub use maker::make;
+pub use record::{Kind, Record};
+pub use replay::replay;
+pub use report::{report, Numbers};
+pub use security::State;
+pub use soundness::sound;
+pub use words::Word;

@@ -1,0 +1,229 @@
+//! The line format of the vectors: one case a line, and the result that the
+//! model gives for it. Fields are separated by one blank; byte strings are
+//! hex, `-` for none; sets and channels are hex numbers, all others decimal.
+
+use crate::bytes::byte;
+use crate::edition::{Edition, COMPACT_FORM};
+use crate::rule::{self, Right};
+use crate::security::State;
+use crate::{command, make, replay, report};
+
+/// A case of the vectors, without its result.
+#[derive(Clone, PartialEq, Eq, Debug)]
+pub enum Case {
+    /// M: a call of the maker.
+    Make {
+        /// The lent buffer.
+        buffer: Vec<u8>,
+        /// The total.
+        total: u32,
+        /// The root's rule.
+        rule: Vec<u8>,
+    },
+    /// C: one command.
+    Command {
+        /// The image.
+        image: Vec<u8>,
+        /// The command.
+        command: Vec<u8>,
+        /// The caller's state.
+        state: State,
+        /// A pool, which stays as it came on a card without bodies.
+        pool: Vec<u8>,
+        /// A response buffer, which stays as it came.
+        response: Vec<u8>,
+    },
+    /// R: a report.
+    Report {
+        /// The image.
+        image: Vec<u8>,
+    },
+    /// Y: a run of replay.
+    Replay {
+        /// Standard input.
+        input: Vec<u8>,
+    },
+    /// E: the seven decisions of one rule.
+    Decide {
+        /// The number of the rule's form.
+        form: u8,
+        /// The rule, of any length.
+        rule: Vec<u8>,
+        /// The caller's state.
+        state: State,
+    },
+    /// W: whether a rule is fit for a record.
+    Fit {
+        /// The image version.
+        version: u16,
+        /// The number of the rule's form.
+        form: u8,
+        /// The rule, of any length.
+        rule: Vec<u8>,
+    },
+}
+
+impl Case {
+    /// A command without pool and response buffer.
+    pub fn command(image: &[u8], command: &[u8], state: State) -> Case {
+        Case::Command {
+            image: image.to_vec(),
+            command: command.to_vec(),
+            state,
+            pool: Vec::new(),
+            response: Vec::new(),
+        }
+    }
+
+    /// Reads a case; nothing if the line is none that this level knows.
+    pub fn parse(line: &str) -> Option<Case> {
+        let fields: Vec<&str> = line.split(' ').collect();
+        match *fields.as_slice() {
+            ["M", buffer, total, rule, "1", "0", "0"] => Some(Case::Make {
+                buffer: from_hex(buffer)?,
+                total: total.parse().ok()?,
+                rule: from_hex(rule)?,
+            }),
+            ["C", image, command, messaging, external, user, channels, pool, response] => {
+                Some(Case::Command {
+                    image: from_hex(image)?,
+                    command: from_hex(command)?,
+                    state: state(messaging, external, user, channels)?,
+                    pool: from_hex(pool)?,
+                    response: from_hex(response)?,
+                })
+            }
+            ["R", image] => Some(Case::Report { image: from_hex(image)? }),
+            ["Y", input] => Some(Case::Replay { input: from_hex(input)? }),
+            ["E", form, rule, messaging, external, user] => Some(Case::Decide {
+                form: form.parse().ok()?,
+                rule: from_hex(rule)?,
+                state: state(messaging, external, user, "0")?,
+            }),
+            ["W", version, form, rule] => Some(Case::Fit {
+                version: version.parse().ok()?,
+                form: form.parse().ok()?,
+                rule: from_hex(rule)?,
+            }),
+            _ => None,
+        }
+    }
+
+    /// The case as a line.
+    pub fn line(&self) -> String {
+        match self {
+            Case::Make { buffer, total, rule } => {
+                format!("M {} {total} {} 1 0 0", hex(buffer), hex(rule))
+            }
+            Case::Command { image, command, state, pool, response } => {
+                let (image, command) = (hex(image), hex(command));
+                let (sets, channels) = (sets(state), state.channels);
+                let (pool, response) = (hex(pool), hex(response));
+                format!("C {image} {command} {sets} {channels:02X} {pool} {response}")
+            }
+            Case::Report { image } => format!("R {}", hex(image)),
+            Case::Replay { input } => format!("Y {}", hex(input)),
+            Case::Decide { form, rule, state } => {
+                format!("E {form} {} {}", hex(rule), sets(state))
+            }
+            Case::Fit { version, form, rule } => format!("W {version} {form} {}", hex(rule)),
+        }
+    }
+
+    /// What the model gives, in the format of the vectors' results.
+    pub fn result(&self) -> String {
+        match self {
+            Case::Make { buffer, total, rule } => {
+                let mut buffer = buffer.clone();
+                let answer = make(&mut buffer, *total, rule);
+                format!("M {answer} {}", hex(&buffer))
+            }
+            Case::Command { image, command: bytes, state, pool, response } => {
+                let mut image = image.clone();
+                let outcome = command(&mut image, bytes, state);
+                let (answer, word, image) = (outcome.answer, outcome.word, hex(&image));
+                let (pool, response) = (hex(pool), hex(response));
+                format!("C {answer} {word:04X} {image} {pool} {response} 0 0 0")
+            }
+            Case::Report { image } => {
+                let (answer, [total, room, children, beneath]) = report(image);
+                format!("R {answer} {total} {room} {children} {beneath}")
+            }
+            Case::Replay { input } => format!("Y {}", hex(&replay(input))),
+            Case::Decide { form, rule, state } => format!("E {}", decisions(*form, rule, state)),
+            Case::Fit { version, form, rule } => {
+                format!("W {}", u8::from(fit(*version, *form, rule)))
+            }
+        }
+    }
+}
+
+/// Whether two results agree. Before Ticket 6 the digits of E tell only 0 or
+/// not 0, so there every other digit counts as 1.
+pub fn results_agree(one: &str, other: &str) -> bool {
+    fold_digits(one) == fold_digits(other)
+}
+
+fn fold_digits(result: &str) -> String {
+    if result.starts_with("E ") {
+        result.replace('2', "1")
+    } else {
+        result.to_string()
+    }
+}
+
+/// Seven digits, b7 first: 0 granted, 1 not; or `malformed`.
+fn decisions(form: u8, rule: &[u8], state: &State) -> String {
+    if form != COMPACT_FORM || rule::groups(rule).is_none() {
+        return "malformed".to_string();
+    }
+    let digit = |right| if rule::grants(rule, right, state) { '0' } else { '1' };
+    Right::ALL.into_iter().map(digit).collect()
+}
+
+/// Whether a rule of this form may stand in a record of this version.
+fn fit(version: u16, form: u8, rule: &[u8]) -> bool {
+    let edition = Edition::from_header(version, Edition::BASE.variant_number());
+    form == COMPACT_FORM && edition.is_some_and(|edition| rule::fit(edition, rule))
+}
+
+fn state(messaging: &str, external: &str, user: &str, channels: &str) -> Option<State> {
+    Some(State {
+        messaging: u16::from_str_radix(messaging, 16).ok()?,
+        external: u16::from_str_radix(external, 16).ok()?,
+        user: u16::from_str_radix(user, 16).ok()?,
+        channels: u8::from_str_radix(channels, 16).ok()?,
+    })
+}
+
+fn sets(state: &State) -> String {
+    format!("{:04X} {:04X} {:04X}", state.messaging, state.external, state.user)
+}
+
+/// Capital hex, `-` for no bytes.
+pub fn hex(bytes: &[u8]) -> String {
+    if bytes.is_empty() {
+        return "-".to_string();
+    }
+    let digit = |nibble: u8| char::from(byte(b"0123456789ABCDEF", usize::from(nibble)));
+    let mut out = String::with_capacity(2 * bytes.len());
+    for &b in bytes {
+        out.push(digit(b >> 4));
+        out.push(digit(b & 0x0F));
+    }
+    out
+}
+
+/// The bytes of a hex string; nothing if it is none.
+pub fn from_hex(text: &str) -> Option<Vec<u8>> {
+    if text == "-" {
+        return Some(Vec::new());
+    }
+    let digits: Option<Vec<u8>> =
+        text.chars().map(|c| c.to_digit(16).and_then(|digit| u8::try_from(digit).ok())).collect();
+    let digits = digits?;
+    let pairs = digits.chunks_exact(2);
+    let whole = pairs.remainder().is_empty() && !digits.is_empty();
+    let joined = pairs.map(|pair| (byte(pair, 0) << 4) | byte(pair, 1)).collect();
+    whole.then_some(joined)
+}

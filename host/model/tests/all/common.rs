@@ -1,0 +1,96 @@
+//! What several test files share: building commands and cards by hand, and
+//! a line that stays visible when the test passes.
+
+use std::io::Write;
+
+use model::lines::from_hex;
+use model::{command, make, State, Word};
+
+/// Everything always: the rule of replay's root.
+pub const OPEN: &str = "7F00000000000000";
+
+/// Prints a line past the capture of the test harness.
+pub fn say(line: &str) {
+    let _ = writeln!(std::io::stderr(), "{line}");
+}
+
+/// The bytes of a hex string; blanks are for the reader only.
+pub fn bytes(text: &str) -> Vec<u8> {
+    from_hex(&text.replace(' ', "")).expect("a hex string in the test itself")
+}
+
+/// A fresh card.
+pub fn fresh(slots: usize, total: u32, rule: &str) -> Vec<u8> {
+    let mut image = vec![0xA5; 16 + 64 * slots];
+    assert_eq!(make(&mut image, total, &bytes(rule)), 0, "the maker's answer");
+    image
+}
+
+/// A fresh card of so many slots with the largest total and an open rule.
+pub fn roomy(slots: usize) -> Vec<u8> {
+    fresh(slots, 64 * (slots as u32 - 1), OPEN)
+}
+
+/// Runs one command under a state and gives its word; the image is sound.
+pub fn run_under(image: &mut [u8], text: &str, state: &State) -> Word {
+    let outcome = command(image, &bytes(text), state);
+    assert_eq!(outcome.answer, 0, "{text} on a sound image");
+    outcome.word
+}
+
+/// Runs one command with full sets and no other channel.
+pub fn run(image: &mut [u8], text: &str) -> Word {
+    run_under(image, text, &State::FULL)
+}
+
+/// A CREATE command around the objects of a template.
+pub fn create(objects: &str) -> String {
+    let objects = bytes(objects);
+    let length = objects.len();
+    let body = model::lines::hex(&objects);
+    format!("00E00000{:02X}62{:02X}{}", length + 2, length, body.replace('-', ""))
+}
+
+/// A CREATE of a DF: identifier, total of four bytes, rule.
+pub fn create_df(identifier: &str, total: u32, rule: &str) -> String {
+    let rule_length = bytes(rule).len();
+    create(&format!(
+        "82027821 8302{identifier} 8A0105 8C{rule_length:02X}{rule} 8104{total:08X} C60100"
+    ))
+}
+
+/// A CREATE of a DF with a name.
+pub fn create_named(identifier: &str, name: &str, total: u32) -> String {
+    let name_length = bytes(name).len();
+    create(&format!(
+        "82027821 8302{identifier} 84{name_length:02X}{name} \
+         8A0105 8C08{OPEN} 8104{total:08X} C60100"
+    ))
+}
+
+/// A CREATE of a transparent EF: identifier, size of four bytes, rule.
+pub fn create_ef(identifier: &str, size: u32, rule: &str) -> String {
+    let rule_length = bytes(rule).len();
+    create(&format!("82024121 8302{identifier} 8A0105 8C{rule_length:02X}{rule} 8004{size:08X}"))
+}
+
+/// SELECT by identifier.
+pub fn select(identifier: &str) -> String {
+    format!("00A4000C02{identifier}")
+}
+
+/// DELETE FILE.
+pub fn delete(identifier: &str) -> String {
+    format!("00E4000002{identifier}")
+}
+
+/// ACTIVATE FILE.
+pub const ACTIVATE: &str = "00440000";
+/// DEACTIVATE FILE.
+pub const DEACTIVATE: &str = "00040000";
+/// TERMINATE EF.
+pub const TERMINATE_EF: &str = "00E80000";
+/// TERMINATE DF.
+pub const TERMINATE_DF: &str = "00E60000";
+/// TERMINATE CARD USAGE.
+pub const TERMINATE_CARD: &str = "00FE0000";

@@ -1,0 +1,14 @@
+//! The tests of the model, one module a subject, in one program so that they
+//! build quickly.
+
+#![forbid(unsafe_code)]
+
+mod common;
+mod create_data;
+mod ledger;
+mod no_panic;
+mod order;
+mod readings;
+mod scope;
+mod soundness;
+mod vectors;

@@ -1,0 +1,183 @@
+//! No input makes the model panic: random bytes of random lengths, the empty
+//! ones included, at every public function, and images with one byte changed.
+
+use crate::common::*;
+use model::edition::Edition;
+use model::lines::{from_hex, hex, results_agree, Case};
+use model::rule::Right;
+use model::security::condition_holds;
+use model::{bytes as numbers, *};
+
+/// A small generator of its own (splitmix64), so that the test is the same
+/// everywhere.
+struct Random(u64);
+
+impl Random {
+    fn next(&mut self) -> u64 {
+        self.0 = self.0.wrapping_add(0x9E37_79B9_7F4A_7C15);
+        let mut z = self.0;
+        z = (z ^ (z >> 30)).wrapping_mul(0xBF58_476D_1CE4_E5B9);
+        z = (z ^ (z >> 27)).wrapping_mul(0x94D0_49BB_1331_11EB);
+        z ^ (z >> 31)
+    }
+
+    fn below(&mut self, limit: usize) -> usize {
+        (self.next() % limit as u64) as usize
+    }
+
+    fn bytes(&mut self, longest: usize) -> Vec<u8> {
+        let length = self.below(longest + 1);
+        (0..length).map(|_| self.next() as u8).collect()
+    }
+
+    fn state(&mut self) -> State {
+        let z = self.next();
+        State {
+            messaging: z as u16,
+            external: (z >> 16) as u16,
+            user: (z >> 32) as u16,
+            channels: (z >> 48) as u8,
+        }
+    }
+}
+
+/// Calls everything that takes an image.
+fn call_with_image(image: &[u8], random: &mut Random) {
+    let bytes = random.bytes(40);
+    let state = random.state();
+    let mut after = image.to_vec();
+    let outcome = command(&mut after, &bytes, &state);
+    assert!(outcome.answer <= 1);
+    assert_eq!(after.len(), image.len());
+    assert_eq!(report(image).0 == 0, sound(image));
+    let _ = ledger::current_df_slot(image);
+    if let Some(card) = Card::decode(image) {
+        assert_eq!(card.encode(), image, "decoding loses nothing");
+        for slot in [0, card.current_df, random.below(2000), usize::MAX] {
+            let _ = (card.above(slot), card.beneath(slot).len(), card.children(slot).count());
+            let _ = (card.room(slot), card.charged(slot), card.record(slot).charge());
+            let _ = (card.is_terminated(slot), card.is_terminated_above(slot));
+            let mut changed = card.clone();
+            changed.put(slot, Record::FREE);
+            changed.set_life_cycle(slot, 5);
+            changed.make_current(slot);
+            let _ = changed.encode();
+        }
+    }
+}
+
+/// Calls everything that takes any bytes.
+fn call_with_bytes(bytes: &[u8], random: &mut Random) {
+    let state = random.state();
+    let _ = replay(bytes);
+    let _ = rule::groups(bytes);
+    let _ = rule::fit(Edition::BASE, bytes);
+    let _ = Right::ALL.map(|right| rule::grants(bytes, right, &state));
+    let _ = template::read(bytes, Edition::BASE);
+    let _ = ledger::announced(bytes);
+    let _ = Record::decode(bytes, Edition::BASE);
+    for at in [0, bytes.len(), random.below(70), usize::MAX] {
+        let _ = (numbers::byte(bytes, at), numbers::number16(bytes, at));
+        let _ = (numbers::number32(bytes, at), numbers::rest(bytes, at));
+        let _ = numbers::part(bytes, at, usize::MAX);
+    }
+    let _ = numbers::value(bytes);
+    let mut ledger = Ledger::open(random.next() as u32);
+    let slots = [random.next() as u16 & 7, random.next() as u16 & 7];
+    ledger.enter(bytes, 0x9000, slots[0], slots[1]);
+    let _ = (ledger.room(slots[0]), ledger.total(slots[1]), ledger.children(slots[0]));
+    assert_eq!(from_hex(&hex(bytes)).as_deref(), Some(bytes));
+    let text = String::from_utf8_lossy(bytes).into_owned();
+    let _ = (from_hex(&text), Case::parse(&text), results_agree(&text, "E 2"));
+    let mut buffer = bytes.to_vec();
+    assert!(make(&mut buffer, random.next() as u32, bytes) <= 4);
+}
+
+#[test]
+fn random_bytes_everywhere() {
+    let mut random = Random(1);
+    call_with_image(&[], &mut random);
+    call_with_bytes(&[], &mut random);
+    for longest in [3, 16, 20, 80, 144, 400] {
+        for _ in 0..3000 {
+            let some = random.bytes(longest);
+            call_with_bytes(&some, &mut random);
+            call_with_image(&some, &mut random);
+        }
+    }
+}
+
+#[test]
+fn one_byte_changed_in_a_sound_image() {
+    let mut random = Random(2);
+    let mut image = roomy(8);
+    for text in [create_df("7F10", 200, OPEN), create_ef("6F07", 9, "02FF0200")] {
+        run(&mut image, &text);
+    }
+    for position in 0..image.len() {
+        for _ in 0..16 {
+            let mut changed = image.clone();
+            changed[position] = random.next() as u8;
+            call_with_image(&changed, &mut random);
+        }
+    }
+}
+
+#[test]
+fn a_good_header_before_random_records() {
+    let mut random = Random(3);
+    for _ in 0..2000 {
+        let slots = 2 + random.below(5);
+        let mut image = roomy(slots);
+        for slot in 1..slots {
+            let record = &mut image[16 + 64 * slot..80 + 64 * slot];
+            record[0] = 1 + random.below(2) as u8;
+            record[1] = [0x38, 0x41, 0x42][random.below(3)];
+            record[2] = 5;
+            for (at, limit) in [(5, 4), (7, slots + 1), (9, 4), (11, 3), (15, 9)] {
+                record[at] = random.below(limit) as u8;
+            }
+            record[33] = 1;
+        }
+        image[8] = random.below(slots + 1) as u8;
+        call_with_image(&image, &mut random);
+    }
+}
+
+#[test]
+fn replay_of_random_streams_behind_a_good_header() {
+    let mut random = Random(4);
+    for _ in 0..3000 {
+        let mut input = bytes("554653 0001 0008 000001C0");
+        for _ in 0..random.below(6) {
+            let mut command = random.bytes(20);
+            command.splice(0..0, bytes("00E00000"));
+            input.extend((command.len() as u16).to_be_bytes());
+            input.extend(command);
+        }
+        input.truncate(random.below(input.len()) + 1);
+        let _ = replay(&input);
+    }
+}
+
+#[test]
+fn every_byte_where_a_byte_is_asked() {
+    for byte in 0..=255u8 {
+        let class = descriptor::class(byte);
+        for size in [0, 1, 255, u32::MAX] {
+            for length in [0, 1, 255, 256, u16::MAX] {
+                let _ = descriptor::measures_fit(class, size, length);
+            }
+        }
+        let _ = (life_cycle::class(byte), life_cycle::creatable(byte));
+        let _ = (life_cycle::after_activate(byte), life_cycle::after_deactivate(byte));
+        let _ = life_cycle::after_terminate(byte);
+        let _ = condition_holds(byte, &State::FULL);
+        let _ = Edition::from_header(u16::from(byte), byte);
+    }
+    for length in 0..70_000 {
+        let _ = card::slots_of_length(length);
+    }
+    let _ = (card::slots_of_length(usize::MAX), card::largest_total(0));
+    let _ = (card::slot_number(usize::MAX), words::is_success(0));
+}

@@ -1,0 +1,184 @@
+//! The model agrees with every case of the vectors of its level. The whole
+//! file lies in the shared folder beside the repository; some 300 of its cases
+//! lie in the repository, so that a clone alone is tested too.
+//!
+//! The stored copy is made again with
+//! `cargo test --offline -p model --test all -- --ignored`.
+
+use std::collections::BTreeMap;
+use std::path::{Path, PathBuf};
+use std::process::Command;
+use std::time::Instant;
+
+use crate::common::say;
+use model::edition::LEVEL;
+use model::lines::{results_agree, Case};
+
+const STORED_CASES: usize = 300;
+const LONGEST_STORED_LINE: usize = 2000;
+
+fn shared_file() -> PathBuf {
+    Path::new(env!("CARGO_MANIFEST_DIR"))
+        .join("../../../shared/vectors")
+        .join(format!("level-{LEVEL:02}.txt.xz"))
+}
+
+fn stored_file() -> PathBuf {
+    Path::new(env!("CARGO_MANIFEST_DIR"))
+        .join("tests/data")
+        .join(format!("level-{LEVEL:02}-some.txt"))
+}
+
+/// The text of the whole vectors, or why there is none.
+fn shared_text() -> Result<String, String> {
+    let file = shared_file();
+    if !file.is_file() {
+        return Err(format!("{} is not there", file.display()));
+    }
+    let output = Command::new("xz").arg("-dc").arg(&file).output();
+    let output = output.map_err(|error| format!("the program xz does not start: {error}"))?;
+    assert!(output.status.success(), "xz refuses {}", file.display());
+    Ok(String::from_utf8(output.stdout).expect("the vectors are text"))
+}
+
+/// The lines with a case: no comments, no empty lines.
+fn case_lines(text: &str) -> impl Iterator<Item = &str> {
+    text.lines().filter(|line| !line.is_empty() && !line.starts_with('#'))
+}
+
+/// Checks every line; gives the number of cases of each kind.
+fn check(text: &str) -> BTreeMap<char, usize> {
+    let mut counts = BTreeMap::new();
+    for (number, line) in case_lines(text).enumerate() {
+        let (case, wanted) = line.split_once(" > ").expect("a case and its result");
+        let parsed = Case::parse(case)
+            .unwrap_or_else(|| panic!("case {number} is of no known kind: {case:.200}"));
+        assert_eq!(parsed.line(), case, "case {number}, written again");
+        let given = parsed.result();
+        assert!(
+            results_agree(&given, wanted),
+            "case {number}:\n{case}\nwanted {wanted}\ngiven  {given}"
+        );
+        *counts.entry(line.chars().next().unwrap_or(' ')).or_insert(0) += 1;
+    }
+    counts
+}
+
+fn tell(what: &str, counts: &BTreeMap<char, usize>, start: Instant) {
+    let all: usize = counts.values().sum();
+    let rate = all as f64 / start.elapsed().as_secs_f64();
+    say(&format!("{what}: {all} cases agree {counts:?}, {rate:.0} a second"));
+}
+
+#[test]
+fn every_case_of_the_shared_vectors_agrees() {
+    match shared_text() {
+        Err(reason) => say(&format!("SKIPPED: the shared vectors of level {LEVEL}: {reason}")),
+        Ok(text) => {
+            let start = Instant::now();
+            let counts = check(&text);
+            assert_eq!(counts.values().sum::<usize>(), 2500, "cases in the shared file");
+            tell("shared vectors", &counts, start);
+        }
+    }
+}
+
+#[test]
+fn every_stored_case_agrees() {
+    let text = std::fs::read_to_string(stored_file()).expect("the stored cases are there");
+    let start = Instant::now();
+    let counts = check(&text);
+    for kind in "MCRYEW".chars() {
+        assert!(counts.contains_key(&kind), "no stored case of kind {kind}");
+    }
+    assert!(counts.values().sum::<usize>() >= STORED_CASES, "too few stored cases");
+    tell("stored cases", &counts, start);
+}
+
+#[test]
+fn the_stored_cases_hold_every_word_and_answer() {
+    let text = std::fs::read_to_string(stored_file()).expect("the stored cases are there");
+    for word in model::words::ALL {
+        let sign = format!(" > C 0 {word:04X} ");
+        assert!(text.contains(&sign), "no stored case with word {word:04X}");
+    }
+    for sign in ["C 1 0000", "M 0", "M 2", "M 3", "M 4", "R 0", "R 1", "W 0", "W 1"] {
+        assert!(text.contains(&format!(" > {sign}")), "no stored case with {sign}");
+    }
+    assert!(text.contains(" > E malformed"), "no stored malformed rule");
+}
+
+/// A wrong result must be found: each stored case is given a changed result.
+#[test]
+fn a_changed_result_does_not_agree() {
+    let text = std::fs::read_to_string(stored_file()).expect("the stored cases are there");
+    for line in case_lines(&text) {
+        let (case, wanted) = line.split_once(" > ").expect("a case and its result");
+        let (kind, figures) = wanted.split_at(2);
+        let first = if figures.starts_with('0') { "1" } else { "0" };
+        let changed = format!("{kind}{first}{}", &figures[1..]);
+        let given = Case::parse(case).expect("a known case").result();
+        assert!(!results_agree(&given, &changed), "{case:.200}");
+    }
+}
+
+/// What a line shows, so that one of each sort is stored: the kind, the
+/// result's head, and of a command its instruction.
+fn sort_of(line: &str) -> String {
+    let (case, result) = line.split_once(" > ").unwrap_or((line, ""));
+    let kind: String = case.chars().take(1).collect();
+    let head: Vec<&str> = result.split(' ').skip(1).take(2).collect();
+    match kind.as_str() {
+        "C" => {
+            let command = case.split(' ').nth(2).unwrap_or("");
+            let instruction: String = command.chars().skip(2).take(2).collect();
+            format!("C {instruction} {}", head.join(" "))
+        }
+        "R" | "M" | "W" => format!("{kind} {}", head.first().unwrap_or(&"")),
+        "Y" => format!("Y {:.8}", head.first().unwrap_or(&"")),
+        _ => format!("{kind} {}", result.contains("malformed")),
+    }
+}
+
+/// Chooses the shortest lines of each sort, sort by sort, until there are
+/// enough.
+fn choose(text: &str) -> Vec<&str> {
+    let mut sorts: BTreeMap<String, Vec<&str>> = BTreeMap::new();
+    for line in case_lines(text) {
+        sorts.entry(sort_of(line)).or_default().push(line);
+    }
+    for lines in sorts.values_mut() {
+        lines.sort_by_key(|line| (line.len(), *line));
+        lines.dedup();
+    }
+    let mut chosen = Vec::new();
+    for round in 0.. {
+        let mut found = false;
+        for lines in sorts.values() {
+            // The first of a sort is stored however long, but for BIG inputs.
+            let longest = if round == 0 { 4 * LONGEST_STORED_LINE } else { LONGEST_STORED_LINE };
+            let line = lines.get(round).filter(|line| line.len() <= longest);
+            found |= line.is_some();
+            chosen.extend(line);
+        }
+        if !found || chosen.len() >= STORED_CASES {
+            break;
+        }
+    }
+    chosen
+}
+
+#[test]
+#[ignore = "writes the stored cases anew from the shared vectors"]
+fn make_the_stored_cases_again() {
+    let text = shared_text().expect("the shared vectors are needed for this");
+    let mut out = format!(
+        "# Some of the cases of level-{LEVEL:02}.txt.xz, the shortest of each sort, chosen by\n\
+         # the ignored test of model/tests/all/vectors.rs; the line format is in src/lines.rs.\n"
+    );
+    for line in choose(&text) {
+        out.push_str(line);
+        out.push('\n');
+    }
+    std::fs::write(stored_file(), out).expect("the stored cases can be written");
+}
