@@ -45,6 +45,19 @@ module _ {A : Type 0} where
   pub refused-not : {r : Bool} (b : Bool) (p q : A) {x : A} → r ≡ b → not r ≡ false → x ≡ p → x ≡ cond b p q
   refused-not {r} b p q e t h = on b p q (sym e ∙ not-false r t) h
 
+  -- a test that must not hold
+  pub unless : {r : Bool} (b : Bool) (p q : A) {x : A} → r ≡ b → r ≡ true → x ≡ q → x ≡ cond (not b) p q
+  unless b p q e t h = off (not b) p q (ap not (sym e ∙ t)) h
+
+  pub unless-not : {r : Bool} (b : Bool) (p q : A) {x : A} → r ≡ b → r ≡ false → x ≡ p → x ≡ cond (not b) p q
+  unless-not b p q e t h = on (not b) p q (ap not (sym e ∙ t)) h
+
+  pub unless-eq : (a b : ℕ) (p q : A) {x : A} → a ≡ b → x ≡ q → x ≡ cond (not (eqb a b)) p q
+  unless-eq a b p q e h = off (not (eqb a b)) p q (ap not (eq-eqb a b e)) h
+
+  pub unless-ne : (a b : ℕ) (p q : A) {x : A} → (a ≡ b → ⊥) → x ≡ p → x ≡ cond (not (eqb a b)) p q
+  unless-ne a b p q e h = on (not (eqb a b)) p q (ap not (ne-eqb a b e)) h
+
   -- a test of a number that a callee gave: z is what it gave, a what it ensures of it
   pub got-eq : {z : ℕ} (a b : ℕ) (p q : A) {x : A} → z ≡ a → z ≡ b → x ≡ p → x ≡ cond (eqb a b) p q
   got-eq a b p q e t h = is-eq a b p q (sym e ∙ t) h
@@ -68,10 +81,13 @@ tested b e = ap (λ (y : ℕ). eqb y b) e
 pub same-cons : {x y : ℕ} {xs ys : List ℕ} → x ≡ y → xs ≡ ys → x ∷ xs ≡ y ∷ ys
 same-cons e h = cc
 
--- tests of the code's own numbers; of what a callee answered; of a number that a callee gave; all but the last
+-- tests of the code's own numbers; of what a callee answered; tests that must not hold; of a number that a callee
+-- gave; the first two and what goes with them
 pub ruleset tests = (is-eq, not-eq, is-lt, not-lt, is-le, not-le, refl)
 
 pub ruleset answers = (called, refused, called-not, refused-not)
+
+pub ruleset unlesses = (unless, unless-not, unless-eq, unless-ne)
 
 pub ruleset given = (got-eq, got-ne, eq-got, ne-got)
 

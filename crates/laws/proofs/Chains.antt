@@ -57,6 +57,13 @@ called-and {r} b q e t h = and-on b q (sym e ∙ not-false r t) h
 pub refused-and : {r : Bool} (b q : Bool) {x : Bool} → r ≡ b → not r ≡ true → x ≡ false → x ≡ (b && q)
 refused-and {r} b q e t h = and-off b q (sym e ∙ not-true r t) h
 
+-- a chain of tests that must not hold
+pub unmet-and : {r : Bool} (b q : Bool) {x : Bool} → r ≡ b → r ≡ false → x ≡ q → x ≡ (not b && q)
+unmet-and b q e t h = and-on (not b) q (ap not (sym e ∙ t)) h
+
+pub met-and : {r : Bool} (b q : Bool) {x : Bool} → r ≡ b → r ≡ true → x ≡ false → x ≡ (not b && q)
+met-and b q e t h = and-off (not b) q (ap not (sym e ∙ t)) h
+
 pub called-or : {r : Bool} (b q : Bool) {x : Bool} → r ≡ b → r ≡ true → x ≡ true → x ≡ (b || q)
 called-or b q e t h = or-on b q (sym e ∙ t) h
 
@@ -69,6 +76,12 @@ got-and a b q e t h = eq-and a b q (sym e ∙ t) h
 
 pub ungot-and : {z : ℕ} (a b : ℕ) (q : Bool) {x : Bool} → z ≡ a → (z ≡ b → ⊥) → x ≡ false → x ≡ (eqb a b && q)
 ungot-and a b q e t h = ne-and a b q (λ i. t (e ∙ i)) h
+
+pub got-not-and : {z : ℕ} (a b : ℕ) (q : Bool) {x : Bool} → z ≡ a → (z ≡ b → ⊥) → x ≡ q → x ≡ (not (eqb a b) && q)
+got-not-and a b q e t h = not-and a b q (λ i. t (e ∙ i)) h
+
+pub got-is-and : {z : ℕ} (a b : ℕ) (q : Bool) {x : Bool} → z ≡ a → z ≡ b → x ≡ false → x ≡ (not (eqb a b) && q)
+got-is-and a b q e t h = is-and a b q (sym e ∙ t) h
 
 pub got-or : {z : ℕ} (a b : ℕ) (q : Bool) {x : Bool} → z ≡ a → z ≡ b → x ≡ true → x ≡ (eqb a b || q)
 got-or a b q e t h = eq-or a b q (sym e ∙ t) h

@@ -105,3 +105,13 @@ pub any-cong : (n : ℕ) (p q : ℕ → Bool) → ((i : ℕ) → i < n → p i �
 unfolding anyBelow
 any-cong zero p q h = refl
 any-cong (suc n) p q h = rw (any-cong n p q (λ i l. h i (omega arith)), h n (omega arith))
+
+-- none has it: all have it not
+pub all-not : (n : ℕ) (p : ℕ → Bool) → allBelow n (λ k. not (p k)) ≡ not (anyBelow n p)
+unfolding allBelow anyBelow
+all-not zero p = refl
+all-not (suc n) p = rw (all-not n p) (split (anyBelow n p) (p n))
+  where
+    split : (a b : Bool) → (not a && not b) ≡ not (a || b)
+    split true b = refl
+    split false b = refl

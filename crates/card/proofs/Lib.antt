@@ -1,0 +1,4 @@
+pub mod Steps
+pub mod Tells
+pub mod Told
+pub mod Called

@@ -1,0 +1,34 @@
+-- What one call gives, for any image, command and state: the reply, and every byte of the image afterwards.
+use Prim.Native.Nat.{ℕ}
+use mathlib.Core.Bool.{cond}
+use mathlib.Core.List.{List}
+use Rattle.sound.specs.Sound.{soundb}
+use Rattle.verdict.specs.declared.State.{State}
+use Rattle.verdict.specs.Applied.{wordOf, appliedOf}
+use Rattle.judging.specs.Judge.{judgeOf}
+use Rattle.card.specs.declared.Reply.{Reply}
+use Rattle.card.specs.declared.Reply.the-variants.{Word, Damaged}
+
+-- 01's number and word for each reply: 0 and the word of the command; 1 and 0000 where the image isn't sound
+abbrev pub answerNumber : Reply → ℕ
+answerNumber (Word w) = 0
+answerNumber Damaged = 1
+
+abbrev pub answerWord : Reply → ℕ
+answerWord (Word w) = w
+answerWord Damaged = 0x0000
+
+-- soundness first; then the command is judged, and has its effect
+unfoldable pub replyOf : List ℕ → List ℕ → State → Reply
+replyOf img c st = cond (soundb img) (Word (wordOf (judgeOf img c st))) Damaged
+
+unfoldable pub imageOf : List ℕ → List ℕ → State → List ℕ
+imageOf img c st = cond (soundb img) (appliedOf img c (judgeOf img c st)) img
+
+-- both together
+pub record Outcome : Type 0 where
+  pub reply : Reply
+  pub image : List ℕ
+
+abbrev pub commandOf : List ℕ → List ℕ → State → Outcome
+commandOf img c st = record { reply = replyOf img c st; image = imageOf img c st }

@@ -1,0 +1,4 @@
+pub mod Marks
+pub mod Sent
+pub mod Writes
+pub mod Cases

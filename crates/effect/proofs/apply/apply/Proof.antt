@@ -1,0 +1,90 @@
+-- `apply::apply`: the effect of each case is the one that its function makes.
+use Rattle.effect.proofs.Cases.{create-sent, create-fits, delete-fits, live-fits, applied, applied-create}
+use borrow.Author.Needs.{needs}
+use Rattle.effect.proofs.apply.apply.Statement.{statement}
+use Rattle.effect.proofs.apply.apply.Tie as tie
+
+enum-known-verdict : tie.Need-enum-known-verdict
+enum-known-verdict c = search needs
+
+enum-known-verdict-2 : tie.Need-enum-known-verdict-2
+enum-known-verdict-2 c = search needs
+
+select-requires : tie.Need-select-requires
+select-requires c κs = search needs
+
+enum-known-verdict-3 : tie.Need-enum-known-verdict-3
+enum-known-verdict-3 c = search needs
+
+sent-requires : tie.Need-sent-requires
+sent-requires c κs = create-sent _ _ _ _ (c .before .before .before .before .before .pre) _ _ _ _ _ _ (c .before .verdict3 .given .1) .name
+
+sent-requires-2 : tie.Need-sent-requires-2
+sent-requires-2 c κs = create-sent _ _ _ _ (c .before .before .before .before .before .before .pre) _ _ _ _ _ _ (c .before .before .verdict3 .given .1) .rule
+
+create-requires : tie.Need-create-requires
+create-requires c κs = create-fits _ _ _ _ (c .before .before .before .before .before .before .before .before .pre) _ _ _ _ _ _ (c .before .before .before .before .verdict3 .given .1) _ _ (c .before .before .sent .ensures) (c .before .sent2 .ensures)
+
+enum-known-verdict-4 : tie.Need-enum-known-verdict-4
+enum-known-verdict-4 c = search needs
+
+delete-requires : tie.Need-delete-requires
+delete-requires c κs = delete-fits _ _ _ _ (c .before .before .before .before .before .before .pre) _ (c .before .before .verdict4 .given .1)
+
+enum-known-verdict-5 : tie.Need-enum-known-verdict-5
+enum-known-verdict-5 c = search needs
+
+live-requires : tie.Need-live-requires
+live-requires c κs = live-fits _ _ _ _ (c .before .before .before .before .before .before .pre) _ _ (c .before .before .verdict5 .given .1)
+
+returns : tie.Need-returns
+returns c = search needs
+
+same-length : tie.Need-same-length
+same-length c = search needs
+
+returns-2 : tie.Need-returns-2
+returns-2 c = applied _ _ _ _ _ _ (c .before .before .before .before .before .verdict2 .given .1) (c .before .before .select .ensures)
+
+same-length-2 : tie.Need-same-length-2
+same-length-2 c = search needs
+
+returns-3 : tie.Need-returns-3
+returns-3 c = applied-create _ _ _ _ _ _ _ _ _ _ _ _ _ (c .before .before .before .before .before .before .before .verdict3 .given .1) (c .before .before .before .before .before .sent .ensures) (c .before .before .before .before .sent2 .ensures) (c .before .before .create .ensures)
+
+same-length-3 : tie.Need-same-length-3
+same-length-3 c = search needs
+
+returns-4 : tie.Need-returns-4
+returns-4 c = applied _ _ _ _ _ _ (c .before .before .before .before .before .verdict4 .given .1) (c .before .before .delete .ensures)
+
+same-length-4 : tie.Need-same-length-4
+same-length-4 c = search needs
+
+returns-5 : tie.Need-returns-5
+returns-5 c = applied _ _ _ _ _ _ (c .before .before .before .before .before .verdict5 .given .1) (c .before .before .live .ensures)
+
+pub apply-spec : {M : Type 1} → statement M
+apply-spec =
+    tie.close
+    (tie.spec
+    enum-known-verdict
+    enum-known-verdict-2
+    select-requires
+    enum-known-verdict-3
+    sent-requires
+    sent-requires-2
+    create-requires
+    enum-known-verdict-4
+    delete-requires
+    enum-known-verdict-5
+    live-requires
+    returns
+    same-length
+    returns-2
+    same-length-2
+    returns-3
+    same-length-3
+    returns-4
+    same-length-4
+    returns-5)

@@ -1,0 +1,97 @@
+// A verdict becomes its effect: a small function for each, then `apply`, which chooses among them (01 "SELECT",
+// "CREATE", "DELETE", "ACTIVATE, DEACTIVATE", "TERMINATE EF / DF", "TERMINATE CARD USAGE").
+ghost use mathlib.Core.Path.{_≡_};
+ghost use Prim.Native.Nat.{_-_, _<_, _≤_};
+ghost use lib.ListN.{length};
+ghost use Rattle.laws.specs.Lists.{part};
+ghost use Rattle.image.specs.Layout.{Within, setCurrent, setLife, countOf};
+ghost use Rattle.sound.specs.Effects.{created, deleted};
+ghost use Rattle.kinship.specs.Climb.{Rooted};
+ghost use Rattle.verdict.specs.Words.{done};
+ghost use Rattle.verdict.specs.Applied.{wordOf, sentData, appliedOf};
+ghost use Rattle.effect.specs.Fit.{FieldSent, Applies};
+use crate::erase;
+use image::Head;
+use image::fields;
+use image::write;
+use verdict::Verdict;
+
+// What SELECT found becomes current; its word tells the file's life cycle.
+fn select(image: &mut [u8], df: u16, ef: u16, word: u16) -> u16
+    requires { ⌜ 16 ≤ length (now image) ⌝ }
+    ensures { λ r. ⌜ (r ≡ word) × (now (image .exit) ≡ setCurrent (now (image .entry)) df ef) ⌝ }
+{
+    write::set_current(image, df, ef);
+    word
+}
+
+// A value in CREATE's data, from start to end, as a part of the command: the data follow the five bytes up to Lc.
+fn sent(command: &[u8], start: usize, end: usize) -> &[u8]
+    requires { ⌜ FieldSent (now command) start end ⌝ }
+    ensures { λ r. ⌜ now r ≡ part (sentData (now (command .entry))) start (end - start) ⌝ }
+{
+    let from = 5 + start;
+    let to = 5 + end;
+    &command[from..to]
+}
+
+// The new record; a new DF becomes current with no EF, a new EF becomes current EF.
+fn create(image: &mut [u8], slot: usize, head: Head, name: &[u8], rule: &[u8]) -> u16
+    requires { ⌜ Within (now image) slot ⌝ }
+    requires { ⌜ (length (now name) ≤ 16) × (length (now rule) ≤ 16) ⌝ }
+    ensures { λ r. ⌜ (r ≡ done) × (now (image .exit) ≡ created (now (image .entry)) slot head (now (name .entry)) (now (rule .entry))) ⌝ }
+{
+    let df = fields::current_df(image) as u16;
+    let new = slot as u16;
+    write::put_record(image, slot, head, name, rule);
+    if head.kind == 1 {
+        write::set_current(image, new, 0xFFFF);
+        return 0x9000;
+    }
+    write::set_current(image, df, new);
+    0x9000
+}
+
+// DELETE, with its word.
+fn delete(image: &mut [u8], n: usize, slot: usize) -> u16
+    requires { ⌜ Rooted (now image) n ⌝ }
+    requires { ⌜ (n ≡ countOf (now image)) × (slot < n) ⌝ }
+    ensures { λ r. ⌜ (r ≡ done) × (now (image .exit) ≡ deleted (now (image .entry)) slot) ⌝ }
+{
+    erase::erase(image, n, slot);
+    0x9000
+}
+
+// Another life-cycle byte.
+fn live(image: &mut [u8], slot: usize, life: u8) -> u16
+    requires { ⌜ Within (now image) slot ⌝ }
+    ensures { λ r. ⌜ (r ≡ done) × (now (image .exit) ≡ setLife (now (image .entry)) slot life) ⌝ }
+{
+    write::set_life(image, slot, life);
+    0x9000
+}
+
+// The one effect of the verdict on the command, and its word.
+pub fn apply(image: &mut [u8], n: usize, command: &[u8], verdict: Verdict) -> u16
+    requires { ⌜ Applies (now image) n (now command) verdict ⌝ }
+    ensures { λ r. ⌜ (r ≡ wordOf verdict) × (now (image .exit) ≡ appliedOf (now (image .entry)) (now (command .entry)) verdict) ⌝ }
+{
+    match verdict {
+        Verdict::Refuse(word) => word,
+        Verdict::Select { df, ef, word } => select(image, df, ef, word),
+        Verdict::Create {
+            slot,
+            head,
+            name_start,
+            name_end,
+            rule_start,
+            rule_end,
+        } => {
+            let name = sent(command, name_start, name_end);
+            let rule = sent(command, rule_start, rule_end);
+            create(image, slot, head, name, rule)
+        }
+        Verdict::Delete(slot) => delete(image, n, slot),
+        Verdict::Live { slot, life } => live(image, slot, life),
+    }
+}

@@ -1,0 +1,78 @@
+// DELETE's effect (01 "DELETE"): a file and all beneath it become zero records, and a deleted current EF becomes
+// none. What lies beneath is marked on the image as it came, and only then zeroed: a walk up over a half-zeroed
+// image leads nowhere.
+ghost use mathlib.Core.Path.{_≡_};
+ghost use mathlib.Core.Bool.{false, cond};
+ghost use Prim.Native.Nat.{ℕ, _<_, _≤_};
+ghost use lib.ListN.{length, getD};
+ghost use lib.Dec.{eqb};
+ghost use Rattle.image.specs.Layout.{Sized, Within, countOf, none};
+ghost use Rattle.sound.specs.Table.{viewAt};
+ghost use Rattle.sound.specs.Kinship.{atOrBeneath};
+ghost use Rattle.sound.specs.Effects.{clearBelow, deleted};
+ghost use Rattle.sound.proofs.Cleared.{clearIf};
+ghost use Rattle.kinship.specs.Climb.{Rooted};
+use image::fields;
+use image::write;
+use kinship::climb;
+
+// Marks each slot that holds d or a file beneath it.
+fn marks_of(image: &[u8], n: usize, d: usize) -> [bool; 1023]
+    requires { ⌜ Rooted (now image) n ⌝ }
+    requires { ⌜ d < n ⌝ }
+    ensures { λ r. ⌜ (length r ≡ 1023) × ((k : ℕ) → k < n → getD r k false ≡ atOrBeneath (viewAt (now (image .entry))) d k) ⌝ }
+{
+    let mut marks = [false; 1023];
+    let mut s = 0;
+    while s < n {
+        marks[s] = climb::at_or_beneath(image, n, d, s);
+        s += 1;
+    }
+    marks
+}
+
+fn clear_if(image: &mut [u8], s: usize, marked: bool)
+    requires { ⌜ Within (now image) s ⌝ }
+    ensures { λ _. ⌜ now (image .exit) ≡ clearIf marked (now (image .entry)) s ⌝ }
+{
+    if marked {
+        write::clear_record(image, s);
+    }
+}
+
+// Each marked record below n becomes a free one.
+fn clear_marked(image: &mut [u8], n: usize, marks: &[bool])
+    requires { ⌜ Sized (now image) n ⌝ }
+    requires { ⌜ n ≤ length (now marks) ⌝ }
+    ensures { λ _. ⌜ now (image .exit) ≡ clearBelow n (λ k. getD (now (marks .entry)) k false) (now (image .entry)) ⌝ }
+{
+    let mut s = 0;
+    while s < n {
+        clear_if(image, s, marks[s]);
+        s += 1;
+    }
+}
+
+// The current EF once the file in slot d is gone.
+fn ef_left(ef: usize, d: usize) -> u16
+    requires { ⌜ ef < 65536 ⌝ }
+    ensures { λ r. ⌜ r ≡ cond (eqb ef d) none ef ⌝ }
+{
+    if ef == d {
+        return 0xFFFF;
+    }
+    ef as u16
+}
+
+// The file in slot d and all beneath it go.
+pub fn erase(image: &mut [u8], n: usize, d: usize)
+    requires { ⌜ Rooted (now image) n ⌝ }
+    requires { ⌜ (n ≡ countOf (now image)) × (d < n) ⌝ }
+    ensures { λ _. ⌜ now (image .exit) ≡ deleted (now (image .entry)) d ⌝ }
+{
+    let df = fields::current_df(image);
+    let ef = ef_left(fields::current_ef(image), d);
+    let marks = marks_of(image, n, d);
+    clear_marked(image, n, &marks);
+    write::set_current(image, df as u16, ef);
+}

@@ -1,0 +1,5 @@
+pub mod Places
+pub mod Records
+pub mod Made
+pub mod Headers
+pub mod Lives

@@ -1,0 +1,72 @@
+// The writes into an image: a whole record, a free one, a life-cycle byte, what is current (01 "Image"). Each
+// leaves every byte that it does not name.
+ghost use mathlib.Core.Path.{_≡_};
+ghost use Prim.Native.Nat.{_+_, _*_, _≤_};
+ghost use lib.ListN.{length};
+ghost use Rattle.laws.specs.Lists.{splice};
+ghost use Rattle.image.specs.Layout.{Within, field, headBytes, recordBytes, putRecord, clearRecord, setLife, setCurrent};
+use crate::Head;
+
+// The first 16 bytes of a record.
+fn put_head(image: &mut [u8], at: usize, h: Head)
+    requires { ⌜ at + 16 ≤ length (now image) ⌝ }
+    ensures { λ _. ⌜ now (image .exit) ≡ splice (now (image .entry)) at (headBytes h) ⌝ }
+{
+    numbers::put8(image, at, h.kind);
+    numbers::put8(image, at + 1, h.descriptor);
+    numbers::put8(image, at + 2, h.life);
+    numbers::put8(image, at + 3, 0);
+    numbers::put16(image, at + 4, h.identifier);
+    numbers::put16(image, at + 6, h.parent);
+    numbers::put16(image, at + 8, h.level);
+    numbers::put16(image, at + 10, h.stride);
+    numbers::put32(image, at + 12, h.size);
+}
+
+// A length and so many bytes, zero-padded to 16.
+fn put_field(image: &mut [u8], at: usize, v: &[u8])
+    requires { ⌜ (at + 17 ≤ length (now image)) × (length (now v) ≤ 16) ⌝ }
+    ensures { λ _. ⌜ now (image .exit) ≡ splice (now (image .entry)) at (field (now (v .entry))) ⌝ }
+{
+    let n = v.len();
+    numbers::put8(image, at, n as u8);
+    numbers::copy_in(image, at + 1, v);
+    numbers::zero_out(image, at + 1 + n, 16 - n);
+}
+
+// Record s, whole.
+pub fn put_record(image: &mut [u8], s: usize, h: Head, name: &[u8], rule: &[u8])
+    requires { ⌜ Within (now image) s × ((length (now name) ≤ 16) × (length (now rule) ≤ 16)) ⌝ }
+    ensures { λ _. ⌜ now (image .exit) ≡ putRecord (now (image .entry)) s (recordBytes h (now (name .entry)) (now (rule .entry))) ⌝ }
+{
+    let at = 16 + 64 * s;
+    put_head(image, at, h);
+    put_field(image, at + 16, name);
+    put_field(image, at + 33, rule);
+    numbers::zero_out(image, at + 50, 14);
+}
+
+// Record s becomes a free one.
+pub fn clear_record(image: &mut [u8], s: usize)
+    requires { ⌜ Within (now image) s ⌝ }
+    ensures { λ _. ⌜ now (image .exit) ≡ clearRecord (now (image .entry)) s ⌝ }
+{
+    numbers::zero_out(image, 16 + 64 * s, 64);
+}
+
+// Another life-cycle byte for record s.
+pub fn set_life(image: &mut [u8], s: usize, life: u8)
+    requires { ⌜ Within (now image) s ⌝ }
+    ensures { λ _. ⌜ now (image .exit) ≡ setLife (now (image .entry)) s life ⌝ }
+{
+    numbers::put8(image, 16 + 64 * s + 2, life);
+}
+
+// Another current DF, another current EF.
+pub fn set_current(image: &mut [u8], df: u16, ef: u16)
+    requires { ⌜ 16 ≤ length (now image) ⌝ }
+    ensures { λ _. ⌜ now (image .exit) ≡ setCurrent (now (image .entry)) df ef ⌝ }
+{
+    numbers::put16(image, 7, df);
+    numbers::put16(image, 9, ef);
+}

@@ -1,0 +1,4 @@
+pub mod Finding
+pub mod Creating
+pub mod Plans
+pub mod Readied

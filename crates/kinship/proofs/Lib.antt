@@ -1,0 +1,5 @@
+pub mod Sameness
+pub mod Costs
+pub mod Counts
+pub mod Steps
+pub mod Sound

@@ -1,0 +1,24 @@
+-- The search that only SELECT makes, and what the search for a name needs of an image.
+use mathlib.Core.Bool.{Bool, _&&_}
+use mathlib.Core.List.{List}
+use Prim.Native.Nat.{ℕ, _<_, _≤_}
+use lib.Dec.{eqb}
+use lib.ListN.{getD}
+use Rattle.laws.specs.declared.Found.{Found}
+use Rattle.laws.specs.Walks.{firstBelow}
+use Rattle.rules.specs.Descriptor.{df}
+use Rattle.image.specs.Layout.{recAt, Sized}
+use Rattle.sound.specs.Table.{View}
+use Rattle.sound.specs.Kinship.{isChildNamed}
+
+-- a DF that is a child of d, with identifier x
+unfoldable pub isDfNamed : (ℕ → View) → ℕ → ℕ → ℕ → Bool
+isDfNamed v d x s = eqb (v s .kind) df && isChildNamed v d x s
+
+unfoldable pub dfNamed : ℕ → (ℕ → View) → ℕ → ℕ → Found
+dfNamed n v d x = firstBelow n (isDfNamed v d x)
+
+-- every record's name stands within its field
+pub record Named (img : List ℕ) (n : ℕ) : Type 0 where
+  pub sized : Sized img n
+  pub short : (s : ℕ) → s < n → getD (recAt img s) 16 0 ≤ 16

@@ -1,0 +1,61 @@
+// Identifiers and names: whether one is free for a new file (01 "CREATE" step L, 6A89 and 6A8A).
+ghost use mathlib.Core.Path.{_≡_};
+ghost use Prim.Native.Nat.{_<_, _≤_};
+ghost use lib.ListN.{getD};
+ghost use Rattle.laws.specs.Lists.{sameList};
+ghost use Rattle.image.specs.Layout.{recAt, nameOf, Within};
+ghost use Rattle.sound.specs.Table.{viewAt};
+ghost use Rattle.sound.specs.Kinship.{identifierFree, nameFree};
+ghost use Rattle.kinship.specs.Climb.{Rooted, Stands};
+ghost use Rattle.kinship.specs.Search.{Named};
+use crate::climb;
+use crate::search;
+use image::fields;
+use laws::Found;
+
+// Whether no child of directory d has identifier x, nor d itself, nor a directory above it.
+pub fn identifier_free(image: &[u8], n: usize, d: usize, x: u16) -> bool
+    requires { ⌜ Rooted (now image) n ⌝ }
+    requires { ⌜ Stands (now image) n d ⌝ }
+    ensures { λ r. ⌜ r ≡ identifierFree n (viewAt (now (image .entry))) d x ⌝ }
+{
+    match search::child_named(image, n, d, x) {
+        Found::At(_) => false,
+        Found::Nothing => !climb::named_up(image, n, x, d),
+    }
+}
+
+// Whether two stretches of bytes are the same.
+pub fn same(a: &[u8], b: &[u8]) -> bool
+    ensures { λ r. ⌜ r ≡ sameList (now (a .entry)) (now (b .entry)) ⌝ }
+{
+    if a.len() != b.len() {
+        return false;
+    }
+    let mut k = 0;
+    while k < a.len() {
+        if a[k] != b[k] {
+            return false;
+        }
+        k += 1;
+    }
+    true
+}
+
+// Whether no record has that name, if it is one.
+pub fn name_free(image: &[u8], n: usize, name: &[u8]) -> bool
+    requires { ⌜ Named (now image) n ⌝ }
+    ensures { λ r. ⌜ r ≡ nameFree n (viewAt (now (image .entry))) (now (name .entry)) ⌝ }
+{
+    if name.len() == 0 {
+        return true;
+    }
+    let mut s = 0;
+    while s < n {
+        if same(fields::name(image, s), name) {
+            return false;
+        }
+        s += 1;
+    }
+    true
+}

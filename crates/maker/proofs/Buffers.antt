@@ -1,0 +1,152 @@
+-- The maker's length, total and bytes; and that what it makes is sound: `sound-made`.
+use mathlib.Core.Path.{_≡_, refl, sym, _∙_, ap}
+use mathlib.Core.Bool.{Bool, true, false, not, cond, _&&_}
+use mathlib.Core.List.{List, [], _++_, append-assoc}
+use mathlib.Core.Logic.{_↔_}
+use Prim.Native.Nat.{ℕ, _+_, _*_, _-_, _/_, _<_, _≤_}
+use native.Mathlib.Omega.{arith}
+use lib.Dec.{eqb, leb}
+use lib.ListN.{length, replicate, length-append, length-replicate}
+use borrow.Author.Tests.{eq-eqb, ne-eqb, not-true, not-false, le-leb, lt-leb}
+use Rattle.laws.specs.Lists.{splice}
+use Rattle.laws.proofs.Says.{says}
+use Rattle.laws.proofs.Splices.{splice-step, splice-all}
+use Rattle.rules.specs.Rule.{fitsRecord}
+use Rattle.image.specs.Layout.{Sized, recordBytes, putRecord}
+use Rattle.image.proofs.Made.{length-made}
+use Rattle.sound.specs.Sound.{Sound}
+use Rattle.sound.specs.Effects.{rootHead, freshHeader, fresh}
+use Rattle.sound.proofs.Fresh.{sound-fresh}
+use Rattle.maker.specs.declared.Made.{Made}
+use Rattle.maker.specs.declared.Made.the-variants.{Done, BadLength, BadTotal, BadRule}
+use Rattle.maker.specs.Making.{slotsIn, fitsLength, fitsTotal, madeOf, answerOf, leftBy}
+
+pub slots-short : (long : ℕ) → long < 16 → 0 ≡ slotsIn long
+unfolding slotsIn
+slots-short long h = let e : long - 16 ≡ 0 = omega arith in rw e
+
+module _ (long n : ℕ) (e : n ≡ slotsIn long) where
+  pub length-few : n < 2 → false ≡ fitsLength long
+  unfolding fitsLength
+  length-few h = rw (← e, lt-leb 2 n h)
+
+  pub length-many : 2 ≤ n → 1023 < n → false ≡ fitsLength long
+  unfolding fitsLength
+  length-many g h = rw (← e, le-leb 2 n g, lt-leb n 1023 h)
+
+  pub length-last : (x : Bool) → 2 ≤ n → n ≤ 1023 → x ≡ eqb long (16 + 64 * n) → x ≡ fitsLength long
+  unfolding fitsLength
+  length-last x g h q = rw (← e, le-leb 2 n g, le-leb n 1023 h) q
+
+pub total-none : (n total : ℕ) → total < 1 → false ≡ fitsTotal n total
+unfolding fitsTotal
+total-none n total h = rw (lt-leb 1 total h)
+
+pub total-last : (n total : ℕ) (x : Bool) → 1 ≤ total → x ≡ leb total (64 * (n - 1)) → x ≡ fitsTotal n total
+unfolding fitsTotal
+total-last n total x h q = rw (le-leb 1 total h) q
+
+length-says : (long : ℕ) → (fitsLength long ≡ true) ↔ ((2 ≤ slotsIn long) × ((slotsIn long ≤ 1023) × (long ≡ 16 + 64 * slotsIn long)))
+unfolding fitsLength
+length-says long = simp says ((λ h. h), (λ h. h))
+
+total-says : (n total : ℕ) → (fitsTotal n total ≡ true) ↔ ((1 ≤ total) × (total ≤ 64 * (n - 1)))
+unfolding fitsTotal
+total-says n total = simp says ((λ h. h), (λ h. h))
+
+rule-says : (rule : List ℕ) → fitsRecord rule ≡ true → length rule ≤ 16
+unfolding fitsRecord
+rule-says rule h = (simp says at h) .1 .0
+
+-- what the tests that passed tell
+pub length-sized : (img : List ℕ) (n : ℕ) (r : Bool) → r ≡ fitsLength (length img) → not r ≡ false → n ≡ slotsIn (length img) → Sized img n
+length-sized img n r e t f =
+    let h = length-says (length img) .0 (sym e ∙ not-false r t) in
+    record { long = rw f (h .1 .1); least = rw f (h .0); most = rw f (h .1 .0) }
+
+pub length-bounds : (long n : ℕ) (r : Bool) → r ≡ fitsLength long → not r ≡ false → n ≡ slotsIn long → (2 ≤ n) × (n ≤ 1023)
+length-bounds long n r e t f = let h = length-says long .0 (sym e ∙ not-false r t) in rw f (h .0, h .1 .0)
+
+pub rule-short : (rule : List ℕ) (r : Bool) → r ≡ fitsRecord rule → not r ≡ false → length rule ≤ 16
+rule-short rule r e t = rule-says rule (sym e ∙ not-false r t)
+
+-- header, root and free records are the whole buffer
+pub fresh-written : (img a b z : List ℕ) (n total : ℕ) (rule : List ℕ) → Sized img n → length rule ≤ 16 → a ≡ splice img 0 (freshHeader n)
+    → b ≡ putRecord a 0 (recordBytes (rootHead total) [] rule) → z ≡ splice b 80 (replicate (64 * (n - 1)) 0) → z ≡ fresh n total rule
+unfolding putRecord fresh
+fresh-written img a b z n total rule sized short e f g =
+    let w = length-made (rootHead total) [] rule (omega arith) short in
+    let l16 = header-long in
+    let l80 : length (freshHeader n ++ recordBytes (rootHead total) [] rule) ≡ 80 = rw (length-append (freshHeader n), w, l16) in
+    let one = splice-step img 0 (freshHeader n) a 16 (recordBytes (rootHead total) [] rule) b e (omega (arith, l16, sized .long)) (omega (arith, l16)) f in
+    let two = splice-step img 0 (freshHeader n ++ recordBytes (rootHead total) [] rule) b 80 (replicate (64 * (n - 1)) 0) z one (omega (arith, l80, sized .long, sized .least)) (omega (arith, l80)) g in
+    two
+    ∙ splice-all img (freshHeader n ++ recordBytes (rootHead total) [] rule ++ replicate (64 * (n - 1)) 0) (whole l80)
+    ∙ append-assoc (freshHeader n) (recordBytes (rootHead total) [] rule) (replicate (64 * (n - 1)) 0)
+  where
+    header-long : length (freshHeader n) ≡ 16
+    header-long = unfold freshHeader in refl
+
+    whole : length (freshHeader n ++ recordBytes (rootHead total) [] rule) ≡ 80
+        → length (freshHeader n ++ recordBytes (rootHead total) [] rule ++ replicate (64 * (n - 1)) 0) ≡ length img
+    whole h =
+        rw (length-append (freshHeader n ++ recordBytes (rootHead total) [] rule), h, length-replicate {A = ℕ} (64 * (n - 1)) 0)
+        (omega (arith, sized .long, sized .least))
+
+pub left-done : (img z : List ℕ) (n total : ℕ) (rule : List ℕ) → n ≡ slotsIn (length img) → z ≡ fresh n total rule → z ≡ leftBy Done img total rule
+left-done img z n total rule e h = h ∙ ap (λ (k : ℕ). fresh k total rule) e
+
+-- a refusal is not `Done`
+rule-done : BadRule ≡ Done → ⊥
+rule-done e = let z : _≡_ {A = ℕ} 4 0 = ap answerOf e in absurd (omega arith)
+
+total-done : BadTotal ≡ Done → ⊥
+total-done e = let z : _≡_ {A = ℕ} 3 0 = ap answerOf e in absurd (omega arith)
+
+length-done : BadLength ≡ Done → ⊥
+length-done e = let z : _≡_ {A = ℕ} 2 0 = ap answerOf e in absurd (omega arith)
+
+-- the maker's ways out: a, b, c are what its three tests answered, n the slots
+module _ (img : List ℕ) (total : ℕ) (rule : List ℕ) (a : Bool) (e : a ≡ fitsLength (length img)) where
+  pub made-length : not a ≡ true → BadLength ≡ madeOf img total rule
+  unfolding madeOf
+  made-length t = rw (sym e ∙ not-true a t)
+
+  module _ (t : not a ≡ false) (n : ℕ) (f : n ≡ slotsIn (length img)) (b : Bool) (g : b ≡ fitsTotal n total) where
+    pub made-total : not b ≡ true → BadTotal ≡ madeOf img total rule
+    unfolding madeOf
+    made-total u = rw (sym e ∙ not-false a t, ← f, sym g ∙ not-true b u)
+
+    module _ (u : not b ≡ false) (c : Bool) (h : c ≡ fitsRecord rule) where
+      pub made-rule : not c ≡ true → BadRule ≡ madeOf img total rule
+      unfolding madeOf
+      made-rule w = rw (sym e ∙ not-false a t, ← f, sym g ∙ not-false b u, sym h ∙ not-true c w)
+
+      pub made-done : not c ≡ false → Done ≡ madeOf img total rule
+      unfolding madeOf
+      made-done w = rw (sym e ∙ not-false a t, ← f, sym g ∙ not-false b u, sym h ∙ not-false c w)
+
+-- what the maker makes is sound: `Done` comes only after its three tests
+pub sound-made : (img : List ℕ) (total : ℕ) (rule : List ℕ) → madeOf img total rule ≡ Done → Sound (leftBy Done img total rule)
+unfolding madeOf
+sound-made img total rule e = go (fitsLength (length img)) (fitsTotal (slotsIn (length img)) total) (fitsRecord rule) refl refl refl e
+  where
+    made : fitsLength (length img) ≡ true → fitsTotal (slotsIn (length img)) total ≡ true → fitsRecord rule ≡ true → Sound (leftBy Done img total rule)
+    made a b c =
+        let h = length-says (length img) .0 a in
+        let t = total-says (slotsIn (length img)) total .0 b in
+        sound-fresh (slotsIn (length img)) total rule (h .0) (h .1 .0) (t .0) (t .1) (rule-says rule c) c
+
+    go : (a b c : Bool) → fitsLength (length img) ≡ a → fitsTotal (slotsIn (length img)) total ≡ b → fitsRecord rule ≡ c
+        → cond a (cond b (cond c Done BadRule) BadTotal) BadLength ≡ Done → Sound (leftBy Done img total rule)
+    go true true true p q r f = made p q r
+    go true true false p q r f = absurd (rule-done f)
+    go true false c p q r f = absurd (total-done f)
+    go false b c p q r f = absurd (length-done f)
+
+-- the maker's statement settles answer and buffer
+pub made-once : (img : List ℕ) (total : ℕ) (rule : List ℕ) (r q : Made) (x y : List ℕ)
+    → (r ≡ madeOf img total rule) × (x ≡ leftBy r img total rule) → (q ≡ madeOf img total rule) × (y ≡ leftBy q img total rule) → (r ≡ q) × (x ≡ y)
+made-once img total rule r q x y a b =
+    let e : r ≡ q = a .0 ∙ sym (b .0) in
+    (e, a .1 ∙ ap (λ (m : Made). leftBy m img total rule) e ∙ sym (b .1))

@@ -1,0 +1,45 @@
+-- The maker (01 "Making and reporting"): its answers in 01's order, and what it leaves of the buffer.
+use mathlib.Core.Bool.{Bool, cond, _&&_}
+use mathlib.Core.List.{List}
+use Prim.Native.Nat.{ℕ, _+_, _*_, _-_, _/_}
+use lib.Dec.{eqb, leb}
+use lib.ListN.{length}
+use Rattle.rules.specs.Rule.{fitsRecord}
+use Rattle.sound.specs.Effects.{fresh}
+use Rattle.maker.specs.declared.Made.{Made}
+use Rattle.maker.specs.declared.Made.the-variants.{Done, BadLength, BadTotal, BadRule}
+
+-- the number of slots that so many bytes may have
+unfoldable pub slotsIn : ℕ → ℕ
+slotsIn long = (long - 16) / 64
+
+-- a length of 16 + 64N, N 2 to 1,023 (else 2)
+unfoldable pub fitsLength : ℕ → Bool
+fitsLength long = leb 2 (slotsIn long) && (leb (slotsIn long) 1023 && eqb long (16 + 64 * slotsIn long))
+
+-- a total of 1 to 64(N-1) (else 3)
+unfoldable pub fitsTotal : ℕ → ℕ → Bool
+fitsTotal n total = leb 1 total && leb total (64 * (n - 1))
+
+-- the checks, in that order; the last: a rule of 1 to 16 bytes, well formed (else 4)
+unfoldable pub madeOf : List ℕ → ℕ → List ℕ → Made
+madeOf img total rule =
+    cond (fitsLength (length img))
+    (cond (fitsTotal (slotsIn (length img)) total)
+    (cond (fitsRecord rule) Done BadRule)
+    BadTotal)
+    BadLength
+
+-- 01's number for each answer
+abbrev pub answerOf : Made → ℕ
+answerOf Done = 0
+answerOf BadLength = 2
+answerOf BadTotal = 3
+answerOf BadRule = 4
+
+-- the whole buffer afterwards: a fresh image, or the buffer as it came
+abbrev pub leftBy : Made → List ℕ → ℕ → List ℕ → List ℕ
+leftBy Done img total rule = fresh (slotsIn (length img)) total rule
+leftBy BadLength img total rule = img
+leftBy BadTotal img total rule = img
+leftBy BadRule img total rule = img

@@ -1,0 +1,102 @@
+// The maker: a fresh image in a lent buffer of any length, or the buffer as it came (01 "Making and
+// reporting").
+ghost use mathlib.Core.Path.{_≡_};
+ghost use Prim.Native.Nat.{_≤_};
+ghost use lib.ListN.{length};
+ghost use Rattle.laws.specs.Lists.{splice};
+ghost use Rattle.image.specs.Layout.{Sized};
+ghost use Rattle.sound.specs.Effects.{freshHeader, fresh};
+ghost use Rattle.maker.specs.Making.{slotsIn, fitsLength, fitsTotal, madeOf, leftBy};
+use crate::Made;
+use image::Head;
+
+// The number of slots that so many bytes may have.
+fn slots_in(long: usize) -> usize
+    ensures { λ r. ⌜ r ≡ slotsIn long ⌝ }
+{
+    if long < 16 {
+        return 0;
+    }
+    (long - 16) / 64
+}
+
+// Whether so many bytes are a header and 2 to 1,023 records.
+fn fits_length(long: usize) -> bool
+    ensures { λ r. ⌜ r ≡ fitsLength long ⌝ }
+{
+    let n = slots_in(long);
+    if n < 2 {
+        return false;
+    }
+    if n > 1023 {
+        return false;
+    }
+    long == 16 + 64 * n
+}
+
+// Whether n slots can hold that total.
+fn fits_total(n: usize, total: u32) -> bool
+    requires { ⌜ (2 ≤ n) × (n ≤ 1023) ⌝ }
+    ensures { λ r. ⌜ r ≡ fitsTotal n total ⌝ }
+{
+    if total < 1 {
+        return false;
+    }
+    let most = 64 * (n - 1);
+    total as usize <= most
+}
+
+// The header of a fresh card of n slots.
+fn put_header(image: &mut [u8], n: u16)
+    requires { ⌜ 16 ≤ length (now image) ⌝ }
+    ensures { λ _. ⌜ now (image .exit) ≡ splice (now (image .entry)) 0 (freshHeader n) ⌝ }
+{
+    numbers::put8(image, 0, 0x55);
+    numbers::put8(image, 1, 0x46);
+    numbers::put8(image, 2, 0x54);
+    numbers::put16(image, 3, 1);
+    numbers::put16(image, 5, n);
+    numbers::put16(image, 7, 0);
+    numbers::put16(image, 9, 0xFFFF);
+    numbers::zero_out(image, 11, 5);
+}
+
+// The header, the root, and free records after it: every byte of the buffer.
+fn put_fresh(image: &mut [u8], n: usize, total: u32, rule: &[u8])
+    requires { ⌜ Sized (now image) n × (length (now rule) ≤ 16) ⌝ }
+    ensures { λ _. ⌜ now (image .exit) ≡ fresh n total (now (rule .entry)) ⌝ }
+{
+    let name = &rule[0..0];
+    let root = Head {
+        kind: 1,
+        descriptor: 0x38,
+        life: 0x05,
+        identifier: 0x3F00,
+        parent: 0,
+        level: 0,
+        stride: 0,
+        size: total,
+    };
+    put_header(image, n as u16);
+    image::write::put_record(image, 0, root, name, rule);
+    numbers::zero_out(image, 80, 64 * (n - 1));
+}
+
+// Makes a fresh image of a buffer, with a root of that total and rule.
+pub fn make(image: &mut [u8], total: u32, rule: &[u8]) -> Made
+    ensures { λ r. ⌜ (r ≡ madeOf (now (image .entry)) total (now (rule .entry))) × (now (image .exit) ≡ leftBy r (now (image .entry)) total (now (rule .entry))) ⌝ }
+{
+    let long = image.len();
+    if !fits_length(long) {
+        return Made::BadLength;
+    }
+    let n = slots_in(long);
+    if !fits_total(n, total) {
+        return Made::BadTotal;
+    }
+    if !rules::rule::fits_record(rule) {
+        return Made::BadRule;
+    }
+    put_fresh(image, n, total, rule);
+    Made::Done
+}

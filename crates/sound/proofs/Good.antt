@@ -1,0 +1,71 @@
+-- A record that CREATE or the maker made: what it says to others, and that it is good by itself. The same of a
+-- free record.
+use mathlib.Core.Path.{_≡_, refl, sym, ap, _∙_}
+use mathlib.Core.List.{List, []}
+use Prim.Native.Nat.{ℕ, _+_, _-_, _<_, _≤_}
+use native.Mathlib.Omega.{arith}
+use lib.ListN.{length, getD, getD-replicate}
+use Rattle.laws.specs.Lists.{part}
+use Rattle.numbers.specs.Numbers.{u16At, u32At}
+use Rattle.image.specs.declared.Head.{Head}
+use Rattle.image.specs.Layout.{kindOf, identifierOf, parentOf, levelOf, sizeOf, nameOf, fieldAt, recordBytes, freeBytes}
+use Rattle.image.proofs.Made.{kind-made, descriptor-made, life-made, zero-made, identifier-made, parent-made, level-made, stride-made, size-made, name-made, rule-made, name-length-made, name-zeros-made, rule-length-made, rule-zeros-made, spare-made}
+use Rattle.sound.specs.Table.{View, viewOf}
+use Rattle.sound.specs.Own.{Padded, Own}
+use Rattle.sound.specs.Effects.{Good}
+use Rattle.sound.proofs.Kept.{gone}
+
+-- what the new record says
+abbrev pub viewMade : Head → List ℕ → View
+viewMade h name = record {
+  kind = h .kind;
+  identifier = h .identifier;
+  parent = h .parent;
+  level = h .level;
+  size = h .size;
+  name = name;
+}
+
+module _ (h : Head) (name rule : List ℕ) where
+  pub view-made : viewOf (recordBytes h name rule) ≡ viewMade h name
+  view-made =
+      rw (kind-made h name rule, identifier-made h name rule, parent-made h name rule, level-made h name rule, size-made h name rule, name-made h name rule)
+
+  name-padded : length name ≤ 16 → Padded (recordBytes h name rule) 16
+  name-padded a = record {
+    short = omega (arith, name-length-made h name rule a);
+    zeros = rw (name-length-made h name rule a) (name-zeros-made h name rule a);
+  }
+
+  rule-padded : length name ≤ 16 → length rule ≤ 16 → Padded (recordBytes h name rule) 33
+  rule-padded a b = record {
+    short = omega (arith, rule-length-made h name rule a b);
+    zeros = rw (rule-length-made h name rule a b) (rule-zeros-made h name rule a b);
+  }
+
+  pub own-made : Good h name rule → Own (recordBytes h name rule)
+  own-made g = record {
+    free = λ e. absurd (g .some (sym (kind-made h name rule) ∙ e));
+    used = λ z. record {
+      class = rw (descriptor-made h name rule, kind-made h name rule) (g .class);
+      life = rw (life-made h name rule) (g .life);
+      zero = zero-made h name rule;
+      identifier = rw (identifier-made h name rule) (g .identifier);
+      size = rw (size-made h name rule) (g .size);
+      length = rw (descriptor-made h name rule, stride-made h name rule, size-made h name rule) (g .stride);
+      name = name-padded (g .named);
+      nameless = λ e. name-length-made h name rule (g .named) ∙ g .nameless (sym (kind-made h name rule) ∙ e);
+      rule = rule-padded (g .named) (g .short);
+      formed = rw (rule-made h name rule (g .named)) (g .formed);
+      spare = spare-made h name rule (g .named) (g .short);
+    };
+  }
+
+-- a free record says nothing
+pub view-free : viewOf freeBytes ≡ gone
+unfolding kindOf identifierOf parentOf levelOf sizeOf nameOf fieldAt part u16At u32At
+view-free = refl
+
+pub own-free : Own freeBytes
+unfolding kindOf
+own-free = record { free = λ e k l. getD-replicate 64 (0 + k) 0 0 (omega arith); used = λ z. absurd (z refl) }

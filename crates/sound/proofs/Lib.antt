@@ -1,0 +1,14 @@
+pub mod Says
+pub mod Climbing
+pub mod Charges
+pub mod Kept
+pub mod Added
+pub mod FullTable
+pub mod Front
+pub mod Good
+pub mod Created
+pub mod Cleared
+pub mod Deleted
+pub mod Lived
+pub mod Fresh
+pub mod Beneath

@@ -1,0 +1,89 @@
+-- What each effect leaves of an image (01 "Making", "SELECT", "CREATE", "DELETE", the life cycles), byte for
+-- byte. SELECT leaves `setCurrent`, a change of life cycle `setLife`.
+use mathlib.Core.Path.{_≡_}
+use mathlib.Core.List.{List, [], _++_, _∷_}
+use mathlib.Core.Bool.{Bool, true, cond}
+use Prim.Native.Nat.{ℕ, zero, suc, _+_, _*_, _-_, _<_, _≤_}
+use lib.Dec.{eqb}
+use lib.ListN.{length, replicate}
+use Rattle.laws.specs.declared.Found.the-variants.{At}
+use Rattle.numbers.specs.Numbers.{be16}
+use Rattle.rules.specs.Descriptor.{classOf, df, ef}
+use Rattle.rules.specs.Life.{knownLife}
+use Rattle.rules.specs.Value.{goodIdentifier, goodLength}
+use Rattle.rules.specs.Rule.{fitsRecord}
+use Rattle.image.specs.declared.Head.{Head}
+use Rattle.image.specs.Layout.{countOf, currentDfOf, currentEfOf, none, recordBytes, putRecord, clearRecord, setCurrent}
+use Rattle.sound.specs.Table.{File, viewAt}
+use Rattle.sound.specs.Kinship.{freeSlot, identifierFree, nameFree, fitsRoom, atOrBeneath}
+
+-- CREATE: the new record in slot s; a new DF becomes current with no EF, a new EF becomes current EF
+unfoldable pub created : List ℕ → ℕ → Head → List ℕ → List ℕ → List ℕ
+created img s h name rule =
+    setCurrent (putRecord img s (recordBytes h name rule))
+    (cond (eqb (h .kind) df) s (currentDfOf img))
+    (cond (eqb (h .kind) df) none s)
+
+-- what the data of a new file must satisfy by themselves
+pub record Good (h : Head) (name rule : List ℕ) : Type 0 where
+  pub class : classOf (h .descriptor) ≡ h .kind
+  pub some : h .kind ≡ 0 → ⊥
+  pub life : knownLife (h .life) ≡ true
+  pub identifier : goodIdentifier (h .identifier) ≡ true
+  pub size : 1 ≤ h .size
+  pub stride : goodLength (h .descriptor) (h .stride) (h .size) ≡ true
+  pub named : length name ≤ 16
+  pub nameless : h .kind ≡ ef → length name ≡ 0
+  pub short : length rule ≤ 16
+  pub formed : fitsRecord rule ≡ true
+
+-- what CREATE has checked and found when it takes slot s, the lowest free one
+pub record Creates (img : List ℕ) (s : ℕ) (h : Head) (name rule : List ℕ) : Type 0 where
+  pub good : Good h name rule
+  pub parent : h .parent ≡ currentDfOf img
+  pub level : h .level ≡ viewAt img (currentDfOf img) .level + 1
+  pub identifier : identifierFree (countOf img) (viewAt img) (currentDfOf img) (h .identifier) ≡ true
+  pub named : nameFree (countOf img) (viewAt img) name ≡ true
+  pub room : fitsRoom (countOf img) (viewAt img) (currentDfOf img) (h .size) ≡ true
+  pub slot : freeSlot (countOf img) (viewAt img) ≡ At s
+
+-- a free record in each slot below n of which p holds
+unfoldable pub clearBelow : ℕ → (ℕ → Bool) → List ℕ → List ℕ
+clearBelow zero p img = img
+clearBelow (suc k) p img = cond (p k) (clearRecord (clearBelow k p img) k) (clearBelow k p img)
+
+-- DELETE: d and all beneath it, as the image had them, become zero records; a deleted current EF becomes none
+unfoldable pub deleted : List ℕ → ℕ → List ℕ
+deleted img d =
+    setCurrent (clearBelow (countOf img) (atOrBeneath (viewAt img) d) img)
+    (currentDfOf img)
+    (cond (eqb (currentEfOf img) d) none (currentEfOf img))
+
+-- what DELETE has found: a child of the current DF
+pub record Deletes (img : List ℕ) (d : ℕ) : Type 0 where
+  pub low : d < countOf img
+  pub file : File (viewAt img) d
+  pub child : viewAt img d .parent ≡ currentDfOf img
+
+-- the root of a fresh card: descriptor 38, life cycle 05
+abbrev pub rootHead : ℕ → Head
+rootHead total = record {
+  kind = df;
+  descriptor = 0x38;
+  life = 0x05;
+  identifier = 0x3F00;
+  parent = 0;
+  level = 0;
+  stride = 0;
+  size = total;
+}
+
+-- the header of a fresh card of n slots: root current, no EF
+unfoldable pub freshHeader : ℕ → List ℕ
+freshHeader n =
+    (0x55 ∷ 0x46 ∷ 0x54 ∷ [])
+    ++ be16 1 ++ be16 n ++ be16 0 ++ be16 none ++ replicate 5 0
+
+-- the maker: the header, the root with no name, all else free
+unfoldable pub fresh : ℕ → ℕ → List ℕ → List ℕ
+fresh n total rule = freshHeader n ++ (recordBytes (rootHead total) [] rule ++ replicate (64 * (n - 1)) 0)

@@ -1,0 +1,31 @@
+-- `charges::covered_at`: no DF, or its children cost at most its total.
+use mathlib.Core.Path.{refl}
+use Rattle.soundness.proofs.Parts.{charges-no, charges-is}
+use borrow.Author.Needs.{needs}
+use Rattle.soundness.proofs.charges.covered_at.Statement.{statement}
+use Rattle.soundness.proofs.charges.covered_at.Tie as tie
+
+kind-requires : tie.Need-kind-requires
+kind-requires c κs = search needs
+
+returns : tie.Need-returns
+returns c = search charges-no
+
+charge-requires : tie.Need-charge-requires
+charge-requires c κs = search needs
+
+size-requires : tie.Need-size-requires
+size-requires c κs = search needs
+
+returns-2 : tie.Need-returns-2
+returns-2 c = search (charges-is, refl)
+
+pub covered-at-spec : {M : Type 1} → statement M
+covered-at-spec =
+    tie.close
+    (tie.spec
+    kind-requires
+    returns
+    charge-requires
+    size-requires
+    returns-2)

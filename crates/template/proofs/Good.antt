@@ -1,0 +1,87 @@
+-- What is read from any data is good, or bad.
+use mathlib.Core.Path.{_≡_, refl}
+use mathlib.Core.Bool.{Bool, true, false, cond, _&&_}
+use mathlib.Core.List.{List}
+use mathlib.Core.Logic.{⊎-elim}
+use Prim.Native.Nat.{ℕ, _-_, _≤_}
+use native.Mathlib.Omega.{arith}
+use lib.ListN.{length}
+use lib.Dec.{eqb, leb}
+use borrow.Author.Tests.{eqb-true, eqb-false}
+use Rattle.laws.proofs.Says.{and-says, or-says, le-says}
+use Rattle.laws.proofs.Splices.{length-part}
+use Rattle.rules.specs.Descriptor.{classOf, df, ef}
+use Rattle.rules.specs.Life.{newLife}
+use Rattle.rules.specs.Value.{goodIdentifier, goodLength}
+use Rattle.template.specs.declared.Objects.{Objects}
+use Rattle.template.specs.declared.Data.{Data}
+use Rattle.template.specs.declared.Data.the-variants.{Bad}
+use Rattle.template.specs.Objects.{startIn, endIn, lengthIn, valueIn, objectsOf, Held}
+use Rattle.template.specs.Form.{t82, t83, t84, t8A, t8C, t80, t81, lacks, dfForm, efForm}
+use Rattle.template.specs.Values.{firstOf, pairOf, recordLengthOf, numberOf, fitsName}
+use Rattle.template.specs.Data.{isTemplate, need, nameGood, bothGood, newDf, newEf, dfOf, sizedEf, efOf, fileOf, dataOf}
+use Rattle.template.specs.Good.{GoodFile, Good}
+use Rattle.template.proofs.Holding.{held}
+
+-- past a test: only the branch that goes on is to be shown good
+module _ (s : List ℕ) where
+  needed : (b : Bool) (x : Data) → (b ≡ true → Good s x) → Good s (need b x)
+  needed true x f = f refl
+  needed false x f = tt
+
+  not-zero : (k : ℕ) (x : Data) → ((k ≡ 0 → ⊥) → Good s x) → Good s (cond (eqb k 0) Bad x)
+  not-zero k x f = go (eqb k 0) refl
+    where
+      go : (b : Bool) → eqb k 0 ≡ b → Good s (cond b Bad x)
+      go true p = tt
+      go false p = f (eqb-false k 0 p)
+
+  by-class : (k m : ℕ) (x y : Data) → (k ≡ m → Good s x) → Good s y → Good s (cond (eqb k m) x y)
+  by-class k m x y f g = go (eqb k m) refl
+    where
+      go : (b : Bool) → eqb k m ≡ b → Good s (cond b x y)
+      go true p = f (eqb-true k m p)
+      go false p = g
+
+module _ (s : List ℕ) (o : Objects) (h : Held s o) where
+  file-good : bothGood s o ≡ true → GoodFile s (pairOf (valueIn s o t83)) (firstOf (valueIn s o t8A)) (startIn o t8C) (endIn o t8C)
+  unfolding bothGood
+  file-good e =
+      let p = and-says (goodIdentifier (pairOf (valueIn s o t83))) _ .0 e in
+      let q = and-says (newLife (firstOf (valueIn s o t8A))) _ .0 (p .1) in
+      record { identifier = p .0; life = q .0; rule-low = h .low t8C; rule-high = h .high t8C; rule = q .1 }
+
+  name-good : nameGood s o ≡ true → lengthIn o t84 ≤ 16
+  unfolding nameGood lacks fitsName
+  name-good e = ⊎-elim none some (or-says (eqb (startIn o t84) 0) _ .0 e)
+    where
+      none : eqb (startIn o t84) 0 ≡ true → lengthIn o t84 ≤ 16
+      none q = let z : endIn o t84 ≡ 0 = h .absent t84 (eqb-true (startIn o t84) 0 q) in omega arith
+
+      some : (leb 1 (length (valueIn s o t84)) && leb (length (valueIn s o t84)) 16) ≡ true → lengthIn o t84 ≤ 16
+      some q =
+          let n : length (valueIn s o t84) ≡ lengthIn o t84 = length-part s (startIn o t84) (lengthIn o t84) (omega (arith, h .low t84, h .high t84)) in
+          let m : length (valueIn s o t84) ≤ 16 = le-says _ 16 .0 (and-says (leb 1 (length (valueIn s o t84))) _ .0 q .1) in
+          omega arith
+
+  df-good : classOf (firstOf (valueIn s o t82)) ≡ df → Good s (dfOf s o)
+  unfolding dfOf newDf
+  df-good k =
+      needed s (dfForm o) _ (λ f. needed s (nameGood s o) _ (λ n. needed s (bothGood s o) _ (λ b. not-zero s (numberOf (valueIn s o t81)) _ (λ z.
+      record { class = k; file = file-good b; name-low = h .low t84; name-high = h .high t84; name-short = name-good n; total = z }))))
+
+  ef-good : classOf (firstOf (valueIn s o t82)) ≡ ef → Good s (efOf s o (firstOf (valueIn s o t82)))
+  unfolding efOf sizedEf newEf
+  ef-good k =
+      let d : ℕ = firstOf (valueIn s o t82) in
+      let z : ℕ = numberOf (valueIn s o t80) in
+      needed s (efForm o d) _ (λ f. needed s (bothGood s o) _ (λ b. not-zero s z _ (λ n. needed s (goodLength d (recordLengthOf (valueIn s o t82)) z) _ (λ g.
+      record { class = k; file = file-good b; size = n; records = g }))))
+
+pub good : (s : List ℕ) → Good s (dataOf s)
+unfolding dataOf fileOf
+good s =
+    let o : Objects = objectsOf s in
+    let k : ℕ = classOf (firstOf (valueIn s o t82)) in
+    needed s (isTemplate s) _ (λ t. needed s (eqb (o .next) (length s)) _ (λ n.
+    by-class s k df _ _ (df-good s o (held s)) (by-class s k ef _ _ (ef-good s o (held s)) tt)))
