@@ -2,3 +2,8 @@ pub mod Steps
 pub mod Tells
 pub mod Told
 pub mod Called
+pub mod Speaks
+pub mod After
+pub mod Alive
+pub mod Demands
+pub mod Exactly

@@ -43,14 +43,14 @@ use Rattle.verdict.specs.declared.Verdict.{Verdict}
 use Rattle.verdict.specs.declared.Verdict.the-variants.{Refuse, Select, Create, Delete, Live}
 use Rattle.verdict.specs.Applied.{sentData}
 use Rattle.effect.specs.Fit.{FieldSent, FileSent}
-use Rattle.judging.specs.Steps.{Step, step, judged, allHold, followed}
+use Rattle.deciding.specs.Steps.{Step, step, allHold, Plan, followed}
 use Rattle.judging.specs.Command.{instruction, fitLength, sharedSteps, createFile}
-use Rattle.judging.specs.Target.{currentFile, isFound, slotIn, isFile, creation, newIdentifier, newName, newSize, newHead, creating, selected}
-use Rattle.judging.specs.Commands.{selecting, select, admission, create, delete, activate, deactivate, terminateTheEf, terminateTheDf, terminateTheCard}
+use Rattle.deciding.specs.Target.{currentFile, isFound, slotIn, isFile, creation, newIdentifier, newName, newSize, newHead, creating, selected}
+use Rattle.deciding.specs.Commands.{selecting, select, admission, create, delete, activate, deactivate, terminateTheEf, terminateTheDf, terminateTheCard}
 use Rattle.judging.specs.Judge.{lifePlan, planFor, judgeFor, judgeOf}
-use Rattle.judging.proofs.Readied.{ready, selected-by, selected-stands}
+use Rattle.deciding.proofs.Readied.{ready, selected-by, selected-stands}
 use Rattle.judging.proofs.Plans.{current-stands, create-long}
-use Rattle.card.proofs.Steps.{cond-by, judged-by, followed-by, chosen-by}
+use Rattle.card.proofs.Steps.{cond-by, judged-by, followed-by, chosen-by, anyWord}
 use Rattle.card.proofs.Tells.{Tells}
 
 -- a DF's structure has no records
@@ -98,8 +98,8 @@ found-at (At s) e = refl
 found-at Nothing e = absurd (false≢true e)
 
 module _ (img c : List ℕ) (sound : Sound img) where
-  refused : (w : ℕ) → Tells img c (Refuse w)
-  refused w = tt
+  refused : (w : ℕ) → anyWord w ≡ true → Tells img c (Refuse w)
+  refused w k = tt
 
   -- a directory has a directory above it
   parent-dir : viewAt img (viewAt img (currentDfOf img) .parent) .kind ≡ df
@@ -129,7 +129,7 @@ module _ (img c : List ℕ) (sound : Sound img) where
 
   select-tells : (x : ℕ) → Tells img c (followed (select img (countOf img) (currentDfOf img) x))
   unfolding selecting Reachable
-  select-tells x = followed-by (Tells img c) refused _ (λ a. found (found-at _ (and-says _ _ .0 a .0)))
+  select-tells x = followed-by (Tells img c) anyWord refused _ refl (λ a. found (found-at _ (and-says _ _ .0 a .0)))
     where
       found : selected img (countOf img) (currentDfOf img) x ≡ At (slotIn (selected img (countOf img) (currentDfOf img) x))
           → Tells img c (selecting img (currentDfOf img) (slotIn (selected img (countOf img) (currentDfOf img) x)))
@@ -148,7 +148,7 @@ module _ (img c : List ℕ) (sound : Sound img) where
 
   delete-tells : (x : ℕ) (sets : Sets) → Tells img c (followed (delete img (countOf img) (currentDfOf img) x sets))
   unfolding childNamed
-  delete-tells x sets = followed-by (Tells img c) refused _ (λ a. found (found-at _ (and-says _ _ .0 a .0)))
+  delete-tells x sets = followed-by (Tells img c) anyWord refused _ refl (λ a. found (found-at _ (and-says _ _ .0 a .0)))
     where
       found : childNamed (countOf img) (viewAt img) (currentDfOf img) x ≡ At (slotIn (childNamed (countOf img) (viewAt img) (currentDfOf img) x))
           → Deletes img (slotIn (childNamed (countOf img) (viewAt img) (currentDfOf img) x))
@@ -239,7 +239,7 @@ module _ (img c : List ℕ) (sound : Sound img) where
         })
 
     create-tells : Tells img c (followed (create img (countOf img) (currentDfOf img) (sentData c) sets))
-    create-tells = followed-by (Tells img c) refused _ (λ a. new-tells (dataOf (sentData c)) (good (sentData c)) a)
+    create-tells = followed-by (Tells img c) anyWord refused _ refl (λ a. new-tells (dataOf (sentData c)) (good (sentData c)) a)
 
   -- the life-cycle commands are about a file, and write a life cycle
   known-5 : knownLife 0x05 ≡ true
@@ -260,22 +260,22 @@ module _ (img c : List ℕ) (sound : Sound img) where
   life-tells : (i : ℕ) (sets : Sets) → Tells img c (followed (lifePlan img (currentDfOf img) i sets))
   unfolding lifePlan
   life-tells i sets =
-      chosen-by (Tells img c) refused i _ _ _ (λ e. followed-by (Tells img c) refused _ (λ a. (current-file, known-5)))
-      (λ z. chosen-by (Tells img c) refused i _ _ _ (λ e. followed-by (Tells img c) refused _ (λ a. (current-file, known-4)))
-      (λ z. chosen-by (Tells img c) refused i _ _ _ (λ e. followed-by (Tells img c) refused _ (λ a. (ready img sound .ef (λ e. not-says _ .0 (and-says _ _ .0 a .0) (eq-eqb _ _ e)), known-12)))
-      (λ z. chosen-by (Tells img c) refused i _ _ _ (λ e. followed-by (Tells img c) refused _ (λ a. (ready img sound .df, known-12)))
-      (λ z. followed-by (Tells img c) refused _ (λ a. (ready img sound .root, known-12))))))
+      chosen-by (λ (p : Plan). Tells img c (followed p)) i _ _ _ (λ e. followed-by (Tells img c) anyWord refused _ refl (λ a. (current-file, known-5)))
+      (λ z. chosen-by (λ (p : Plan). Tells img c (followed p)) i _ _ _ (λ e. followed-by (Tells img c) anyWord refused _ refl (λ a. (current-file, known-4)))
+      (λ z. chosen-by (λ (p : Plan). Tells img c (followed p)) i _ _ _ (λ e. followed-by (Tells img c) anyWord refused _ refl (λ a. (ready img sound .ef (λ e. not-says _ .0 (and-says _ _ .0 a .0) (eq-eqb _ _ e)), known-12)))
+      (λ z. chosen-by (λ (p : Plan). Tells img c (followed p)) i _ _ _ (λ e. followed-by (Tells img c) anyWord refused _ refl (λ a. (ready img sound .df, known-12)))
+      (λ z. followed-by (Tells img c) anyWord refused _ refl (λ a. (ready img sound .root, known-12))))))
 
   plan-tells : fitLength c ≡ true → (st : State) → Tells img c (followed (planFor img (countOf img) (currentDfOf img) c st))
   unfolding planFor
   plan-tells fit st =
-      chosen-by (Tells img c) refused (instruction c) _ _ _ (λ e. select-tells _)
-      (λ z. chosen-by (Tells img c) refused (instruction c) _ _ _ (λ e. create-tells (create-long c fit refl e) (st .sets))
-      (λ z. chosen-by (Tells img c) refused (instruction c) _ _ _ (λ e. delete-tells _ (st .sets)) (λ z. life-tells (instruction c) (st .sets))))
+      chosen-by (λ (p : Plan). Tells img c (followed p)) (instruction c) _ _ _ (λ e. select-tells _)
+      (λ z. chosen-by (λ (p : Plan). Tells img c (followed p)) (instruction c) _ _ _ (λ e. create-tells (create-long c fit refl e) (st .sets))
+      (λ z. chosen-by (λ (p : Plan). Tells img c (followed p)) (instruction c) _ _ _ (λ e. delete-tells _ (st .sets)) (λ z. life-tells (instruction c) (st .sets))))
 
   pub judge-tells : (st : State) → Tells img c (judgeOf img c st)
   unfolding judgeOf judgeFor
-  judge-tells st = judged-by (Tells img c) refused (sharedSteps img c st) _ (λ a. plan-tells (fit a) st)
+  judge-tells st = judged-by (Tells img c) anyWord refused (sharedSteps img c st) _ refl (λ a. plan-tells (fit a) st)
     where
       fit : allHold (sharedSteps img c st) ≡ true → fitLength c ≡ true
       fit a = (simp and-says at a) .1 .1 .1 .1 .1 .1 .1 .0

@@ -1,1 +1,4 @@
 pub mod Command
+pub mod Conditions
+pub mod After
+pub mod Demands

@@ -1,4 +1,1 @@
-pub mod Finding
-pub mod Creating
 pub mod Plans
-pub mod Readied

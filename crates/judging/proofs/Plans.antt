@@ -13,11 +13,11 @@ use Rattle.rules.specs.declared.Sets.{Sets}
 use Rattle.image.specs.Layout.{currentDfOf, currentEfOf, none}
 use Rattle.kinship.specs.Climb.{Stands}
 use Rattle.verdict.specs.declared.Verdict.{Verdict}
-use Rattle.judging.specs.Ready.{Ready}
+use Rattle.deciding.specs.Ready.{Ready}
 use Rattle.judging.specs.Command.{instruction, lc, isSeven, hasData, fitLength}
-use Rattle.judging.specs.Steps.{Plan, followed}
-use Rattle.judging.specs.Target.{currentFile}
-use Rattle.judging.specs.Commands.{select, create, delete, activate, deactivate, terminateTheEf}
+use Rattle.deciding.specs.Steps.{Plan, followed}
+use Rattle.deciding.specs.Target.{currentFile}
+use Rattle.deciding.specs.Commands.{select, create, delete, activate, deactivate, terminateTheEf}
 
 pub plan-eq : (a b : ℕ) (p q : Plan) {x : Verdict} → a ≡ b → x ≡ followed p → x ≡ followed (cond (eqb a b) p q)
 plan-eq a b p q e h = rw (eq-eqb a b e) h

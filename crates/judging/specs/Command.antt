@@ -9,7 +9,7 @@ use Rattle.numbers.specs.Numbers.{u16At}
 use Rattle.sound.specs.Kinship.{terminatedAt}
 use Rattle.verdict.specs.declared.State.{State}
 use Rattle.verdict.specs.Words.{wrongLength, wrongClass, wrongInstruction, wrongParameters, conditionsNotSatisfied}
-use Rattle.judging.specs.Steps.{Step, step}
+use Rattle.deciding.specs.Steps.{Step, step}
 
 abbrev pub classByte : List ℕ → ℕ
 classByte c = getD c 0 0

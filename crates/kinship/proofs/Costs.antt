@@ -2,13 +2,13 @@
 use mathlib.Core.Path.{_≡_, sym, ap, _∙_}
 use mathlib.Core.Bool.{Bool, true, false, not}
 use mathlib.Core.List.{List}
-use Prim.Native.Nat.{ℕ, _+_, _*_, _-_, _<_, _≤_}
+use Prim.Native.Nat.{ℕ, _+_, _-_, _≤_}
 use native.Mathlib.Omega.{arith}
 use lib.Dec.{leb}
 use borrow.Author.Tests.{not-true, not-false}
 use Rattle.laws.specs.Walks.{sumBelow}
 use Rattle.laws.proofs.Sums.{sum-start, sum-more}
-use Rattle.sound.specs.Table.{View, viewAt, chargeOf, charged}
+use Rattle.sound.specs.Table.{viewAt, chargeOf, charged}
 use Rattle.sound.specs.Kinship.{isChild, roomFor, totalFor, fitsRoom}
 
 module _ (img : List ℕ) (d s : ℕ) (r : Bool) (e : r ≡ isChild (viewAt img) d s) where

@@ -7,10 +7,9 @@ use Prim.Native.Nat.{ℕ, suc, _+_, _<_, _≤_}
 use native.Mathlib.Omega.{arith}
 use lib.Dec.{eqb}
 use lib.ListN.{length, getD}
-use borrow.Author.Tests.{eq-eqb, ne-eqb, not-true, not-false}
+use borrow.Author.Tests.{eq-eqb, ne-eqb}
 use Rattle.laws.specs.Walks.{allBelow}
 use Rattle.laws.specs.Lists.{sameList}
-use Rattle.laws.specs.Tests.{implies}
 use Rattle.laws.proofs.Walks.{all-zero, all-more, all-fails, all-end}
 use Rattle.laws.proofs.Chains.{eq-and, ne-and, and-on, and-off, implies-no, implies-yes}
 use Rattle.laws.proofs.Says.{same-says, not-says}

@@ -8,7 +8,7 @@ use Rattle.laws.proofs.Says.{same-or}
 use Rattle.rules.specs.Descriptor.{df}
 use Rattle.image.specs.Layout.{Sized, countOf}
 use Rattle.sound.specs.Table.{viewAt, File}
-use Rattle.sound.specs.Kin.{Kin, Placed}
+use Rattle.sound.specs.Kin.{Placed}
 use Rattle.sound.specs.Sound.{Sound, Header}
 use Rattle.kinship.specs.Climb.{Rooted, Stands, Paid}
 

@@ -3,16 +3,16 @@
 use mathlib.Core.Path.{_≡_, refl, sym, ap, _∙_}
 use mathlib.Core.Bool.{Bool, true, false}
 use mathlib.Core.List.{List}
-use Prim.Native.Nat.{ℕ, zero, suc, _+_, _-_, _<_, _≤_}
+use Prim.Native.Nat.{ℕ, suc, _+_, _-_, _<_, _≤_}
 use native.Mathlib.Numerals.{add-one}
 use native.Mathlib.Omega.{arith}
 use lib.Dec.{eqb}
 use borrow.Author.Tests.{eq-eqb, ne-eqb, le-leb, lt-leb}
 use Rattle.laws.specs.Walks.{anyBelow}
-use Rattle.laws.proofs.Walks.{any-zero, any-turn, any-stop, any-end}
+use Rattle.laws.proofs.Walks.{any-turn, any-stop, any-end}
 use Rattle.image.specs.Layout.{recAt, kindOf, levelOf, lifeCycleOf}
 use Rattle.rules.specs.Life.{isTerminated}
-use Rattle.sound.specs.Table.{View, viewAt, up}
+use Rattle.sound.specs.Table.{viewAt, up}
 use Rattle.sound.specs.Kinship.{terminatedAt, terminatedUp, atOrBeneath}
 use Rattle.kinship.specs.Climb.{Rooted, Stands, isNamedUp, namedUp}
 

@@ -2,9 +2,8 @@
 // identifier, does it lead through a directory (01 "CREATE" steps K and L, "DELETE", all life-cycle commands).
 ghost use mathlib.Core.Path.{_≡_};
 ghost use Prim.Native.Nat.{_<_};
-ghost use Rattle.image.specs.Layout.{recAt, kindOf, levelOf, identifierOf};
 ghost use Rattle.sound.specs.Table.{viewAt, up};
-ghost use Rattle.sound.specs.Kinship.{terminatedAt, terminatedUp, atOrBeneath};
+ghost use Rattle.sound.specs.Kinship.{terminatedUp, atOrBeneath};
 ghost use Rattle.kinship.specs.Climb.{Rooted, Stands, namedUp};
 use image::fields;
 use rules::life_cycle;
@@ -30,10 +29,10 @@ pub fn terminated_up(image: &[u8], n: usize, s: usize) -> bool
     requires { ⌜ Stands (now image) n s ⌝ }
     ensures { λ r. ⌜ r ≡ terminatedUp (now (image .entry)) s ⌝ }
 {
-    let level = fields::level(image, s);
+    let depth = fields::level(image, s);
     let mut t = s;
     let mut i = 0;
-    while i < level + 1 {
+    while i < depth + 1 {
         if life_cycle::is_terminated(fields::life_cycle(image, t)) {
             return true;
         }

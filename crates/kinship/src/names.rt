@@ -1,9 +1,6 @@
 // Identifiers and names: whether one is free for a new file (01 "CREATE" step L, 6A89 and 6A8A).
 ghost use mathlib.Core.Path.{_≡_};
-ghost use Prim.Native.Nat.{_<_, _≤_};
-ghost use lib.ListN.{getD};
 ghost use Rattle.laws.specs.Lists.{sameList};
-ghost use Rattle.image.specs.Layout.{recAt, nameOf, Within};
 ghost use Rattle.sound.specs.Table.{viewAt};
 ghost use Rattle.sound.specs.Kinship.{identifierFree, nameFree};
 ghost use Rattle.kinship.specs.Climb.{Rooted, Stands};

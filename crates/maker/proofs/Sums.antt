@@ -1,8 +1,8 @@
 -- The report's numbers: what a sound image says of its current DF.
-use mathlib.Core.Path.{_≡_, refl, sym, _∙_, ap}
-use mathlib.Core.Bool.{Bool, true, false, not, cond}
+use mathlib.Core.Path.{_≡_, sym, _∙_}
+use mathlib.Core.Bool.{Bool, true, false, not}
 use mathlib.Core.List.{List}
-use Prim.Native.Nat.{ℕ, _+_, _*_, _-_, _<_, _≤_}
+use Prim.Native.Nat.{ℕ, _+_, _-_, _<_, _≤_}
 use native.Mathlib.Omega.{arith}
 use lib.ListN.{length}
 use borrow.Author.Tests.{not-true, not-false}
@@ -16,7 +16,6 @@ use Rattle.kinship.specs.Climb.{Rooted, Paid}
 use Rattle.kinship.proofs.Sound.{sized, rooted, paid}
 use Rattle.soundness.proofs.Passed.{sound-passed}
 use Rattle.maker.specs.declared.Figures.{Figures}
-use Rattle.maker.specs.declared.Told.{Told}
 use Rattle.maker.specs.declared.Told.the-variants.{Numbers, Unsound}
 use Rattle.maker.specs.Reporting.{figuresOf, toldOf}
 

@@ -1,6 +1,6 @@
 // The report (01 "Making and reporting"): four numbers of a sound image, whose current DF they are about.
 ghost use mathlib.Core.Path.{_≡_};
-ghost use Rattle.image.specs.Layout.{Sized, countOf, currentDfOf};
+ghost use Rattle.image.specs.Layout.{Sized, countOf};
 ghost use Rattle.sound.specs.Sound.{Sound};
 ghost use Rattle.maker.specs.Reporting.{figuresOf, toldOf};
 use crate::Figures;

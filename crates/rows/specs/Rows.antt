@@ -2,15 +2,27 @@
 -- The sets of the caller are any sets, so that "exactly" and "never" are said of all of them.
 use Prim.Native.Nat.{ℕ}
 use mathlib.Core.Path.{_≡_, refl}
-use mathlib.Core.Bool.{Bool, true, false, _&&_, _||_}
+use mathlib.Core.Bool.{Bool, true, false, cond, _&&_, _||_}
 use mathlib.Core.List.{List, [], _∷_}
-use Rattle.laws.specs.Walks.{ifSo}
+use lib.Dec.{eqb}
+use Rattle.laws.specs.Walks.{ifSo, sumBelow}
+use Rattle.laws.specs.Tests.{either}
 use Rattle.rules.specs.declared.Sets.{Sets}
 use Rattle.rules.specs.declared.Right.the-variants.{CreateDf, CreateEf}
-use Rattle.rules.specs.Descriptor.{classOf, structureOf, df, ef, neither}
+use Rattle.rules.specs.Descriptor.{classOf, structureOf, hasRecords, df, ef, neither}
+use Rattle.rules.specs.Life.{lifeOf, canActivate}
+use Rattle.rules.specs.Value.{goodLength, wholeRecords}
 use Rattle.rules.specs.Condition.{bit, holdsOf, met, fulfilled, allOf, oneOf}
 use Rattle.rules.specs.Group.{slotsOf, scAt, nextOf, someGroup}
 use Rattle.rules.specs.Rule.{grantedOf, allowsOf, holdsAt}
+use Rattle.sound.specs.Table.{View, charged, chargeOf}
+use Rattle.sound.specs.Kinship.{roomFor, totalFor, fitsRoom}
+use Rattle.verdict.specs.declared.Verdict.{Verdict}
+use Rattle.verdict.specs.declared.Verdict.the-variants.{Refuse, Select, Create, Delete, Live}
+use Rattle.verdict.specs.Words.{notEnoughMemory, conditionsNotSatisfied}
+use Rattle.verdict.specs.Applied.{wordOf}
+use Rattle.deciding.specs.Steps.{judged, step}
+use Rattle.deciding.specs.Commands.{activate}
 
 -- a row: the number of its line, what the definitions give, what 01 says
 pub record Row : Type 0 where
@@ -29,6 +41,25 @@ empty = record { messaging = 0; external = 0; user = 0 }
 
 abbrev pub full : Sets
 full = record { messaging = 0xFFFF; external = 0xFFFF; user = 0xFFFF }
+
+-- a card of two slots: a root of some total, and a child EF of some size in the other
+abbrev pub rootAlone : ℕ → ℕ → View
+rootAlone total s = record { kind = cond (eqb s 0) df 0; identifier = 0x3F00; parent = 0; level = 0; size = total; name = [] }
+
+abbrev pub withChild : ℕ → (ℕ → View) → ℕ → View
+withChild size v s =
+    cond (eqb s 1) (record { kind = ef; identifier = 0x6F07; parent = 0; level = 1; size = size; name = [] }) (v s)
+
+-- the word that one step gives; the life cycle that an effect writes
+abbrev pub wordOfStep : Bool → ℕ → ℕ
+wordOfStep holds word = wordOf (judged (step holds word ∷ []) (Live 0 0))
+
+abbrev pub lifeIn : Verdict → ℕ
+lifeIn (Live s life) = life
+lifeIn (Refuse w) = 0
+lifeIn (Select d e w) = 0
+lifeIn (Create s h a b from to) = 0
+lifeIn (Delete s) = 0
 
 -- the structures of W8
 abbrev pub transparent : ℕ
@@ -58,6 +89,11 @@ rows x =
     ∷ test 5 (grantedOf (0x06 ∷ 0x00 ∷ 0xFF ∷ []) CreateEf x) false
     -- W6: 02 FF 02 00: EF creation yes
     ∷ test 6 (grantedOf (0x02 ∷ 0xFF ∷ 0x02 ∷ 0x00 ∷ []) CreateEf x) true
+    -- W7: room 256: size 192 fits and leaves 0, 193 gives 6A84
+    ∷ number 7 (roomFor 2 (rootAlone 256) 0) 256
+    ∷ test 7 (fitsRoom 2 (rootAlone 256) 0 192) true
+    ∷ number 7 (roomFor 2 (withChild 192 (rootAlone 256)) 0) 0
+    ∷ number 7 (wordOfStep (fitsRoom 2 (rootAlone 256) 0 193) notEnoughMemory) 0x6A84
     -- W8: 78 DF, 41 transparent, 42 linear, 46 cyclic, 79 and 21 neither
     ∷ number 8 (classOf 0x78) df
     ∷ number 8 (classOf 0x41) ef ∷ number 8 (structureOf 0x41) transparent
@@ -65,6 +101,15 @@ rows x =
     ∷ number 8 (classOf 0x46) ef ∷ number 8 (structureOf 0x46) cyclic
     ∷ number 8 (classOf 0x79) neither
     ∷ number 8 (classOf 0x21) neither
+    -- W9: record length 10: size 20 good, 25 bad; length 1: 254 good, 255 bad
+    ∷ test 9 (goodLength 0x42 10 20) true
+    ∷ test 9 (goodLength 0x42 10 25) false
+    ∷ test 9 (goodLength 0x42 1 254) true
+    ∷ test 9 (goodLength 0x42 1 255) false
+    -- W10: 04 activates to 05, 0C answers 6985
+    ∷ test 10 (canActivate 0x04) true
+    ∷ number 10 (lifeIn (activate [] 0 x .effect)) 0x05
+    ∷ number 10 (wordOfStep (canActivate 0x0C) conditionsNotSatisfied) 0x6985
     ∷ []
 
 abbrev pub allGive : List Row → List ℕ
@@ -77,5 +122,5 @@ allSay (r ∷ rs) = r .says ∷ allSay rs
 
 -- in every row the definitions give what 01 says
 pub both-sides : (x : Sets) → allGive (rows x) ≡ allSay (rows x)
-unfolding holdsOf met fulfilled allOf oneOf grantedOf allowsOf holdsAt slotsOf scAt nextOf someGroup classOf
+unfolding holdsOf met fulfilled allOf oneOf grantedOf allowsOf holdsAt slotsOf scAt nextOf someGroup classOf roomFor totalFor charged chargeOf sumBelow fitsRoom goodLength wholeRecords either hasRecords canActivate lifeOf
 both-sides x = refl

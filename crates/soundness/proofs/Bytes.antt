@@ -7,7 +7,7 @@ use Prim.Native.Nat.{ℕ, _+_, _*_, _-_, _<_, _≤_}
 use native.Mathlib.Omega.{arith}
 use lib.ListN.{length, getD, take, drop}
 use lib.Dec.{eqb, leb}
-use borrow.Author.Tests.{eq-eqb, ne-eqb, not-true, not-false, le-leb, lt-leb}
+use borrow.Author.Tests.{eq-eqb, ne-eqb, not-false, le-leb, lt-leb}
 use Rattle.laws.specs.Lists.{part}
 use Rattle.laws.proofs.Walks.{all-zero, all-more, all-fails}
 use Rattle.numbers.specs.Numbers.{u16At, u32At}

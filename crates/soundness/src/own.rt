@@ -1,18 +1,11 @@
 // Each record by itself, as a slice of 64 bytes: all zero, or kind, descriptor, life cycle, identifier, size,
 // record length, name, rule and zero bytes as they must be (01 "Image").
 ghost use mathlib.Core.Path.{_≡_};
-ghost use Prim.Native.Nat.{_+_, _≤_, _<_};
+ghost use Prim.Native.Nat.{_+_, _≤_};
 ghost use lib.ListN.{length};
 ghost use Rattle.image.specs.Layout.{Sized, Within, recAt};
 ghost use Rattle.sound.specs.Own.{zerosb, paddedb, markedb, measuredb, namedb, ruledb, usedb, ownb};
 ghost use Rattle.sound.specs.Sound.{recordsb};
-
-// A byte as a length.
-fn wide(x: u8) -> usize
-    ensures { λ r. ⌜ (r ≡ x) × (r < 256) ⌝ }
-{
-    x as usize
-}
 
 // Whether the n bytes of s from `at` on are zero.
 pub fn zeros(s: &[u8], at: usize, n: usize) -> bool
@@ -34,7 +27,7 @@ fn padded(r: &[u8], at: usize) -> bool
     requires { ⌜ at + 17 ≤ length (now r) ⌝ }
     ensures { λ b. ⌜ b ≡ paddedb (now (r .entry)) at ⌝ }
 {
-    let n = wide(r[at]);
+    let n = numbers::wide(r[at]) as usize;
     if n > 16 {
         return false;
     }
@@ -92,7 +85,7 @@ fn ruled(r: &[u8]) -> bool
     if !padded(r, 33) {
         return false;
     }
-    let n = wide(r[33]);
+    let n = numbers::wide(r[33]) as usize;
     if n > 16 {
         return false;
     }

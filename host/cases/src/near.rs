@@ -6,14 +6,15 @@ use model::{Card, State};
 use crate::actions::{bare, delete, select};
 use crate::case::{Case, History, Step};
 use crate::rules;
-use crate::template::{FileData, Object};
+use crate::template::FileData;
 
 /// How many bytes too many are tried.
 const BYTES_TOO_MANY: usize = 3;
 
 /// The good command of each instruction for [`card`].
 pub fn good_commands() -> Vec<Vec<u8>> {
-    let mut commands = vec![select(0x6F07), delete(0x6F07), file(0x6F08, 0x41, None).command()];
+    let mut commands =
+        vec![select(0x6F07), delete(0x6F07), FileData::plain(0x41, 0x6F08, 9).command()];
     commands.extend([0x44, 0x04, 0xE8, 0xE6, 0xFE].map(bare));
     commands
 }
@@ -21,8 +22,8 @@ pub fn good_commands() -> Vec<Vec<u8>> {
 /// The image on which they are tried: a DF in the root is current, with an
 /// EF in it.
 pub fn card() -> Vec<u8> {
-    let directory = FileData { size: 256, ..file(0x7F10, 0x78, Some(vec![0])) };
-    let commands = [directory.command(), file(0x6F07, 0x41, None).command()];
+    let directory = FileData::plain(0x78, 0x7F10, 256);
+    let commands = [directory.command(), FileData::plain(0x41, 0x6F07, 9).command()];
     let history = History {
         slots: 8,
         total: 448,
@@ -33,24 +34,6 @@ pub fn card() -> Vec<u8> {
     history.play(|_, _, _, after| image = after.to_vec());
     debug_assert!(Card::decode(&image).is_some());
     image
-}
-
-/// A file without anything that may be left out.
-fn file(identifier: u16, descriptor: u8, pin_status: Option<Vec<u8>>) -> FileData {
-    let last: Option<Object> = None;
-    FileData {
-        descriptor,
-        second: 0x21,
-        record_length: None,
-        identifier,
-        name: None,
-        life_cycle: 0x05,
-        rule: rules::open(),
-        size: 9,
-        size_bytes: 2,
-        pin_status: pin_status.unwrap_or_default(),
-        last,
-    }
 }
 
 /// All near-misses of a good command: each of its first five bytes with every

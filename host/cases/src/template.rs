@@ -37,6 +37,23 @@ pub struct FileData {
 }
 
 impl FileData {
+    /// A file open to everything, without anything that may be left out.
+    pub fn plain(descriptor: u8, identifier: u16, size: u32) -> FileData {
+        FileData {
+            descriptor,
+            second: 0x21,
+            record_length: None,
+            identifier,
+            name: None,
+            life_cycle: 0x05,
+            rule: rules::open(),
+            size,
+            size_bytes: fewest_bytes(size),
+            pin_status: vec![0],
+            last: None,
+        }
+    }
+
     /// Whether it describes a directory.
     pub fn is_df(&self) -> bool {
         self.descriptor & 0x3F == 0x38

@@ -1,13 +1,14 @@
-//! The worst-case cards, all of 1,023 slots: deepest nesting, as many names
-//! as fit, one identifier in every directory, 900 files in 40 directories.
+//! The worst-case cards of 1,023 slots: deepest nesting, as many names as fit,
+//! one identifier in every directory; and an ordinary one, 900 files in 40
+//! directories. Each can be had with fewer slots too, for measurements.
 
 use model::edition::Edition;
 use model::{Card, Kind, Record};
 
 use crate::rules;
 
-const SLOTS: usize = 1023;
-const LARGEST_TOTAL: u32 = 64 * 1022;
+/// As many slots as a card can have.
+pub const MOST_SLOTS: usize = 1023;
 
 /// A card with the reason why it stands here.
 #[derive(Clone, PartialEq, Eq, Debug)]
@@ -20,12 +21,17 @@ pub struct Worst {
 
 /// All worst-case cards.
 pub fn cards() -> Vec<Worst> {
+    cards_of(MOST_SLOTS)
+}
+
+/// The same cards with so many slots, at least 16.
+pub fn cards_of(slots: usize) -> Vec<Worst> {
     let worst = |title, card: Card| Worst { title, image: card.encode() };
     vec![
-        worst("deepest nesting", deepest()),
-        worst("all names", all_names()),
-        worst("one identifier in every directory", one_identifier()),
-        worst("900 files in 40 directories", nine_hundred_files()),
+        worst("deepest nesting", deepest(slots)),
+        worst("all names", all_names(slots)),
+        worst("one identifier in every directory", one_identifier(slots)),
+        worst("900 files in 40 directories", nine_hundred_files(slots)),
     ]
 }
 
@@ -36,14 +42,14 @@ struct Filling {
 }
 
 impl Filling {
-    fn new() -> Filling {
+    fn new(slots: usize) -> Filling {
         let mut card = Card {
             edition: Edition::BASE,
             current_df: 0,
             current_ef: None,
-            records: vec![Record::FREE; SLOTS],
+            records: vec![Record::FREE; slots],
         };
-        card.put(0, Record { identifier: 0x3F00, level: 0, ..df(0x3F00, LARGEST_TOTAL) });
+        card.put(0, df(0x3F00, largest_total(slots)));
         Filling { card, next: 1 }
     }
 
@@ -55,6 +61,11 @@ impl Filling {
         self.next += 1;
         slot
     }
+}
+
+/// The largest total of the root of a card with so many slots.
+fn largest_total(slots: usize) -> u32 {
+    64 * (slots as u32 - 1)
 }
 
 fn df(identifier: u16, total: u32) -> Record {
@@ -74,11 +85,11 @@ fn ef(identifier: u16, size: u32) -> Record {
 }
 
 /// Each directory's total is 64 less than its parent's, so 1,021 of them nest
-/// before the total would be 0. The innermost is current.
-fn deepest() -> Card {
-    let mut filling = Filling::new();
+/// in 1,023 slots before the total would be 0. The innermost is current.
+fn deepest(slots: usize) -> Card {
+    let mut filling = Filling::new(slots);
     let mut parent = 0;
-    let mut total = LARGEST_TOTAL;
+    let mut total = largest_total(slots);
     while total > 64 {
         total -= 64;
         let identifier = 0x7000 + filling.next as u16;
@@ -90,8 +101,8 @@ fn deepest() -> Card {
 
 /// As many named directories in the root as it can pay; the names differ only
 /// in their last two bytes.
-fn all_names() -> Card {
-    let mut filling = Filling::new();
+fn all_names(slots: usize) -> Card {
+    let mut filling = Filling::new(slots);
     while filling.card.room(0) >= 65 {
         let number = filling.next as u16;
         let mut name = vec![0xA0; 14];
@@ -103,8 +114,8 @@ fn all_names() -> Card {
 
 /// As many directories in the root as it can pay, each holding an EF 6F07
 /// that takes its whole total.
-fn one_identifier() -> Card {
-    let mut filling = Filling::new();
+fn one_identifier(slots: usize) -> Card {
+    let mut filling = Filling::new(slots);
     while filling.card.room(0) >= 65 + 64 {
         let directory = filling.add(0, df(0x7000 + filling.next as u16, 65));
         filling.add(directory, ef(0x6F07, 1));
@@ -112,16 +123,23 @@ fn one_identifier() -> Card {
     filling.card
 }
 
-/// 40 directories, first all of them, then 900 EFs in turn, so that the
-/// children of one directory lie far apart. The last directory is current.
-fn nine_hundred_files() -> Card {
-    let mut filling = Filling::new();
+/// Of 1,023 slots 40 directories, first all of them, then 900 EFs in turn, so
+/// that the children of one directory lie far apart; of fewer slots as many in
+/// proportion. The last directory is current.
+fn nine_hundred_files(slots: usize) -> Card {
+    let mut filling = Filling::new(slots);
+    let share = |of_the_largest: usize| (of_the_largest * slots / MOST_SLOTS).max(1);
+    let many = share(40);
+    let total = largest_total(slots) / many as u32 - 64;
+    // A file here takes at most 64 + 4.
+    let files = share(900).min(many * (total / 68) as usize);
     let directories: Vec<_> =
-        (0..40).map(|number| filling.add(0, df(0x7F00 + number, 1571))).collect();
-    for number in 0..900u16 {
-        let directory = directories[usize::from(number) % directories.len()];
-        filling.add(directory, ef(0x6000 + number / 40, 1 + u32::from(number % 4)));
+        (0..many as u16).map(|number| filling.add(0, df(0x7F00 + number, total))).collect();
+    for number in 0..files {
+        let directory = directories[number % many];
+        let identifier = 0x6000 + (number / many) as u16;
+        filling.add(directory, ef(identifier, 1 + number as u32 % 4));
     }
-    filling.card.make_current(directories[directories.len() - 1]);
+    filling.card.make_current(directories[many - 1]);
     filling.card
 }

@@ -18,7 +18,7 @@
 //! | steps A to G of a command | [`mod@command`] |
 //! | steps H to L of each command | [`commands`] |
 //! | demand 3's ledger | [`ledger`] |
-//! | the line format of the vectors | [`lines`] |
+//! | the line format of the vectors, and where they lie | [`lines`], [`vectors`] |
 
 #![forbid(unsafe_code)]
 #![warn(missing_docs)]
@@ -50,6 +50,7 @@ pub mod rule;
 pub mod security;
 pub mod soundness;
 pub mod template;
+pub mod vectors;
 pub mod words;
 
 pub use answers::Answer;

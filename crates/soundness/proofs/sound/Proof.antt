@@ -1,6 +1,5 @@
 -- `sound`: the header, each record, what holds between them, what is current; each test makes the next one safe.
 use mathlib.Core.Path.{refl}
-use native.Mathlib.Omega.{arith}
 use Rattle.laws.proofs.Chains.{refused-and}
 use Rattle.sound.specs.Sound.{soundb}
 use Rattle.soundness.proofs.Passed.{header-some, header-sized, sound-records, sound-kin, sound-last, passed}

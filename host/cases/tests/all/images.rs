@@ -86,3 +86,15 @@ fn reports_on_the_worst_cards() {
     assert_eq!(numbers[2], (0, [65_408, 65_408 - 507 * 129, 507, 1014]));
     assert_eq!(numbers[3].1[2..], [22, 22]);
 }
+
+#[test]
+fn the_worst_cards_with_fewer_slots_are_sound() {
+    for slots in [16, 64, 256] {
+        for card in worst::cards_of(slots) {
+            assert!(sound(&card.image), "{} of {slots} slots", card.title);
+            assert_eq!(card.image.len(), 16 + 64 * slots, "{}", card.title);
+            let used = decoded(&card.image).map_or(0, |card| card.used_slots().count());
+            assert!(used * 4 > slots * 3, "{} of {slots} slots uses {used}", card.title);
+        }
+    }
+}

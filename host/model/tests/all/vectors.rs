@@ -1,50 +1,19 @@
-//! The model agrees with every case of the vectors of its level. The whole
-//! file lies in the shared folder beside the repository; some 300 of its cases
-//! lie in the repository, so that a clone alone is tested too.
+//! The model agrees with every case of the vectors of its level, the shared
+//! ones where they are there, and the stored ones.
 //!
 //! The stored copy is made again with
 //! `cargo test --offline -p model --test all -- --ignored`.
 
 use std::collections::BTreeMap;
-use std::path::{Path, PathBuf};
-use std::process::Command;
 use std::time::Instant;
 
 use crate::common::say;
 use model::edition::LEVEL;
 use model::lines::{results_agree, Case};
+use model::vectors::{case_lines, shared_file, shared_text, stored_file, stored_text};
 
 const STORED_CASES: usize = 300;
 const LONGEST_STORED_LINE: usize = 2000;
-
-fn shared_file() -> PathBuf {
-    Path::new(env!("CARGO_MANIFEST_DIR"))
-        .join("../../../shared/vectors")
-        .join(format!("level-{LEVEL:02}.txt.xz"))
-}
-
-fn stored_file() -> PathBuf {
-    Path::new(env!("CARGO_MANIFEST_DIR"))
-        .join("tests/data")
-        .join(format!("level-{LEVEL:02}-some.txt"))
-}
-
-/// The text of the whole vectors, or why there is none.
-fn shared_text() -> Result<String, String> {
-    let file = shared_file();
-    if !file.is_file() {
-        return Err(format!("{} is not there", file.display()));
-    }
-    let output = Command::new("xz").arg("-dc").arg(&file).output();
-    let output = output.map_err(|error| format!("the program xz does not start: {error}"))?;
-    assert!(output.status.success(), "xz refuses {}", file.display());
-    Ok(String::from_utf8(output.stdout).expect("the vectors are text"))
-}
-
-/// The lines with a case: no comments, no empty lines.
-fn case_lines(text: &str) -> impl Iterator<Item = &str> {
-    text.lines().filter(|line| !line.is_empty() && !line.starts_with('#'))
-}
 
 /// Checks every line; gives the number of cases of each kind.
 fn check(text: &str) -> BTreeMap<char, usize> {
@@ -73,7 +42,10 @@ fn tell(what: &str, counts: &BTreeMap<char, usize>, start: Instant) {
 #[test]
 fn every_case_of_the_shared_vectors_agrees() {
     match shared_text() {
-        Err(reason) => say(&format!("SKIPPED: the shared vectors of level {LEVEL}: {reason}")),
+        Err(reason) => {
+            assert!(!shared_file().is_file(), "{reason}");
+            say(&format!("SKIPPED: the shared vectors of level {LEVEL}: {reason}"));
+        }
         Ok(text) => {
             let start = Instant::now();
             let counts = check(&text);
@@ -85,7 +57,7 @@ fn every_case_of_the_shared_vectors_agrees() {
 
 #[test]
 fn every_stored_case_agrees() {
-    let text = std::fs::read_to_string(stored_file()).expect("the stored cases are there");
+    let text = stored_text().expect("the stored cases are there");
     let start = Instant::now();
     let counts = check(&text);
     for kind in "MCRYEW".chars() {
@@ -97,7 +69,7 @@ fn every_stored_case_agrees() {
 
 #[test]
 fn the_stored_cases_hold_every_word_and_answer() {
-    let text = std::fs::read_to_string(stored_file()).expect("the stored cases are there");
+    let text = stored_text().expect("the stored cases are there");
     for word in model::words::ALL {
         let sign = format!(" > C 0 {word:04X} ");
         assert!(text.contains(&sign), "no stored case with word {word:04X}");
@@ -111,7 +83,7 @@ fn the_stored_cases_hold_every_word_and_answer() {
 /// A wrong result must be found: each stored case is given a changed result.
 #[test]
 fn a_changed_result_does_not_agree() {
-    let text = std::fs::read_to_string(stored_file()).expect("the stored cases are there");
+    let text = stored_text().expect("the stored cases are there");
     for line in case_lines(&text) {
         let (case, wanted) = line.split_once(" > ").expect("a case and its result");
         let (kind, figures) = wanted.split_at(2);

@@ -1,7 +1,7 @@
 -- `order::judge`: with the slot count and the current DF that the image gives.
 use mathlib.Core.Path.{sym, _∙_}
 use Rattle.judging.specs.Judge.{judgeOf}
-use Rattle.judging.proofs.Readied.{ready}
+use Rattle.deciding.proofs.Readied.{ready}
 use borrow.Author.Needs.{needs}
 use Rattle.judging.proofs.order.judge.Statement.{statement}
 use Rattle.judging.proofs.order.judge.Tie as tie

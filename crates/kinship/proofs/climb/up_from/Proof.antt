@@ -1,7 +1,6 @@
 -- `climb::up_from`: the invariant is where the walk stands after i steps.
 use borrow.Author.Needs.{needs}
-use Prim.Native.Nat.{_-_, _+_, _≤_}
-use mathlib.Core.Path.{_≡_}
+use Prim.Native.Nat.{_-_, _≤_}
 use Rattle.kinship.proofs.Steps.{Climbed, climb-start, climb-more, climb-end}
 use Rattle.kinship.proofs.climb.up_from.Statement.{statement}
 use Rattle.kinship.proofs.climb.up_from.Tie as tie

@@ -1,7 +1,6 @@
 -- `count::one`: 1 or 0.
 use native.Mathlib.Omega.{arith}
 use Rattle.kinship.proofs.Counts.{one-is, none-is}
-use borrow.Author.Needs.{needs}
 use Rattle.kinship.proofs.count.one.Statement.{statement}
 use Rattle.kinship.proofs.count.one.Tie as tie
 

@@ -1,6 +1,6 @@
 -- `names::name_free`: the invariant is that no record passed has the name.
 use borrow.Author.Needs.{needs}
-use Prim.Native.Nat.{_-_, _+_, _≤_}
+use Prim.Native.Nat.{_-_, _≤_}
 use mathlib.Core.Path.{_≡_}
 use mathlib.Core.Bool.{true}
 use Rattle.sound.specs.Table.{viewAt}

@@ -1,5 +1,4 @@
 -- `room::charge`: the invariant is the sum over the slots passed, and its bound.
-use native.Mathlib.Omega.{arith}
 use Prim.Native.Nat.{_-_, _≤_, _*_}
 use mathlib.Core.Path.{_≡_}
 use Rattle.kinship.proofs.Costs.{chargedBelow, charged-start, charged-more, charged-end}

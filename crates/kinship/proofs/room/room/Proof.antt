@@ -1,5 +1,4 @@
 -- `room::room`: total less charge.
-use native.Mathlib.Omega.{arith}
 use Rattle.kinship.proofs.Costs.{room-is}
 use borrow.Author.Needs.{needs}
 use Rattle.kinship.proofs.room.room.Statement.{statement}

@@ -2,7 +2,6 @@
 use mathlib.Core.Path.{refl}
 use Rattle.maker.proofs.Buffers.{slots-short}
 use Rattle.maker.specs.Making.{slotsIn}
-use borrow.Author.Needs.{needs}
 use Rattle.maker.proofs.fresh.slots_in.Statement.{statement}
 use Rattle.maker.proofs.fresh.slots_in.Tie as tie
 

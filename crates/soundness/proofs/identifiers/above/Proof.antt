@@ -1,5 +1,5 @@
 -- `identifiers::above`: each file before s differs from the directories above it.
-use Prim.Native.Nat.{_+_, _*_, _-_, _<_, _≤_}
+use Prim.Native.Nat.{_-_, _≤_}
 use mathlib.Core.Path.{_≡_}
 use mathlib.Core.Bool.{true}
 use Rattle.laws.specs.Walks.{allBelow}

@@ -1,5 +1,5 @@
 -- `names::distinct`: no pair before (s, t) has one name; the label is left at the first that has.
-use Prim.Native.Nat.{_+_, _*_, _-_, _<_, _≤_}
+use Prim.Native.Nat.{_-_, _≤_}
 use mathlib.Core.Path.{_≡_}
 use mathlib.Core.Bool.{true}
 use Rattle.soundness.proofs.NamePairs.{Apart, ApartTo, apart-start, pair-start, pair-turn, apart-turn, apart-stop, apart-end}

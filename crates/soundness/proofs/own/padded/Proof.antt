@@ -10,6 +10,9 @@ shared-slice-read-wide c = search needs
 wide-requires : tie.Need-wide-requires
 wide-requires c κs = search needs
 
+cast-n : tie.Need-cast-n
+cast-n c = search needs
+
 returns : tie.Need-returns
 returns c = search padded-not
 
@@ -31,6 +34,7 @@ padded-spec =
     (tie.spec
     shared-slice-read-wide
     wide-requires
+    cast-n
     returns
     add-zeros
     add-zeros-2

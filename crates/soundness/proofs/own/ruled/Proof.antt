@@ -20,6 +20,9 @@ shared-slice-read-wide c = search needs
 wide-requires : tie.Need-wide-requires
 wide-requires c κs = search needs
 
+cast-n : tie.Need-cast-n
+cast-n c = search needs
+
 returns-2 : tie.Need-returns-2
 returns-2 c = search ruled-long
 
@@ -49,6 +52,7 @@ ruled-spec =
     returns
     shared-slice-read-wide
     wide-requires
+    cast-n
     returns-2
     add-to
     sub-fits-record

@@ -1,5 +1,5 @@
 -- `own::zeros`: all bytes before k are zero.
-use Prim.Native.Nat.{_+_, _*_, _-_, _<_, _≤_}
+use Prim.Native.Nat.{_-_, _≤_}
 use mathlib.Core.Path.{_≡_}
 use mathlib.Core.Bool.{true}
 use Rattle.soundness.proofs.Bytes.{zeros-start, zeros-more, zeros-stop, zeros-end}

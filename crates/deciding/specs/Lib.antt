@@ -1,0 +1,4 @@
+pub mod Steps
+pub mod Target
+pub mod Ready
+pub mod Commands

@@ -1,0 +1,106 @@
+//! Measuring: many runs of the same work from the same start.
+
+use std::hint::black_box;
+use std::time::{Duration, Instant};
+
+/// Fewest and most runs of one measurement.
+const FEWEST_RUNS: usize = 15;
+const MOST_RUNS: usize = 2000;
+/// One copy of a small image is too short for the clock; so many are timed.
+const COPIES_AT_ONCE: u32 = 64;
+
+/// What many runs took, in microseconds.
+#[derive(Clone, Copy, Debug, PartialEq)]
+pub struct Times {
+    pub median: f64,
+    pub lowest: f64,
+}
+
+impl Times {
+    /// Of at least one run.
+    fn of(mut seconds: Vec<f64>) -> Times {
+        seconds.sort_by(f64::total_cmp);
+        let at = |place: usize| seconds.get(place).copied().unwrap_or(f64::NAN) * 1e6;
+        Times { median: at(seconds.len() / 2), lowest: at(0) }
+    }
+}
+
+/// Runs two works in turn, each on a fresh copy of the start, as often as the
+/// budget allows; so both meet the same load. Making the copies is not
+/// measured.
+pub fn measure<T, U>(
+    start: &[u8],
+    budget: Duration,
+    mut one: impl FnMut(&mut [u8]) -> T,
+    mut other: impl FnMut(&mut [u8]) -> U,
+) -> (Times, Times) {
+    let mut image = start.to_vec();
+    let (first, second) = repeat(budget, || {
+        let first = time(&mut image, start, &mut one);
+        (first, time(&mut image, start, &mut other))
+    })
+    .into_iter()
+    .unzip();
+    (Times::of(first), Times::of(second))
+}
+
+/// One run on a fresh copy of the start, in seconds.
+fn time<T>(image: &mut [u8], start: &[u8], work: &mut impl FnMut(&mut [u8]) -> T) -> f64 {
+    image.copy_from_slice(start);
+    let before = Instant::now();
+    black_box(work(black_box(image)));
+    before.elapsed().as_secs_f64()
+}
+
+/// One copy of an image of so many bytes.
+pub fn measure_copy(length: usize, budget: Duration) -> Times {
+    let start = vec![0xA5; length];
+    let mut image = vec![0; length];
+    let seconds = repeat(budget, || {
+        let before = Instant::now();
+        for _ in 0..COPIES_AT_ONCE {
+            black_box(&mut image).copy_from_slice(black_box(&start));
+        }
+        before.elapsed().as_secs_f64() / f64::from(COPIES_AT_ONCE)
+    });
+    Times::of(seconds)
+}
+
+/// What each run gives, as often as the budget allows.
+fn repeat<T>(budget: Duration, mut run: impl FnMut() -> T) -> Vec<T> {
+    let begun = Instant::now();
+    let mut given = Vec::new();
+    // The first run fills the caches and is not counted.
+    run();
+    while given.len() < FEWEST_RUNS || (given.len() < MOST_RUNS && begun.elapsed() < budget) {
+        given.push(run());
+    }
+    given
+}
+
+#[cfg(test)]
+mod tests {
+    use super::*;
+
+    #[test]
+    fn median_and_lowest() {
+        let times = Times::of(vec![3e-6, 1e-6, 2e-6, 9e-6, 2.5e-6]);
+        assert!((times.median - 2.5).abs() < 1e-9 && (times.lowest - 1.0).abs() < 1e-9);
+    }
+
+    #[test]
+    fn every_run_starts_alike() {
+        let (mut runs, mut others) = (0, 0);
+        let one = |image: &mut [u8]| {
+            assert_eq!(image, [7; 4]);
+            image.fill(1);
+            runs += 1;
+        };
+        let other = |image: &mut [u8]| {
+            assert_eq!(image, [7; 4]);
+            others += 1;
+        };
+        measure(&[7; 4], Duration::ZERO, one, other);
+        assert_eq!((runs, others), (FEWEST_RUNS + 1, FEWEST_RUNS + 1));
+    }
+}

@@ -1,0 +1,106 @@
+//! Measures how long the proved card takes for each kind of command, on cards
+//! of several sizes and shapes, beside the model on the same work and one copy
+//! of the image.
+//!
+//!     cargo run --release -p bench [-- --milliseconds M] [--shape WORD]
+//!
+//! Each figure is the median of as many runs as M milliseconds allow (100), all
+//! in one process. It is no part of the tests: a loaded machine is slower.
+
+#![forbid(unsafe_code)]
+
+mod clock;
+mod table;
+mod work;
+
+use std::io::{self, Write};
+use std::process::ExitCode;
+use std::time::Duration;
+
+use card::lent;
+use cases::worst;
+use clock::{measure, measure_copy, Times};
+use work::{Call, Task};
+
+const SIZES: [usize; 4] = [16, 64, 256, 1023];
+const USAGE: &str = "usage: bench [--milliseconds M] [--shape WORD]";
+
+/// What was measured for one task on one card.
+pub struct Cell {
+    pub card: Times,
+    pub model: Times,
+    pub word: u16,
+}
+
+fn main() -> ExitCode {
+    let arguments: Vec<String> = std::env::args().skip(1).collect();
+    let Some((budget, shape)) = read(&arguments) else {
+        eprintln!("{USAGE}");
+        return ExitCode::from(2);
+    };
+    match measure_all(budget, &shape) {
+        // The reader of a pipe may have had enough.
+        Err(error) if error.kind() != io::ErrorKind::BrokenPipe => {
+            eprintln!("bench: {error}");
+            ExitCode::FAILURE
+        }
+        _ => ExitCode::SUCCESS,
+    }
+}
+
+/// Measures and prints, shape by shape, those whose title has the word.
+fn measure_all(budget: Duration, shape: &str) -> io::Result<()> {
+    let mut out = io::stdout().lock();
+    let copies = SIZES.map(|slots| measure_copy(16 + 64 * slots, budget));
+    write!(out, "{}", table::head(&SIZES, &copies))?;
+    for (number, title) in titles().into_iter().enumerate() {
+        if !title.contains(shape) {
+            continue;
+        }
+        let images = SIZES.map(|slots| worst::cards_of(slots).swap_remove(number).image);
+        writeln!(out, "\n{title}\n{}", table::columns(&SIZES))?;
+        for task in Task::ALL {
+            let cells = images.each_ref().map(|image| cell(task, image, budget));
+            writeln!(out, "{}", table::row(task.title(), &SIZES, &cells, &copies))?;
+        }
+    }
+    out.flush()
+}
+
+fn read(arguments: &[String]) -> Option<(Duration, String)> {
+    let (mut milliseconds, mut shape) = (100, String::new());
+    let mut words = arguments.iter();
+    while let Some(word) = words.next() {
+        match word.as_str() {
+            "--milliseconds" => milliseconds = words.next()?.parse().ok()?,
+            "--shape" => shape = words.next()?.clone(),
+            _ => return None,
+        }
+    }
+    Some((Duration::from_millis(milliseconds), shape))
+}
+
+fn titles() -> Vec<&'static str> {
+    worst::cards_of(16).into_iter().map(|worst| worst.title).collect()
+}
+
+/// Measures a task on a card, by the proved card and by the model.
+fn cell(task: Task, image: &[u8], budget: Duration) -> Cell {
+    let (start, call) = task.prepared(image);
+    let mut word = 0;
+    let (card, model) = match call {
+        Call::Sound => {
+            measure(&start, budget, |image| lent::is_sound(image), |image| model::sound(image))
+        }
+        Call::Report => {
+            measure(&start, budget, |image| lent::report(image), |image| model::report(image))
+        }
+        Call::Command(bytes) => {
+            let by_card = |image: &mut [u8]| lent::command(image, &bytes, &card::State::FULL);
+            let by_model = |image: &mut [u8]| model::command(image, &bytes, &model::State::FULL);
+            word = by_card(&mut start.clone()).map_or(0, |word| word.0);
+            measure(&start, budget, by_card, by_model)
+        }
+    };
+    Cell { card, model, word }
+}

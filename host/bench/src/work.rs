@@ -1,0 +1,156 @@
+//! What is measured: each call and each kind of command, on a card prepared so
+//! that the command has its effect wherever the card's shape allows it.
+
+use cases::actions::{bare, delete, select};
+use cases::template::FileData;
+use model::{Card, Record};
+
+/// A call with its command.
+pub enum Call {
+    Sound,
+    Report,
+    Command(Vec<u8>),
+}
+
+/// A kind of work.
+#[derive(Clone, Copy, PartialEq, Eq, Debug)]
+pub enum Task {
+    Sound,
+    Report,
+    UnknownInstruction,
+    SelectRoot,
+    SelectNothing,
+    CreateDf,
+    CreateEf,
+    DeleteFile,
+    DeleteTree,
+    Activate,
+    Deactivate,
+    TerminateEf,
+    TerminateDf,
+    TerminateCard,
+}
+
+impl Task {
+    pub const ALL: [Task; 14] = [
+        Task::Sound,
+        Task::Report,
+        Task::UnknownInstruction,
+        Task::SelectRoot,
+        Task::SelectNothing,
+        Task::CreateDf,
+        Task::CreateEf,
+        Task::DeleteFile,
+        Task::DeleteTree,
+        Task::Activate,
+        Task::Deactivate,
+        Task::TerminateEf,
+        Task::TerminateDf,
+        Task::TerminateCard,
+    ];
+
+    pub fn title(self) -> &'static str {
+        match self {
+            Task::Sound => "soundness alone",
+            Task::Report => "report",
+            Task::UnknownInstruction => "unknown instruction",
+            Task::SelectRoot => "SELECT, the root",
+            Task::SelectNothing => "SELECT, no such file",
+            Task::CreateDf => "CREATE, a DF",
+            Task::CreateEf => "CREATE, an EF",
+            Task::DeleteFile => "DELETE, last file",
+            Task::DeleteTree => "DELETE, first in root",
+            Task::Activate => "ACTIVATE",
+            Task::Deactivate => "DEACTIVATE",
+            Task::TerminateEf => "TERMINATE EF",
+            Task::TerminateDf => "TERMINATE DF",
+            Task::TerminateCard => "TERMINATE CARD USAGE",
+        }
+    }
+
+    /// The image from which the work starts, and the call.
+    pub fn prepared(self, image: &[u8]) -> (Vec<u8>, Call) {
+        let Some(mut card) = Card::decode(image) else {
+            return (image.to_vec(), Call::Sound);
+        };
+        let call = match self {
+            Task::Sound => Call::Sound,
+            Task::Report => Call::Report,
+            Task::UnknownInstruction => Call::Command(bare(0xB0)),
+            Task::SelectRoot => Call::Command(select(0x3F00)),
+            Task::SelectNothing => Call::Command(select(0x5555)),
+            Task::CreateDf => Call::Command(last_file_again(&mut card, 0x78)),
+            Task::CreateEf => Call::Command(last_file_again(&mut card, 0x41)),
+            Task::DeleteFile => {
+                let slot = last_slot(&card);
+                card.make_current(card.parent(slot));
+                Call::Command(delete(card.record(slot).identifier))
+            }
+            Task::DeleteTree => {
+                card.make_current(0);
+                Call::Command(delete(card.record(1).identifier))
+            }
+            Task::Activate => on_last_file(&mut card, 0x04, 0x44),
+            Task::Deactivate => on_last_file(&mut card, 0x05, 0x04),
+            Task::TerminateEf => on_last_file(&mut card, 0x05, 0xE8),
+            Task::TerminateDf => on_last_file(&mut card, 0x05, 0xE6),
+            Task::TerminateCard => Call::Command(bare(0xFE)),
+        };
+        (card.encode(), call)
+    }
+}
+
+/// The last slot in use; nothing stands beneath it in any of the shapes.
+fn last_slot(card: &Card) -> usize {
+    card.used_slots().last().unwrap_or(0)
+}
+
+/// Takes the last file away, and gives the CREATE of one like it.
+fn last_file_again(card: &mut Card, descriptor: u8) -> Vec<u8> {
+    let slot = last_slot(card);
+    let last = card.record(slot).clone();
+    card.make_current(usize::from(last.parent));
+    card.put(slot, Record::FREE);
+    let mut file = FileData::plain(descriptor, last.identifier, last.size);
+    if file.is_df() && !last.name.is_empty() {
+        file.name = Some(last.name);
+    }
+    file.command()
+}
+
+/// Makes the last file current, with its directory, in a life cycle.
+fn on_last_file(card: &mut Card, life_cycle: u8, ins: u8) -> Call {
+    let slot = last_slot(card);
+    card.make_current(card.parent(slot));
+    card.make_current(slot);
+    card.set_life_cycle(slot, life_cycle);
+    Call::Command(bare(ins))
+}
+
+#[cfg(test)]
+mod tests {
+    use super::*;
+    use cases::worst::cards_of;
+
+    /// Every command has its effect, but for those that a shape cannot have:
+    /// no EF to terminate, nothing to select.
+    #[test]
+    fn the_commands_do_what_their_titles_say() {
+        for worst in cards_of(64) {
+            let has_ef = worst.title.contains("identifier") || worst.title.contains("files");
+            for task in Task::ALL {
+                let (mut image, call) = task.prepared(&worst.image);
+                assert!(card::lent::is_sound(&image), "{}, {task:?}", worst.title);
+                let Call::Command(bytes) = call else { continue };
+                let wanted = match task {
+                    Task::UnknownInstruction => 0x6D00,
+                    Task::SelectNothing => 0x6A82,
+                    Task::TerminateEf if !has_ef => 0x6986,
+                    _ => 0x9000,
+                };
+                let word = card::lent::command(&mut image, &bytes, &card::State::FULL);
+                assert_eq!(word, Ok(card::Word(wanted)), "{}, {task:?}", worst.title);
+            }
+        }
+    }
+}

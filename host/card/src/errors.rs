@@ -1,0 +1,99 @@
+//! What can be refused apart from a command, and what to do about it.
+
+use std::error::Error;
+use std::fmt;
+
+/// Why the maker refused. The buffer is as it came.
+#[derive(Clone, Copy, PartialEq, Eq, Debug)]
+pub enum MakeError {
+    /// Answer 2: the length of the buffer fits no number of slots.
+    Length,
+    /// Answer 3: the root's total is 0 or more than the slots allow.
+    Total,
+    /// Answer 4: the root's rule is empty, too long or malformed.
+    Rule,
+    /// An answer that this version does not know.
+    Unknown(u32),
+}
+
+impl MakeError {
+    /// The library's number for it.
+    pub fn answer(self) -> u32 {
+        match self {
+            MakeError::Length => 2,
+            MakeError::Total => 3,
+            MakeError::Rule => 4,
+            MakeError::Unknown(answer) => answer,
+        }
+    }
+}
+
+impl fmt::Display for MakeError {
+    fn fmt(&self, f: &mut fmt::Formatter<'_>) -> fmt::Result {
+        match self {
+            MakeError::Length => f.write_str(
+                "the buffer fits no card: give it 16 + 64 N bytes, N slots from 2 to 1,023",
+            ),
+            MakeError::Total => f.write_str(
+                "the root's total does not fit the slots: choose from 1 to 64 (N - 1) for N slots",
+            ),
+            MakeError::Rule => f.write_str(
+                "the root's access rule is malformed: give 1 to 16 bytes, groups of an AM byte \
+                 below 80 and one SC byte for each of its bits (7F00000000000000 allows all)",
+            ),
+            MakeError::Unknown(answer) => {
+                write!(f, "the card library gave the unknown answer {answer}: build both anew")
+            }
+        }
+    }
+}
+
+impl Error for MakeError {}
+
+/// The image is not sound, so that nothing was done with it.
+#[derive(Clone, Copy, PartialEq, Eq, Debug)]
+pub struct Damaged;
+
+impl fmt::Display for Damaged {
+    fn fmt(&self, f: &mut fmt::Formatter<'_>) -> fmt::Result {
+        f.write_str(
+            "the card image is damaged: it was left as it is; take an older copy of it, or make \
+             a new card",
+        )
+    }
+}
+
+impl Error for Damaged {}
+
+/// An image that a [`crate::Card`] was not made of, because it is damaged. It
+/// can be had back.
+#[derive(Clone, PartialEq, Eq)]
+pub struct DamagedImage {
+    image: Vec<u8>,
+}
+
+impl DamagedImage {
+    pub(crate) fn new(image: Vec<u8>) -> DamagedImage {
+        DamagedImage { image }
+    }
+
+    /// The bytes as they came.
+    pub fn into_image(self) -> Vec<u8> {
+        self.image
+    }
+}
+
+/// Tells the length only; an image may have 65,488 bytes.
+impl fmt::Debug for DamagedImage {
+    fn fmt(&self, f: &mut fmt::Formatter<'_>) -> fmt::Result {
+        write!(f, "DamagedImage of {} bytes", self.image.len())
+    }
+}
+
+impl fmt::Display for DamagedImage {
+    fn fmt(&self, f: &mut fmt::Formatter<'_>) -> fmt::Result {
+        Damaged.fmt(f)
+    }
+}
+
+impl Error for DamagedImage {}

@@ -1,0 +1,71 @@
+//! The border to the proved library: the only module with `unsafe`. Each
+//! function takes slices, hands on pointer and length, and gives back the
+//! library's numbers as they are, so that a comparison sees all of them.
+
+use std::ffi::c_uint;
+
+extern "C" {
+    fn hull_make(
+        image: *mut u8,
+        image_len: usize,
+        total: u32,
+        rule: *const u8,
+        rule_len: usize,
+    ) -> c_uint;
+    fn hull_command(
+        image: *mut u8,
+        image_len: usize,
+        command: *const u8,
+        command_len: usize,
+        messaging: u16,
+        external: u16,
+        user: u16,
+        channels: u8,
+    ) -> c_uint;
+    fn hull_report(image: *const u8, image_len: usize, numbers: *mut u32) -> c_uint;
+    fn hull_sound(image: *const u8, image_len: usize) -> c_uint;
+}
+
+/// The maker's answer: 0, 2, 3 or 4.
+pub fn make(image: &mut [u8], total: u32, rule: &[u8]) -> u32 {
+    // SAFETY: both pointers come from live slices with their own lengths, and
+    // stay valid for the call. The image is borrowed for this call alone, so
+    // nothing else reads or writes it, and the rule cannot overlap it. The
+    // library keeps no pointer after it returns.
+    unsafe { hull_make(image.as_mut_ptr(), image.len(), total, rule.as_ptr(), rule.len()) }
+}
+
+/// The answer in the high half, the word in the low half.
+pub fn command(image: &mut [u8], command: &[u8], sets: [u16; 3], channels: u8) -> u32 {
+    let [messaging, external, user] = sets;
+    // SAFETY: as for `make`: live slices with their own lengths, the image
+    // borrowed for this call alone, no pointer kept.
+    unsafe {
+        hull_command(
+            image.as_mut_ptr(),
+            image.len(),
+            command.as_ptr(),
+            command.len(),
+            messaging,
+            external,
+            user,
+            channels,
+        )
+    }
+}
+
+/// The answer; total, room, children and files beneath, all 0 with answer 1.
+/// They start as no report could leave them, to show that each is written.
+pub fn report(image: &[u8]) -> (u32, [u32; 4]) {
+    let mut numbers = [u32::MAX; 4];
+    // SAFETY: the image is a live slice with its own length, only read; the
+    // library writes four numbers, and `numbers` has room for four.
+    let answer = unsafe { hull_report(image.as_ptr(), image.len(), numbers.as_mut_ptr()) };
+    (answer, numbers)
+}
+
+/// 1 if the image is sound, else 0.
+pub fn sound(image: &[u8]) -> u32 {
+    // SAFETY: the image is a live slice with its own length, only read.
+    unsafe { hull_sound(image.as_ptr(), image.len()) }
+}

@@ -1,0 +1,74 @@
+//! The proved card, safe to use from Rust.
+//!
+//! [`Card`] owns its image and is what most programs want; [`lent`] has the
+//! same four calls on a buffer of the caller's, sound or not. Everything that
+//! decides is the proved library; here bytes are handed to it, and its numbers
+//! get names. No input makes a function of this crate panic.
+//!
+//! ```
+//! use card::{Card, State};
+//!
+//! let mut card = Card::make(8, 448, &card::OPEN_RULE)?;
+//! let word = card.command(&[0x00, 0xA4, 0x00, 0x0C, 0x02, 0x3F, 0x00], &State::FULL)?;
+//! assert_eq!(format!("{word}: {}", word.meaning()), "9000: done");
+//! assert_eq!(card.report()?.room, 448);
+//! # Ok::<(), Box<dyn std::error::Error>>(())
+//! ```
+//!
+//! | what | where |
+//! |---|---|
+//! | a card that owns its image | [`Card`] |
+//! | the calls on a lent buffer | [`lent`] |
+//! | the same with the library's bare numbers | [`ffi`] |
+//! | what the caller has authenticated | [`State`] |
+//! | status words and their meaning | [`Word`] |
+//! | refusals, and what to do about them | [`MakeError`], [`Damaged`], [`DamagedImage`] |
+
+#![deny(unsafe_code)]
+#![warn(missing_docs)]
+#![deny(
+    clippy::indexing_slicing,
+    clippy::unwrap_used,
+    clippy::expect_used,
+    clippy::panic,
+    clippy::unreachable
+)]
+
+mod errors;
+#[allow(unsafe_code)]
+pub mod ffi;
+pub mod lent;
+mod owned;
+mod state;
+mod word;
+
+pub use errors::{Damaged, DamagedImage, MakeError};
+pub use lent::Report;
+pub use owned::Card;
+pub use state::State;
+pub use word::Word;
+
+/// Bytes of an image before its first record.
+pub const HEADER_BYTES: usize = 16;
+/// Bytes of a record, which is what a file itself takes of its directory.
+pub const RECORD_BYTES: usize = 64;
+/// Fewest slots of a card.
+pub const FEWEST_SLOTS: usize = 2;
+/// Most slots of a card.
+pub const MOST_SLOTS: usize = 1023;
+/// The access rule that allows everything always.
+pub const OPEN_RULE: [u8; 8] = [0x7F, 0, 0, 0, 0, 0, 0, 0];
+
+/// The length of the image of a card with so many slots.
+pub const fn image_length(slots: usize) -> usize {
+    RECORD_BYTES.saturating_mul(slots).saturating_add(HEADER_BYTES)
+}
+
+/// The largest total that the root of a card with so many slots may have; 0
+/// where there is no such card.
+pub fn largest_total(slots: usize) -> u32 {
+    if !(FEWEST_SLOTS..=MOST_SLOTS).contains(&slots) {
+        return 0;
+    }
+    u32::try_from(RECORD_BYTES * (slots - 1)).unwrap_or(0)
+}

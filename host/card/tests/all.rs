@@ -1,0 +1,180 @@
+//! The wrapper: each call reaches the library and tells what it answers, and
+//! no input makes it panic.
+
+use card::{image_length, largest_total, lent, Card, Damaged, MakeError, State, Word, OPEN_RULE};
+
+/// CREATE of the DF 7F10 with a total of 256.
+const CREATE_DF: &[u8] = &[
+    0x00, 0xE0, 0x00, 0x00, 0x19, 0x62, 0x17, 0x82, 0x02, 0x78, 0x21, 0x83, 0x02, 0x7F, 0x10, 0x8A,
+    0x01, 0x05, 0x8C, 0x03, 0x06, 0x00, 0x00, 0x81, 0x02, 0x01, 0x00, 0xC6, 0x01, 0x00,
+];
+
+/// CREATE of the EF 6F07 of 9 bytes.
+const CREATE_EF: &[u8] = &[
+    0x00, 0xE0, 0x00, 0x00, 0x15, 0x62, 0x13, 0x82, 0x02, 0x41, 0x21, 0x83, 0x02, 0x6F, 0x07, 0x8A,
+    0x01, 0x05, 0x8C, 0x02, 0x01, 0x00, 0x80, 0x02, 0x00, 0x09,
+];
+
+fn fresh() -> Card {
+    Card::make(8, 448, &OPEN_RULE).expect("a card that the maker grants")
+}
+
+fn run(card: &mut Card, command: &[u8]) -> u16 {
+    card.command(command, &State::FULL).expect("a sound card").0
+}
+
+#[test]
+fn the_whole_case_of_the_scope() {
+    let mut card = fresh();
+    assert_eq!(run(&mut card, CREATE_DF), 0x9000);
+    assert_eq!(run(&mut card, CREATE_EF), 0x9000);
+    assert_eq!(run(&mut card, CREATE_EF), 0x6A89);
+    let report = card.report().expect("a sound card");
+    assert_eq!(report, lent::Report { total: 256, room: 256 - 73, children: 1, beneath: 1 });
+    assert_eq!(run(&mut card, &[0x00, 0xA4, 0x00, 0x0C, 0x02, 0x3F, 0x00]), 0x9000);
+    let report = card.report().expect("a sound card");
+    assert_eq!(report, lent::Report { total: 448, room: 128, children: 1, beneath: 2 });
+    assert!(card.is_sound());
+}
+
+#[test]
+fn a_refusal_leaves_the_image_and_an_effect_changes_it() {
+    let mut card = fresh();
+    let before = card.image().to_vec();
+    assert_eq!(run(&mut card, &[0x00, 0xA4, 0x00, 0x0C, 0x02, 0x6F, 0x07]), 0x6A82);
+    assert_eq!(card.image(), before);
+    assert_eq!(run(&mut card, CREATE_EF), 0x9000);
+    assert_ne!(card.image(), before);
+}
+
+#[test]
+fn the_state_reaches_the_library_field_by_field() {
+    // Secure messaging, external and user authentication of environment 1.
+    for (condition, state) in [
+        (0x41, State { messaging: 2, ..State::EMPTY }),
+        (0x21, State { external: 2, ..State::EMPTY }),
+        (0x11, State { user: 2, ..State::EMPTY }),
+    ] {
+        let mut card = Card::make(8, 448, &[0x02, condition]).expect("a well-formed rule");
+        let others = State {
+            messaging: !state.messaging,
+            external: !state.external,
+            user: !state.user,
+            channels: 0,
+        };
+        assert_eq!(card.command(CREATE_EF, &others), Ok(Word(0x6982)), "{condition:02X}");
+        let crowded = State { channels: 0b0010, ..state };
+        assert_eq!(card.command(CREATE_EF, &crowded), Ok(Word(0x6985)), "{condition:02X}");
+        let basic = State { channels: 0b1111_0001, ..state };
+        assert_eq!(card.command(CREATE_EF, &basic), Ok(Word::DONE), "{condition:02X}");
+    }
+}
+
+#[test]
+fn the_maker_refuses_in_its_order_and_says_what_to_do() {
+    let refused = |slots, total, rule: &[u8]| Card::make(slots, total, rule).err();
+    assert_eq!(refused(1, 0, &[]), Some(MakeError::Length));
+    assert_eq!(refused(1024, 1, &OPEN_RULE), Some(MakeError::Length));
+    assert_eq!(refused(usize::MAX, 1, &OPEN_RULE), Some(MakeError::Length));
+    assert_eq!(refused(2, 0, &[]), Some(MakeError::Total));
+    assert_eq!(refused(2, 65, &[]), Some(MakeError::Total));
+    assert_eq!(refused(2, 64, &[]), Some(MakeError::Rule));
+    assert_eq!(refused(2, 64, &[0; 17]), Some(MakeError::Rule));
+    assert_eq!(refused(2, 64, &[0x80]), Some(MakeError::Rule));
+    for (error, answer, advice) in [
+        (MakeError::Length, 2, "16 + 64 N"),
+        (MakeError::Total, 3, "64 (N - 1)"),
+        (MakeError::Rule, 4, "1 to 16 bytes"),
+        (MakeError::Unknown(9), 9, "build both anew"),
+    ] {
+        assert_eq!(error.answer(), answer);
+        assert!(error.to_string().contains(advice), "{error}");
+    }
+}
+
+#[test]
+fn a_refused_buffer_is_left_alone() {
+    let mut buffer = vec![0xA5; image_length(2) - 1];
+    assert_eq!(lent::make(&mut buffer, 64, &OPEN_RULE), Err(MakeError::Length));
+    assert!(buffer.iter().all(|&byte| byte == 0xA5));
+}
+
+#[test]
+fn a_damaged_image_is_found_and_given_back() {
+    let mut image = fresh().into_image();
+    image[15] = 1;
+    let refused = Card::from_image(image.clone()).expect_err("header byte 15 must be 0");
+    assert!(refused.to_string().contains("damaged"), "{refused}");
+    assert_eq!(refused.into_image(), image);
+    assert!(!lent::is_sound(&image));
+    assert_eq!(lent::report(&image), Err(Damaged));
+    let before = image.clone();
+    assert_eq!(lent::command(&mut image, CREATE_EF, &State::FULL), Err(Damaged));
+    assert_eq!(image, before);
+}
+
+#[test]
+fn an_image_goes_out_and_comes_back() {
+    let mut card = fresh();
+    run(&mut card, CREATE_DF);
+    let again = Card::from_image(card.clone().into_image()).expect("a sound image");
+    assert_eq!(again, card);
+}
+
+#[test]
+fn every_word_has_a_meaning_of_its_own() {
+    let meanings: std::collections::BTreeSet<_> = Word::all().map(Word::meaning).collect();
+    assert_eq!(meanings.len(), Word::all().count());
+    assert_eq!(Word::all().filter(|word| word.is_success()).count(), 3);
+    assert_eq!(Word(0x6F00).meaning(), "a word that this card never gives");
+    assert_eq!(Word(0x6A8A).to_string(), "6A8A");
+}
+
+#[test]
+fn the_largest_total_is_the_one_that_the_maker_grants() {
+    for slots in [2, 3, 8, 1023] {
+        let largest = largest_total(slots);
+        assert!(Card::make(slots, largest, &OPEN_RULE).is_ok(), "{slots} slots");
+        assert_eq!(Card::make(slots, largest + 1, &OPEN_RULE).err(), Some(MakeError::Total));
+    }
+    assert_eq!([0, 1, 1024, usize::MAX].map(largest_total), [0; 4]);
+}
+
+/// Bytes without a pattern, the same in every run.
+fn noise(seed: u64) -> impl Iterator<Item = u8> {
+    let mut state = seed.wrapping_mul(0x9E37_79B9_7F4A_7C15) | 1;
+    std::iter::repeat_with(move || {
+        state ^= state << 13;
+        state ^= state >> 7;
+        state ^= state << 17;
+        state.to_be_bytes()[0]
+    })
+}
+
+#[test]
+fn no_bytes_make_a_call_panic() {
+    for length in [0, 1, 15, 16, 17, 80, 143, 144, 208, 1040, 65_488, 65_489, 70_000] {
+        for seed in 0..8 {
+            let mut image: Vec<u8> = noise(seed).take(length).collect();
+            if let (true, Some(mark)) = (seed % 2 == 0, image.get_mut(..3)) {
+                mark.copy_from_slice(b"UFT");
+            }
+            let before = image.clone();
+            assert!(!lent::is_sound(&image));
+            assert!(lent::report(&image).is_err());
+            let command: Vec<u8> = noise(seed + 99).take(length % 300).collect();
+            assert!(lent::command(&mut image, &command, &State::FULL).is_err());
+            assert_eq!(image, before);
+        }
+    }
+    let mut card = fresh();
+    for seed in 0..2000u64 {
+        let mut command: Vec<u8> = noise(seed).take((seed % 290) as usize).collect();
+        if let Some(class) = command.first_mut() {
+            *class = 0;
+        }
+        let word = card.command(&command, &State::FULL).expect("a card stays sound");
+        assert!(Word::all().any(|known| known == word), "{word}");
+    }
+    assert!(card.is_sound());
+}

@@ -1,0 +1,30 @@
+//! The proved card against the model (01: "Other cases are run by program and
+//! compared with an independent one"): answer, word, numbers and every byte
+//! of the image, and demand 3's ledger beside every history.
+//!
+//! A disagreement is shrunk to the smallest case that still shows it, and
+//! told as a line of the vectors, which the program `compare` runs again.
+//!
+//! | what | where |
+//! |---|---|
+//! | who can be compared: the proved card, the model | [`subject`] |
+//! | what a line gives | [`outcome`] |
+//! | a case, line by line, with the ledger | [`check`] |
+//! | the seven decisions of a rule, as commands | [`rights`] |
+//! | making a case smaller | [`shrink`], [`pieces`] |
+//! | stored and shared vectors | [`vectors`] |
+
+#![forbid(unsafe_code)]
+#![warn(missing_docs)]
+
+pub mod check;
+pub mod outcome;
+pub mod pieces;
+pub mod rights;
+pub mod shrink;
+pub mod subject;
+pub mod vectors;
+
+pub use check::{check_case, check_line, Disagreement, Tally};
+pub use outcome::{run, Outcome};
+pub use subject::{Model, Pair, Proved, Subject};

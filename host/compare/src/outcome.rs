@@ -1,0 +1,96 @@
+//! What a subject gives for a line of the vectors.
+
+use std::fmt;
+
+use model::lines::{hex, Case as Line};
+
+use crate::subject::Subject;
+
+/// Everything that a call gives or leaves.
+#[derive(Clone, PartialEq, Eq, Debug)]
+pub enum Outcome {
+    /// M.
+    Make {
+        /// 0, 2, 3 or 4.
+        answer: u32,
+        /// The buffer afterwards.
+        buffer: Vec<u8>,
+    },
+    /// C.
+    Command {
+        /// 0 or 1.
+        answer: u32,
+        /// The word; 0000 with answer 1.
+        word: u16,
+        /// The image afterwards.
+        image: Vec<u8>,
+        /// Pool and response buffer, which stay as they came, in hex.
+        untouched: String,
+    },
+    /// R, and whether the image is sound.
+    Report {
+        /// 0 or 1.
+        answer: u32,
+        /// Total, room, children, files beneath.
+        numbers: [u32; 4],
+        /// What the call for soundness says.
+        sound: bool,
+    },
+    /// Y.
+    Replay {
+        /// What is printed.
+        output: Vec<u8>,
+    },
+}
+
+/// Runs a line; nothing for E and W, for which the card has no call of its
+/// own ([`crate::rights`] asks the same by commands).
+pub fn run(subject: &dyn Subject, line: &Line) -> Option<Outcome> {
+    match line {
+        Line::Make { buffer, total, rule } => {
+            let mut buffer = buffer.clone();
+            let answer = subject.make(&mut buffer, *total, rule);
+            Some(Outcome::Make { answer, buffer })
+        }
+        Line::Command { image, command, state, pool, response } => {
+            let mut image = image.clone();
+            let (answer, word) = subject.command(&mut image, command, state);
+            let untouched = format!("{} {}", hex(pool), hex(response));
+            Some(Outcome::Command { answer, word, image, untouched })
+        }
+        Line::Report { image } => {
+            let (answer, numbers) = subject.report(image);
+            Some(Outcome::Report { answer, numbers, sound: subject.sound(image) })
+        }
+        Line::Replay { input } => Some(Outcome::Replay { output: subject.replay(input) }),
+        Line::Decide { .. } | Line::Fit { .. } => None,
+    }
+}
+
+impl Outcome {
+    /// The result as the vectors write it.
+    pub fn result(&self) -> String {
+        match self {
+            Outcome::Make { answer, buffer } => format!("M {answer} {}", hex(buffer)),
+            Outcome::Command { answer, word, image, untouched } => {
+                format!("C {answer} {word:04X} {} {untouched} 0 0 0", hex(image))
+            }
+            Outcome::Report { answer, numbers: [total, room, children, beneath], .. } => {
+                format!("R {answer} {total} {room} {children} {beneath}")
+            }
+            Outcome::Replay { output } => format!("Y {}", hex(output)),
+        }
+    }
+}
+
+/// The vectors' result, and for a report what the vectors do not tell.
+impl fmt::Display for Outcome {
+    fn fmt(&self, f: &mut fmt::Formatter<'_>) -> fmt::Result {
+        f.write_str(&self.result())?;
+        match self {
+            Outcome::Report { sound: true, .. } => f.write_str(" (sound)"),
+            Outcome::Report { sound: false, .. } => f.write_str(" (not sound)"),
+            _ => Ok(()),
+        }
+    }
+}

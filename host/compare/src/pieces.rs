@@ -1,0 +1,169 @@
+//! The pieces of a line of the vectors that may be left out or made plain, and
+//! what counts as smaller.
+
+use model::lines::Case as Line;
+use model::State;
+
+const HEADER: usize = 16;
+const RECORD: usize = 64;
+const ROOT_TOTAL: usize = HEADER + 12;
+/// Header bytes 7 to 10 of a card whose root is current, without an EF.
+const NOTHING_CHOSEN: [u8; 4] = [0, 0, 0xFF, 0xFF];
+
+/// What counts as smaller: fewer bytes, then plainer bytes, then a plainer
+/// state.
+pub fn weight(line: &Line) -> (usize, usize, usize) {
+    let image = image_of(line).unwrap_or(&[]);
+    let bytes = bytes_of(line);
+    let plain = |at: usize| u8::from(at == 9 || at == 10) * 0xFF;
+    let marked = image.iter().enumerate().filter(|&(at, &byte)| byte != plain(at)).count();
+    let marked = marked + bytes.iter().filter(|&&byte| byte != 0).count();
+    let state = match line {
+        Line::Command { state, .. } if *state == State::FULL => 0,
+        Line::Command { state, .. } if *state == State::EMPTY => 1,
+        Line::Command { state, .. } if state.channels == 0 => 2,
+        _ => 3,
+    };
+    (image.len() + bytes.len(), marked, state)
+}
+
+/// A piece of a line that may be left out or made plain.
+#[derive(Clone, Copy)]
+pub enum Piece {
+    /// Only so many slots.
+    Slots(usize),
+    /// Records from a slot on, so many, freed, and nothing chosen.
+    Free(usize, usize),
+    /// One byte of the image zero.
+    ImageByte(usize),
+    /// Bytes of the command, rule or input from a place on left out.
+    Remove(usize, usize),
+    /// One byte of them zero.
+    Byte(usize),
+    /// Another state.
+    State(State),
+}
+
+/// All pieces of a line, the largest first.
+pub fn pieces_of(line: &Line) -> Vec<Piece> {
+    let image = image_of(line).unwrap_or(&[]);
+    let slots = image.len().saturating_sub(HEADER) / RECORD;
+    let bytes = bytes_of(line).len();
+    let mut all = vec![Piece::State(State::FULL), Piece::State(State::EMPTY)];
+    all.extend([2, slots / 4, slots / 2].map(Piece::Slots));
+    all.extend((2..slots).rev().map(Piece::Slots));
+    for width in halves(slots) {
+        all.extend((1..slots).rev().step_by(width).map(|slot| Piece::Free(slot, width)));
+    }
+    for width in halves(bytes) {
+        all.extend((0..bytes).rev().step_by(width).map(|at| Piece::Remove(at, width)));
+    }
+    all.extend((0..bytes).map(Piece::Byte));
+    let marked = image.iter().enumerate().filter(|(_, &byte)| byte != 0);
+    all.extend(marked.map(|(at, _)| Piece::ImageByte(at)));
+    all
+}
+
+impl Piece {
+    /// The line without the piece, if the line has it.
+    pub fn taken_from(self, line: &Line) -> Option<Line> {
+        match self {
+            Piece::State(state) => with_state(line, state),
+            Piece::Slots(slots) => with_image(line, cut(image_of(line)?, slots)?),
+            Piece::Free(slot, count) => with_image(line, freed(image_of(line)?, slot, count)?),
+            Piece::ImageByte(at) => with_image(line, zeroed(image_of(line)?, at)?),
+            Piece::Byte(at) => Some(with_bytes(line, zeroed(bytes_of(line), at)?)),
+            Piece::Remove(at, count) => {
+                let mut bytes = bytes_of(line).to_vec();
+                let end = bytes.len().min(at.saturating_add(count));
+                (at < end).then(|| bytes.drain(at..end).count())?;
+                Some(with_bytes(line, bytes))
+            }
+        }
+    }
+}
+
+/// A half, a quarter, ... down to 1.
+fn halves(count: usize) -> impl Iterator<Item = usize> {
+    std::iter::successors(Some(count / 2), |width| Some(width / 2)).take_while(|&width| width > 0)
+}
+
+/// The image with its first slots only, and a root's total that fits them.
+fn cut(image: &[u8], slots: usize) -> Option<Vec<u8>> {
+    let mut image = image.get(..HEADER + RECORD * slots)?.to_vec();
+    image.get_mut(5..7)?.copy_from_slice(&u16::try_from(slots).ok()?.to_be_bytes());
+    let total = image.get_mut(ROOT_TOTAL..ROOT_TOTAL + 4)?;
+    let most = u32::try_from(RECORD * slots.saturating_sub(1)).ok()?;
+    let now = u32::from_be_bytes(total.try_into().ok()?);
+    total.copy_from_slice(&now.min(most).to_be_bytes());
+    Some(image)
+}
+
+fn freed(image: &[u8], slot: usize, count: usize) -> Option<Vec<u8>> {
+    let mut image = image.to_vec();
+    let end = image.len().min(HEADER + RECORD * (slot + count));
+    image.get_mut(HEADER + RECORD * slot..end)?.fill(0);
+    let chosen = image.get(7..11)?;
+    let still_there = chosen.chunks(2).all(|pair| {
+        let at = usize::from(u16::from_be_bytes([pair[0], pair[1]]));
+        !(slot..slot + count).contains(&at)
+    });
+    if !still_there {
+        image.get_mut(7..11)?.copy_from_slice(&NOTHING_CHOSEN);
+    }
+    Some(image)
+}
+
+fn zeroed(bytes: &[u8], at: usize) -> Option<Vec<u8>> {
+    let mut bytes = bytes.to_vec();
+    *bytes.get_mut(at)? = 0;
+    Some(bytes)
+}
+
+fn image_of(line: &Line) -> Option<&[u8]> {
+    match line {
+        Line::Command { image, .. } | Line::Report { image } => Some(image),
+        Line::Make { buffer, .. } => Some(buffer),
+        _ => None,
+    }
+}
+
+/// The command, the maker's rule, or replay's input.
+fn bytes_of(line: &Line) -> &[u8] {
+    match line {
+        Line::Command { command, .. } => command,
+        Line::Make { rule, .. } => rule,
+        Line::Replay { input } => input,
+        _ => &[],
+    }
+}
+
+fn with_image(line: &Line, new: Vec<u8>) -> Option<Line> {
+    let mut line = line.clone();
+    match &mut line {
+        Line::Command { image, .. } | Line::Report { image } => *image = new,
+        Line::Make { buffer, .. } => *buffer = new,
+        _ => return None,
+    }
+    Some(line)
+}
+
+fn with_bytes(line: &Line, new: Vec<u8>) -> Line {
+    let mut line = line.clone();
+    match &mut line {
+        Line::Command { command, .. } => *command = new,
+        Line::Make { rule, .. } => *rule = new,
+        Line::Replay { input } => *input = new,
+        _ => {}
+    }
+    line
+}
+
+fn with_state(line: &Line, new: State) -> Option<Line> {
+    let mut line = line.clone();
+    match &mut line {
+        Line::Command { state, .. } => *state = new,
+        _ => return None,
+    }
+    Some(line)
+}

@@ -1,0 +1,73 @@
+//! Making a disagreement smaller: pieces of the case are left out or made
+//! plain as long as it still shows. What is left is easier to understand.
+
+use cases::History;
+use model::lines::Case as Line;
+
+use crate::check::{check_history, check_line, Disagreement, Tally};
+use crate::pieces::{pieces_of, weight};
+use crate::subject::Pair;
+
+/// How many smaller cases are tried at most.
+const MOST_TRIES: usize = 20_000;
+
+/// The smallest disagreement found from this one on.
+pub fn smallest(pair: Pair, found: Disagreement) -> Disagreement {
+    match found {
+        Disagreement::Line { line, .. } => {
+            let shows = |line: &Line| check_line(pair, line, &mut Tally::default()).is_err();
+            let line = smallest_line(*line, &shows);
+            match check_line(pair, &line, &mut Tally::default()) {
+                Err(smaller) => smaller,
+                Ok(_) => Disagreement::Unsteady { line: line.into() },
+            }
+        }
+        Disagreement::Ledger { history, complaint } => smallest_history(pair, history, complaint),
+        Disagreement::Unsteady { .. } => found,
+    }
+}
+
+/// Leaves out single commands, from the last on, as long as something still
+/// disagrees.
+fn smallest_history(pair: Pair, whole: History, complaint: String) -> Disagreement {
+    let mut best = Disagreement::Ledger { history: whole, complaint };
+    let mut at = usize::MAX;
+    while let Disagreement::Ledger { history, .. } = &best {
+        at = at.min(history.steps.len());
+        let Some(place) = at.checked_sub(1) else { break };
+        at = place;
+        let mut fewer = history.clone();
+        fewer.steps.remove(place);
+        if let Err(smaller) = check_history(pair, &fewer, &mut Tally::default()) {
+            best = smaller;
+        }
+    }
+    match best {
+        Disagreement::Line { .. } => smallest(pair, best),
+        _ => best,
+    }
+}
+
+/// Takes every smaller line that still shows, until none does.
+fn smallest_line(line: Line, shows: &dyn Fn(&Line) -> bool) -> Line {
+    let mut best = line;
+    let mut tries = 0;
+    loop {
+        let before = weight(&best);
+        for piece in pieces_of(&best) {
+            // The piece was chosen in an earlier best; in the present one it
+            // may no longer be there.
+            let Some(smaller) = piece.taken_from(&best) else { continue };
+            tries += 1;
+            if tries > MOST_TRIES {
+                return best;
+            }
+            if weight(&smaller) < weight(&best) && shows(&smaller) {
+                best = smaller;
+            }
+        }
+        if weight(&best) == before {
+            return best;
+        }
+    }
+}

@@ -1,0 +1,124 @@
+//! Who can be compared: whatever offers the calls of 01 with their numbers.
+
+use model::replay::{MOST_BYTES, ROOT_RULE};
+use model::State;
+
+/// The calls of 01 with their numbers as the documents give them.
+pub trait Subject {
+    /// The maker's answer.
+    fn make(&self, buffer: &mut [u8], total: u32, rule: &[u8]) -> u32;
+
+    /// A command's answer and word.
+    fn command(&self, image: &mut [u8], command: &[u8], state: &State) -> (u32, u16);
+
+    /// The report's answer and numbers.
+    fn report(&self, image: &[u8]) -> (u32, [u32; 4]);
+
+    /// Whether the image is sound.
+    fn sound(&self, image: &[u8]) -> bool;
+
+    /// What replay prints for an input, by the calls above.
+    fn replay(&self, input: &[u8]) -> Vec<u8> {
+        if input.len() > MOST_BYTES {
+            return b"BIG\n".to_vec();
+        }
+        match self.fresh_for(input) {
+            Some((mut image, stream)) => self.play(&mut image, stream).into_bytes(),
+            None => b"BAD\n".to_vec(),
+        }
+    }
+
+    /// The card that a stream's header asks for, and the commands.
+    fn fresh_for<'a>(&self, input: &'a [u8]) -> Option<(Vec<u8>, &'a [u8])> {
+        let (header, stream) = input.split_first_chunk::<11>()?;
+        let [b'U', b'F', b'S', 0, 1, n1, n0, t3, t2, t1, t0] = *header else {
+            return None;
+        };
+        let slots = usize::from(u16::from_be_bytes([n1, n0]));
+        let mut image = vec![0xA5; 16 + 64 * slots];
+        let answer = self.make(&mut image, u32::from_be_bytes([t3, t2, t1, t0]), &ROOT_RULE);
+        (answer == 0).then_some((image, stream))
+    }
+
+    /// The words of a stream's commands, a line each.
+    fn play(&self, image: &mut [u8], mut stream: &[u8]) -> String {
+        let mut words = String::new();
+        while !stream.is_empty() {
+            let cut = stream.split_first_chunk::<2>().and_then(|(length, left)| {
+                left.split_at_checked(usize::from(u16::from_be_bytes(*length)))
+            });
+            let Some((command, left)) = cut else {
+                return words + "CUT\n";
+            };
+            let (_, word) = self.command(image, command, &State::FULL);
+            words += &format!("{word:04X}\n");
+            stream = left;
+        }
+        words
+    }
+}
+
+/// The proved card, by the library's bare numbers.
+pub struct Proved;
+
+impl Subject for Proved {
+    fn make(&self, buffer: &mut [u8], total: u32, rule: &[u8]) -> u32 {
+        card::ffi::make(buffer, total, rule)
+    }
+
+    fn command(&self, image: &mut [u8], command: &[u8], state: &State) -> (u32, u16) {
+        let sets = [state.messaging, state.external, state.user];
+        let both = card::ffi::command(image, command, sets, state.channels);
+        (both >> 16, both as u16)
+    }
+
+    fn report(&self, image: &[u8]) -> (u32, [u32; 4]) {
+        card::ffi::report(image)
+    }
+
+    fn sound(&self, image: &[u8]) -> bool {
+        card::ffi::sound(image) == 1
+    }
+}
+
+/// The model.
+pub struct Model;
+
+impl Subject for Model {
+    fn make(&self, buffer: &mut [u8], total: u32, rule: &[u8]) -> u32 {
+        u32::from(model::make(buffer, total, rule))
+    }
+
+    fn command(&self, image: &mut [u8], command: &[u8], state: &State) -> (u32, u16) {
+        let outcome = model::command(image, command, state);
+        (u32::from(outcome.answer), outcome.word)
+    }
+
+    fn report(&self, image: &[u8]) -> (u32, [u32; 4]) {
+        let (answer, numbers) = model::report(image);
+        (u32::from(answer), numbers)
+    }
+
+    fn sound(&self, image: &[u8]) -> bool {
+        model::sound(image)
+    }
+
+    fn replay(&self, input: &[u8]) -> Vec<u8> {
+        model::replay(input)
+    }
+}
+
+/// The two that are compared: the card in question and what it is held
+/// against.
+#[derive(Clone, Copy)]
+pub struct Pair<'a> {
+    /// The card in question.
+    pub card: &'a dyn Subject,
+    /// What it is held against.
+    pub model: &'a dyn Subject,
+}
+
+impl Pair<'static> {
+    /// The proved card against the model.
+    pub const PROVED: Pair<'static> = Pair { card: &Proved, model: &Model };
+}

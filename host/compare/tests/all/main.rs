@@ -1,0 +1,14 @@
+//! The tests of the comparison, one module a subject.
+
+#![forbid(unsafe_code)]
+
+mod generated;
+mod impostors;
+mod program;
+mod vectors;
+
+/// Prints a line past the capture of the test harness.
+fn say(line: &str) {
+    use std::io::Write;
+    let _ = writeln!(std::io::stderr(), "{line}");
+}

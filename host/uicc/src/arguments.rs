@@ -1,0 +1,193 @@
+//! The command line: what is wished for, and the help text.
+
+use std::ffi::OsString;
+use std::path::PathBuf;
+
+use card::{largest_total, State, OPEN_RULE};
+
+use crate::{hex, Failure};
+
+pub const HELP: &str = "\
+uicc: a test UICC's files, on the proved card
+
+  uicc run SCRIPT [--image IMAGE] [card] [state]
+        plays a script on a fresh card, or on IMAGE, which is saved afterwards
+  uicc show IMAGE
+        prints the tree of files, each directory's room as a bar
+  uicc new IMAGE [card] [--force]
+        writes the image of a fresh card; --force replaces a file
+
+A SCRIPT has one command a line, in hex; blanks do not matter, and # begins a
+comment. The whole script is read before its first command is played.
+
+card, for a fresh one:
+  --slots N         slots for files, the root among them, 2 to 1023 (64)
+  --total BYTES     the root's total, 1 to 64 (N - 1) (the largest)
+  --rule HEX        the root's access rule (7F00000000000000, all allowed)
+
+state, the conditions that hold while the script is played:
+  --messaging HEX   environments with secure messaging, 16 bits (FFFF)
+  --external HEX    environments with external authentication (FFFF)
+  --user HEX        environments with user authentication (FFFF)
+  --channels HEX    open channels, bits 1 to 3 (00)
+
+Exit status: 0 done, also when the card refused commands; 1 a file, an image or
+a script is wrong; 2 the command line is wrong.
+";
+
+const DEFAULT_SLOTS: usize = 64;
+
+/// A fresh card that is wished for.
+#[derive(Debug, PartialEq, Eq)]
+pub struct Fresh {
+    pub slots: usize,
+    pub total: u32,
+    pub rule: Vec<u8>,
+}
+
+impl Fresh {
+    /// The card in a few words.
+    pub fn describe(&self) -> String {
+        let rule: String = self.rule.iter().map(|byte| format!("{byte:02X}")).collect();
+        format!("fresh card of {} slots, root total {}, root rule {rule}", self.slots, self.total)
+    }
+}
+
+/// What the command line asks for.
+#[derive(Debug, PartialEq, Eq)]
+pub enum Wish {
+    Help,
+    Run { script: PathBuf, image: Option<PathBuf>, fresh: Fresh, state: State },
+    Show { image: PathBuf },
+    New { image: PathBuf, fresh: Fresh, replace: bool },
+}
+
+/// The options as they are written, none twice.
+#[derive(Default)]
+struct Options {
+    given: Vec<(String, OsString)>,
+    files: Vec<PathBuf>,
+    force: bool,
+}
+
+/// Reads the arguments, the program's name not among them.
+pub fn read(arguments: &[OsString]) -> Result<Wish, Failure> {
+    wish(arguments).map_err(Failure::Usage)
+}
+
+fn wish(arguments: &[OsString]) -> Result<Wish, String> {
+    let is_help = |word: &OsString| word == "--help" || word == "-h";
+    let Some((verb, rest)) = arguments.split_first() else {
+        return Err("say what to do: run, show or new".to_string());
+    };
+    if arguments.iter().any(is_help) || verb == "help" {
+        return Ok(Wish::Help);
+    }
+    match verb.to_str() {
+        Some("run") => {
+            let mut options = Options::read(rest, &RUN_OPTIONS)?;
+            let script = options.only_file("a SCRIPT")?;
+            let image = options.take("--image").map(PathBuf::from);
+            if let (Some(_), Some(name)) = (&image, options.first_of(&CARD_OPTIONS)) {
+                return Err(format!("{name} is for a fresh card: leave it or --image out"));
+            }
+            Ok(Wish::Run { script, image, fresh: options.fresh()?, state: options.state()? })
+        }
+        Some("show") => Ok(Wish::Show { image: Options::read(rest, &[])?.only_file("an IMAGE")? }),
+        Some("new") => {
+            let mut options = Options::read(rest, &NEW_OPTIONS)?;
+            let image = options.only_file("an IMAGE")?;
+            Ok(Wish::New { image, fresh: options.fresh()?, replace: options.force })
+        }
+        _ => Err(format!("{} is nothing to do: run, show or new", verb.to_string_lossy())),
+    }
+}
+
+const CARD_OPTIONS: [&str; 3] = ["--slots", "--total", "--rule"];
+const NEW_OPTIONS: [&str; 4] = ["--slots", "--total", "--rule", "--force"];
+const RUN_OPTIONS: [&str; 8] = [
+    "--image",
+    "--slots",
+    "--total",
+    "--rule",
+    "--messaging",
+    "--external",
+    "--user",
+    "--channels",
+];
+
+impl Options {
+    fn read(words: &[OsString], known: &[&str]) -> Result<Options, String> {
+        let mut options = Options::default();
+        let mut words = words.iter();
+        while let Some(word) = words.next() {
+            let name = word.to_string_lossy().into_owned();
+            if !name.starts_with("--") {
+                options.files.push(PathBuf::from(word));
+            } else if !known.contains(&name.as_str()) {
+                return Err(format!("{name} is no option here"));
+            } else if name == "--force" {
+                options.force = true;
+            } else if options.given.iter().any(|(other, _)| *other == name) {
+                return Err(format!("{name} is given twice"));
+            } else {
+                let value = words.next().ok_or_else(|| format!("{name} needs a value"))?;
+                options.given.push((name, value.clone()));
+            }
+        }
+        Ok(options)
+    }
+
+    fn only_file(&mut self, what: &str) -> Result<PathBuf, String> {
+        match (self.files.pop(), self.files.is_empty()) {
+            (Some(file), true) => Ok(file),
+            (None, _) => Err(format!("name {what}")),
+            _ => Err(format!("name {what}, and only one")),
+        }
+    }
+
+    fn first_of(&self, names: &[&str]) -> Option<&str> {
+        self.given.iter().map(|(name, _)| name.as_str()).find(|name| names.contains(name))
+    }
+
+    fn take(&mut self, name: &str) -> Option<OsString> {
+        let place = self.given.iter().position(|(given, _)| given == name)?;
+        Some(self.given.swap_remove(place).1)
+    }
+
+    /// A value read in some way, or what stands in for it.
+    fn value<T>(
+        &mut self,
+        name: &str,
+        what: &str,
+        read: impl Fn(&str) -> Option<T>,
+        otherwise: T,
+    ) -> Result<T, String> {
+        let Some(value) = self.take(name) else { return Ok(otherwise) };
+        let text = value.to_string_lossy();
+        read(&text).ok_or_else(|| format!("{name} {text}: this is not {what}"))
+    }
+
+    fn fresh(&mut self) -> Result<Fresh, String> {
+        let number = |text: &str| text.parse().ok();
+        let slots = self.value("--slots", "a number", number, DEFAULT_SLOTS)?;
+        let total = |text: &str| text.parse().ok();
+        let total = self.value("--total", "a number of bytes", total, largest_total(slots))?;
+        let rule = |text: &str| hex::bytes(text).ok();
+        let rule = self.value("--rule", "a row of hex bytes", rule, OPEN_RULE.to_vec())?;
+        Ok(Fresh { slots, total, rule })
+    }
+
+    fn state(&mut self) -> Result<State, String> {
+        let set = |text: &str| u16::from_str_radix(text, 16).ok();
+        let what = "a hex number of 16 bits";
+        let full = State::FULL;
+        let channels = |text: &str| u8::from_str_radix(text, 16).ok();
+        Ok(State {
+            messaging: self.value("--messaging", what, set, full.messaging)?,
+            external: self.value("--external", what, set, full.external)?,
+            user: self.value("--user", what, set, full.user)?,
+            channels: self.value("--channels", "a hex number of 8 bits", channels, 0)?,
+        })
+    }
+}

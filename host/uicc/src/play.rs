@@ -1,0 +1,53 @@
+//! Plays the commands of a script on a card.
+
+use std::path::Path;
+
+use card::{Card, State};
+
+use crate::arguments::Fresh;
+use crate::script::Step;
+use crate::{describe, store};
+
+/// Plays on a fresh card, which is not kept.
+pub fn on_fresh(
+    card: &Card,
+    fresh: &Fresh,
+    steps: &[Step],
+    state: &State,
+) -> Result<String, String> {
+    let mut card = card.clone();
+    let told = play(&mut card, steps, state)?;
+    Ok(format!("{}\n{told}", fresh.describe()))
+}
+
+/// Plays on the card of an image file and saves it. Nothing is told before
+/// the image is safe.
+pub fn on_image(image: &Path, steps: &[Step], state: &State) -> Result<String, String> {
+    let mut card = store::load(image)?;
+    let before = card.clone();
+    let told = play(&mut card, steps, state)?;
+    let name = image.display();
+    if card == before {
+        return Ok(format!("{name}\n{told}{name} is as it was\n"));
+    }
+    store::save(image, card.image())?;
+    Ok(format!("{name}\n{told}{name} saved\n"))
+}
+
+/// A line for each command, and at the end the current directory.
+fn play(card: &mut Card, steps: &[Step], state: &State) -> Result<String, String> {
+    let mut told = String::new();
+    for Step { line, command } in steps {
+        let name = describe::command(command);
+        let word = card.command(command, state);
+        let word = word.map_err(|error| format!("line {line}, {name}: {error}"))?;
+        told += &format!("{line:>4}  {name:<20}  {word}  {}\n", word.meaning());
+    }
+    let report = card.report().map_err(|error| error.to_string())?;
+    let files = if report.children == 1 { "file" } else { "files" };
+    told += &format!(
+        "current directory: total {}, room {}, {} {files} in it, {} beneath it\n",
+        report.total, report.room, report.children, report.beneath
+    );
+    Ok(told)
+}

@@ -1,0 +1,102 @@
+//! The tree of files on a card, for people.
+
+use card::Card;
+use model::descriptor::{class, Class, Structure};
+use model::{Card as Decoded, Record};
+
+use crate::{bar, describe};
+
+/// Deeper levels are no longer drawn further to the right; they are numbered.
+const DEEPEST_DRAWN: u16 = 16;
+/// The tree's column is at least so wide.
+const NARROWEST: usize = 12;
+
+/// A file of the tree.
+struct Row {
+    /// Branches and identifier.
+    place: String,
+    slot: usize,
+}
+
+/// The whole tree with a line about the card above it.
+pub fn show(card: &Card) -> Result<String, String> {
+    let decoded = Decoded::decode(card.image()).ok_or("the image cannot be read")?;
+    let rows = rows(&decoded);
+    let (slots, used) = (decoded.records.len(), rows.len());
+    let width = rows.iter().map(|row| row.place.len()).max().unwrap_or(0).max(NARROWEST);
+    let mut told = format!("{slots} slots: {used} used, {} free\n\n", slots - used);
+    told += &line(width, ["file", "kind", "life cycle", "size", "room"]);
+    for Row { place, slot } in &rows {
+        let record = decoded.record(*slot);
+        let life_cycle = describe::life_cycle(record.life_cycle);
+        let (size, notes) = (record.size.to_string(), notes(&decoded, *slot));
+        told += &line(width, [place, kind(record), life_cycle, &size, &notes]);
+    }
+    Ok(told)
+}
+
+fn line(width: usize, [place, kind, life_cycle, size, notes]: [&str; 5]) -> String {
+    let text = format!("{place:width$}  {kind:12}  {life_cycle:14}  {size:>10}  {notes}");
+    format!("{}\n", text.trim_end())
+}
+
+/// All files, each directory before its children, these in their slots' order.
+fn rows(card: &Decoded) -> Vec<Row> {
+    let mut children = vec![Vec::new(); card.records.len()];
+    for slot in card.used_slots().filter(|&slot| slot != 0) {
+        if let Some(list) = children.get_mut(card.parent(slot)) {
+            list.push(slot);
+        }
+    }
+    let mut rows = Vec::new();
+    let mut left = vec![(0, String::new(), String::new())];
+    while let Some((slot, branch, trunk)) = left.pop() {
+        let record = card.record(slot);
+        let level = match record.level {
+            level if level > DEEPEST_DRAWN => format!("(level {level}) "),
+            _ => String::new(),
+        };
+        rows.push(Row { place: format!("{branch}{level}{:04X}", record.identifier), slot });
+        let own = std::mem::take(&mut children[slot]);
+        let drawn = record.level < DEEPEST_DRAWN;
+        for (number, child) in own.into_iter().rev().enumerate() {
+            let (branch, below) = if number == 0 { ("`- ", "   ") } else { ("|- ", "|  ") };
+            let deeper = if drawn { format!("{trunk}{below}") } else { trunk.clone() };
+            left.push((child, format!("{trunk}{branch}"), deeper));
+        }
+    }
+    rows
+}
+
+/// A directory's room, an EF's records, a name, and whether it is current.
+fn notes(card: &Decoded, slot: usize) -> String {
+    let record = card.record(slot);
+    let mut notes = Vec::new();
+    if record.is_df() {
+        let bar = bar::used(card.charged(slot), u64::from(record.size));
+        notes.push(format!("{bar} {} left", card.room(slot)));
+    } else if record.record_length > 0 {
+        let length = u32::from(record.record_length);
+        notes.push(format!("{} records of {length}", record.size / length));
+    }
+    if !record.name.is_empty() {
+        let name: String = record.name.iter().map(|byte| format!("{byte:02X}")).collect();
+        notes.push(format!("name {name}"));
+    }
+    if slot == card.current_df {
+        notes.push("<- current directory".to_string());
+    } else if Some(slot) == card.current_ef {
+        notes.push("<- current file".to_string());
+    }
+    notes.join("  ")
+}
+
+fn kind(record: &Record) -> &'static str {
+    match class(record.descriptor) {
+        Class::Df => "directory",
+        Class::Ef(Structure::Transparent) => "transparent",
+        Class::Ef(Structure::LinearFixed) => "linear fixed",
+        Class::Ef(Structure::Cyclic) => "cyclic",
+        Class::Neither => "unknown",
+    }
+}

@@ -1,0 +1,44 @@
+//! The command line: help, and what is refused.
+
+use crate::folder::Folder;
+
+#[test]
+fn help_is_printed() {
+    let folder = Folder::new("help");
+    for arguments in [&["--help"][..], &["-h"], &["help"], &["run", "--help"]] {
+        let out = folder.done(arguments);
+        for verb in ["uicc run SCRIPT", "uicc show IMAGE", "uicc new IMAGE", "Exit status"] {
+            assert!(out.contains(verb), "{arguments:?}");
+        }
+    }
+}
+
+#[test]
+fn wrong_command_lines_are_refused() {
+    let folder = Folder::new("refused");
+    folder.write("script", "00040000\n");
+    for (arguments, told) in [
+        (&[][..], "say what to do"),
+        (&["play"], "play is nothing to do"),
+        (&["run"], "name a SCRIPT"),
+        (&["run", "script", "other"], "only one"),
+        (&["run", "script", "--slot", "4"], "--slot is no option here"),
+        (&["run", "script", "--slots"], "--slots needs a value"),
+        (&["run", "script", "--slots", "4", "--slots", "5"], "given twice"),
+        (&["run", "script", "--slots", "four"], "--slots four: this is not a number"),
+        (&["run", "script", "--slots", "-1"], "this is not a number"),
+        (&["run", "script", "--user", "10000"], "this is not a hex number of 16 bits"),
+        (&["run", "script", "--channels", "100"], "this is not a hex number of 8 bits"),
+        (&["run", "script", "--image", "card", "--total", "9"], "--total is for a fresh card"),
+        (&["show", "card", "--force"], "--force is no option here"),
+        (&["new", "card", "--slots", "1"], "N slots from 2 to 1,023"),
+        (&["new", "card", "--slots", "18446744073709551615"], "N slots from 2 to 1,023"),
+        (&["new", "card", "--slots", "2", "--total", "65"], "choose from 1 to 64 (N - 1)"),
+        (&["new", "card", "--rule", "80"], "access rule is malformed"),
+        (&["new", "card", "--rule", "8"], "this is not a row of hex bytes"),
+    ] {
+        let err = folder.refused(2, arguments);
+        assert!(err.contains(told) && err.contains("uicc --help"), "{arguments:?}: {err}");
+    }
+    assert_eq!(folder.names(), ["script"]);
+}

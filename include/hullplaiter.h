@@ -1,0 +1,116 @@
+/* hullplaiter.h: the file layer of a test UICC on a card image in a buffer that the caller lends.
+ *
+ * Link with libhullplaiter. Nothing to initialise, nothing to release.
+ *
+ * An image is 16 + 64 N bytes, N from 2 to 1023: 144 to 65488 bytes, with no alignment asked. hull_make makes one;
+ * after that every byte of it is the card's whole state, so it may be copied, stored, sent and mapped like any bytes.
+ *
+ * Lending. Every pointer is lent for the time of the call alone. The caller owns the memory before, during and after;
+ * the library allocates nothing, keeps no pointer, no number and no other state between calls, writes no memory but
+ * `image` of hull_make and hull_command and `numbers` of hull_report, and reads no byte past the length given.
+ *  - A `const` buffer is not written, and during the call nobody else may write it.
+ *  - A buffer that is not `const` is the call's alone: during the call nobody else may read or write it, and it may not
+ *    overlap any other argument.
+ *  - A buffer of length 0 may have any pointer, also NULL. Otherwise the pointer must be valid for that many bytes.
+ * Calls on different images may run on different threads at the same time, also with the same command or rule. Calls
+ * that only read (hull_report, hull_sound) may run at the same time on one image.
+ *
+ * Every call takes any bytes of any length, always returns, and its result depends on its arguments alone.
+ *
+ * Answers (01, "Making and reporting"):
+ *   0  done; for a command its word tells
+ *   1  the image is not sound (command, report): word 0000, numbers 0, image as it came
+ *   2  maker: the length is not 16 + 64 N with N 2 to 1023: buffer as it came
+ *   3  maker: the total is not 1 to 64 (N - 1): buffer as it came
+ *   4  maker: the rule is not 1 to 16 bytes, or not well formed: buffer as it came
+ * The maker checks 2, 3, 4 in that order. */
+#ifndef HULLPLAITER_H
+#define HULLPLAITER_H
+
+#include <stddef.h>
+#include <stdint.h>
+
+#ifdef __cplusplus
+extern "C" {
+#endif
+
+/* Sizes in bytes: the header, one record, a rule at most; slots of an image at least and at most. */
+#define HULL_HEADER_BYTES 16u
+#define HULL_RECORD_BYTES 64u
+#define HULL_RULE_MOST 16u
+#define HULL_SLOTS_LEAST 2u
+#define HULL_SLOTS_MOST 1023u
+#define HULL_IMAGE_BYTES(slots) (HULL_HEADER_BYTES + HULL_RECORD_BYTES * (size_t)(slots))
+
+#define HULL_DONE 0u
+#define HULL_NOT_SOUND 1u
+#define HULL_BAD_LENGTH 2u
+#define HULL_BAD_TOTAL 3u
+#define HULL_BAD_RULE 4u
+
+/* Makes a fresh card in image[0 .. image_length): the root 3F00 with descriptor 38, life cycle 05, that total and that
+ * rule, no name; the root current, no EF; all else free. `rule` is a compact rule (the value of tag 8C); it is copied
+ * into the image.
+ *
+ * total   1 to 64 (N - 1): what the root's direct children may use, each its size and 64 bytes
+ * returns HULL_DONE, and every byte of the image is written, whatever was there; or HULL_BAD_LENGTH, HULL_BAD_TOTAL or
+ *         HULL_BAD_RULE, and the buffer is as it came */
+uint32_t hull_make(uint8_t *image, size_t image_length, uint32_t total, const uint8_t *rule, size_t rule_length);
+
+/* Carries out one command on an image. `command` is the command as sent: CLA INS P1 P2, then Lc and data where it has
+ * them. It may be of any length, also 0 (6700).
+ *
+ * messaging, external, user
+ *         what has been authenticated: bit n of each set (bit 0 the lowest) is on if the secure messaging, the external
+ *         authentication, the user authentication of environment n is done; n = 15 never counts
+ * channels
+ *         a bit for each open channel, of which only bits 1 to 3 count: 0 if no other channel than the basic one is open
+ * returns 65536 times the answer, plus the word: HULL_ANSWER and HULL_WORD take them apart.
+ *         Answer HULL_DONE: the word tells. With 9000 the command has had its effect on the image; with 6283 or 6285 the
+ *         file is selected; with any other word every byte of the image is as it came.
+ *         Answer HULL_NOT_SOUND: the word is 0000, every byte as it came.
+ *         A sound image is sound afterwards.
+ *
+ * The words, in the order in which 01's table judges a command:
+ *   6700  under 4 bytes; or the length does not fit the command: CREATE 5 + Lc with Lc at least 1, SELECT and DELETE 7
+ *         with Lc 2, the others 4
+ *   6985  CLA 01 to 03; the card is terminated; CREATE, DELETE or TERMINATE while another channel is open; or the life
+ *         cycle of the file, or of one above it, does not allow the command
+ *   6E00  any other CLA but 00
+ *   6D00  an INS that is not built
+ *   6B00  P1 P2 not 00 00 (SELECT: not 00 0C)
+ *   6A80  CREATE: wrong data
+ *   6A82  no such file
+ *   6986  TERMINATE EF while no EF is current
+ *   6982  the file's rule does not allow the command with these sets
+ *   6A89  CREATE: the identifier is a sibling's, the current DF's, or one above
+ *   6A8A  CREATE: the name stands on the card already
+ *   6A84  CREATE: not enough memory
+ *   9000  done
+ *   6283  SELECT: done, the file is deactivated
+ *   6285  SELECT: done, the file is terminated */
+uint32_t hull_command(uint8_t *image, size_t image_length, const uint8_t *command, size_t command_length,
+                      uint16_t messaging, uint16_t external, uint16_t user, uint8_t channels);
+
+/* The two parts of what hull_command returns. */
+#define HULL_ANSWER(result) ((uint32_t)(result) >> 16)
+#define HULL_WORD(result) ((uint16_t)((uint32_t)(result)&0xFFFFu))
+
+/* Reports on the current DF. `numbers` is four numbers that the caller lends, each written on every answer:
+ *   numbers[0]  its total
+ *   numbers[1]  its room: the total less size and 64 of each direct child
+ *   numbers[2]  its direct children, DFs and EFs
+ *   numbers[3]  all files beneath it, DFs and EFs, itself not among them
+ *
+ * returns HULL_DONE; or HULL_NOT_SOUND with four zeros. It works on a terminated card too. */
+uint32_t hull_report(const uint8_t *image, size_t image_length, uint32_t numbers[4]);
+
+/* Whether the bytes are a sound image: 1 or 0. hull_command and hull_report look for themselves; this is for a caller
+ * who wants to know before. */
+uint32_t hull_sound(const uint8_t *image, size_t image_length);
+
+#ifdef __cplusplus
+}
+#endif
+
+#endif
