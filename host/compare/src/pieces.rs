@@ -7,11 +7,14 @@ use model::State;
 const HEADER: usize = 16;
 const RECORD: usize = 64;
 const ROOT_TOTAL: usize = HEADER + 12;
-/// Header bytes 7 to 10 of a card whose root is current, without an EF.
-const NOTHING_CHOSEN: [u8; 4] = [0, 0, 0xFF, 0xFF];
+/// Where the header tells the current DF and EF, and a record its parent.
+const CURRENT_DF: usize = 7;
+const CURRENT_EF: usize = 9;
+const PARENT: usize = 6;
+const NO_EF: u16 = 0xFFFF;
 
-/// What counts as smaller: fewer bytes, then plainer bytes, then a plainer
-/// state.
+/// What counts as smaller: fewer bytes, then more plain ones among them, then a
+/// plainer state.
 pub fn weight(line: &Line) -> (usize, usize, usize) {
     let image = image_of(line).unwrap_or(&[]);
     let bytes = bytes_of(line);
@@ -32,7 +35,7 @@ pub fn weight(line: &Line) -> (usize, usize, usize) {
 pub enum Piece {
     /// Only so many slots.
     Slots(usize),
-    /// Records from a slot on, so many, freed, and nothing chosen.
+    /// Records from a slot on, so many, freed.
     Free(usize, usize),
     /// One byte of the image zero.
     ImageByte(usize),
@@ -50,8 +53,7 @@ pub fn pieces_of(line: &Line) -> Vec<Piece> {
     let slots = image.len().saturating_sub(HEADER) / RECORD;
     let bytes = bytes_of(line).len();
     let mut all = vec![Piece::State(State::FULL), Piece::State(State::EMPTY)];
-    all.extend([2, slots / 4, slots / 2].map(Piece::Slots));
-    all.extend((2..slots).rev().map(Piece::Slots));
+    all.extend(halves(slots).map(|fewer| Piece::Slots((slots - fewer).max(2))));
     for width in halves(slots) {
         all.extend((1..slots).rev().step_by(width).map(|slot| Piece::Free(slot, width)));
     }
@@ -99,18 +101,27 @@ fn cut(image: &[u8], slots: usize) -> Option<Vec<u8>> {
     Some(image)
 }
 
+/// The image with records freed. Where they held the current DF, the nearest
+/// directory above that is left becomes current.
 fn freed(image: &[u8], slot: usize, count: usize) -> Option<Vec<u8>> {
-    let mut image = image.to_vec();
-    let end = image.len().min(HEADER + RECORD * (slot + count));
-    image.get_mut(HEADER + RECORD * slot..end)?.fill(0);
-    let chosen = image.get(7..11)?;
-    let still_there = chosen.chunks(2).all(|pair| {
-        let at = usize::from(u16::from_be_bytes([pair[0], pair[1]]));
-        !(slot..slot + count).contains(&at)
-    });
-    if !still_there {
-        image.get_mut(7..11)?.copy_from_slice(&NOTHING_CHOSEN);
+    let gone = slot..slot + count;
+    let number = |at: usize| Some(u16::from_be_bytes([*image.get(at)?, *image.get(at + 1)?]));
+    let mut df = number(CURRENT_DF)?;
+    let mut ef = number(CURRENT_EF)?;
+    for _ in gone.clone() {
+        if gone.contains(&usize::from(df)) {
+            df = number(HEADER + RECORD * usize::from(df) + PARENT)?;
+            ef = NO_EF;
+        }
     }
+    if gone.contains(&usize::from(ef)) {
+        ef = NO_EF;
+    }
+    let mut image = image.to_vec();
+    let end = image.len().min(HEADER + RECORD * gone.end);
+    image.get_mut(HEADER + RECORD * gone.start..end)?.fill(0);
+    image.get_mut(CURRENT_DF..CURRENT_EF)?.copy_from_slice(&df.to_be_bytes());
+    image.get_mut(CURRENT_EF..CURRENT_EF + 2)?.copy_from_slice(&ef.to_be_bytes());
     Some(image)
 }
 

@@ -8,8 +8,10 @@ use crate::check::{check_history, check_line, Disagreement, Tally};
 use crate::pieces::{pieces_of, weight};
 use crate::subject::Pair;
 
-/// How many smaller cases are tried at most.
-const MOST_TRIES: usize = 20_000;
+/// How many bytes of smaller cases are tried at most, and what a case counts
+/// beside its bytes; so large cards get fewer tries, and each search ends soon.
+const MOST_BYTES: usize = 60_000_000;
+const EACH_TRY: usize = 1000;
 
 /// The smallest disagreement found from this one on.
 pub fn smallest(pair: Pair, found: Disagreement) -> Disagreement {
@@ -51,18 +53,21 @@ fn smallest_history(pair: Pair, whole: History, complaint: String) -> Disagreeme
 /// Takes every smaller line that still shows, until none does.
 fn smallest_line(line: Line, shows: &dyn Fn(&Line) -> bool) -> Line {
     let mut best = line;
-    let mut tries = 0;
+    let mut tried = 0;
     loop {
         let before = weight(&best);
         for piece in pieces_of(&best) {
             // The piece was chosen in an earlier best; in the present one it
             // may no longer be there.
             let Some(smaller) = piece.taken_from(&best) else { continue };
-            tries += 1;
-            if tries > MOST_TRIES {
+            if weight(&smaller) >= weight(&best) {
+                continue;
+            }
+            tried += weight(&smaller).0 + EACH_TRY;
+            if tried > MOST_BYTES {
                 return best;
             }
-            if weight(&smaller) < weight(&best) && shows(&smaller) {
+            if shows(&smaller) {
                 best = smaller;
             }
         }

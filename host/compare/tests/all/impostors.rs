@@ -138,6 +138,20 @@ fn a_disagreement_is_shrunk_and_replays() {
     assert!(check_line(pair, &line, &mut Tally::default()).is_err(), "it shows again");
 }
 
+/// The largest cards are shrunk too, to a few slots.
+#[test]
+fn a_disagreement_on_a_large_card_is_shrunk() {
+    let impostor = Impostor {
+        command: |_, _, _, told| if told.1 == 0x9000 { (0, 0x6F00) } else { told },
+        ..HONEST
+    };
+    let pair = Pair { card: &impostor, model: &Model };
+    let Some(Disagreement::Line { line, .. }) = found(pair, Some(Kind::Worst)) else {
+        panic!("it must be found");
+    };
+    assert!(line.line().len() < 1000, "{} characters are left", line.line().len());
+}
+
 /// A card that charges every new file one byte, held against itself: only the
 /// ledger can find it.
 #[test]
