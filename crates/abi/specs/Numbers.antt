@@ -1,6 +1,5 @@
 -- How the numbers of a C call stand for what 01 names: the state that a command is given, and its reply as one number.
 use Prim.Native.Nat.{ℕ, _+_, _*_}
-use Rattle.rules.specs.declared.Sets.{Sets}
 use Rattle.verdict.specs.declared.State.{State}
 use Rattle.card.specs.declared.Reply.{Reply}
 use Rattle.card.specs.Command.{answerNumber, answerWord}

@@ -29,7 +29,14 @@ pub extern "C" fn hull_make(image: &mut [u8], total: u32, rule: &[u8]) -> u32
 
 // One command on an image: 65536 times the answer, plus the word.
 #[no_mangle]
-pub extern "C" fn hull_command(image: &mut [u8], command: &[u8], messaging: u16, external: u16, user: u16, channels: u8) -> u32
+pub extern "C" fn hull_command(
+    image: &mut [u8],
+    command: &[u8],
+    messaging: u16,
+    external: u16,
+    user: u16,
+    channels: u8,
+) -> u32
     ensures { λ r. ⌜ (r ≡ packed (replyOf (now (image .entry)) (now (command .entry)) (stateOf messaging external user channels))) × (now (image .exit) ≡ imageOf (now (image .entry)) (now (command .entry)) (stateOf messaging external user channels)) ⌝ }
 {
     let sets = Sets {

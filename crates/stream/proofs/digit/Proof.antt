@@ -1,0 +1,31 @@
+-- `digit`: `0` to `9`, then `A` to `F`.
+use Rattle.stream.specs.Text.{digitOf}
+use Rattle.laws.proofs.Branches.{is-lt, not-lt}
+use mathlib.Core.Path.{refl}
+use borrow.Author.Needs.{needs}
+use Rattle.stream.proofs.digit.Statement.{statement}
+use Rattle.stream.proofs.digit.Tie as tie
+
+cast-result : tie.Need-cast-result
+cast-result c = search needs
+
+add-result : tie.Need-add-result
+add-result c = search needs
+
+returns : tie.Need-returns
+unfolding digitOf
+returns c = search (is-lt, refl)
+
+cast-result-2 : tie.Need-cast-result-2
+cast-result-2 c = search needs
+
+add-result-2 : tie.Need-add-result-2
+add-result-2 c = search needs
+
+returns-2 : tie.Need-returns-2
+unfolding digitOf
+returns-2 c = search (not-lt, refl)
+
+pub digit-spec : {M : Type 1} → statement M
+digit-spec =
+    tie.close (tie.spec cast-result add-result returns cast-result-2 add-result-2 returns-2)

@@ -1,0 +1,14 @@
+-- `replay`: what `write` writes, in an array.
+use Rattle.stream.proofs.Made.{counted}
+use borrow.Author.Needs.{needs}
+use Rattle.stream.proofs.replay.Statement.{statement}
+use Rattle.stream.proofs.replay.Tie as tie
+
+write-requires : tie.Need-write-requires
+write-requires c κs = search needs
+
+returns : tie.Need-returns
+returns c = (search needs, search counted)
+
+pub replay-spec : {M : Type 1} → statement M
+replay-spec = tie.close (tie.spec write-requires returns)
