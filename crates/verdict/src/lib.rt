@@ -1,4 +1,4 @@
-// What passes between judging and applying a command (DESIGN: judge, then apply): what the caller hands over,
+// What passes between judging and applying a command (judge, then apply): what the caller hands over,
 // and the verdict, a refusal with its word or one effect with its numbers. No code. It may use laws, numbers,
 // rules, image and sound. specs/ has the status words of 01 and what each verdict gives: its word, and every
 // byte of the image afterwards.
