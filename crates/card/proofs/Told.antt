@@ -93,7 +93,7 @@ found-some : (f : Found) → (f ≡ Nothing → ⊥) → f ≡ At (slotIn f)
 found-some (At s) z = refl
 found-some Nothing z = absurd (z refl)
 
-found-at : (f : Found) → isFound f ≡ true → f ≡ At (slotIn f)
+pub found-at : (f : Found) → isFound f ≡ true → f ≡ At (slotIn f)
 found-at (At s) e = refl
 found-at Nothing e = absurd (false≢true e)
 

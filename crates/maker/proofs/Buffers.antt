@@ -12,11 +12,13 @@ use Rattle.laws.specs.Lists.{splice}
 use Rattle.laws.proofs.Says.{says}
 use Rattle.laws.proofs.Splices.{splice-step, splice-all}
 use Rattle.rules.specs.Rule.{fitsRecord}
-use Rattle.image.specs.Layout.{Sized, recordBytes, putRecord}
+use Rattle.image.specs.Layout.{Sized, recordBytes, putRecord, countOf}
 use Rattle.image.proofs.Made.{length-made}
+use Rattle.sound.specs.Table.{View, viewAt}
 use Rattle.sound.specs.Sound.{Sound}
 use Rattle.sound.specs.Effects.{rootHead, freshHeader, fresh}
-use Rattle.sound.proofs.Fresh.{sound-fresh}
+use Rattle.sound.proofs.Kept.{gone}
+use Rattle.sound.proofs.Fresh.{count, view-root, view-rest, sound-fresh}
 use Rattle.maker.specs.declared.Made.{Made}
 use Rattle.maker.specs.declared.Made.the-variants.{Done, BadLength, BadTotal, BadRule}
 use Rattle.maker.specs.Making.{slotsIn, fitsLength, fitsTotal, madeOf, answerOf, leftBy}
@@ -126,23 +128,43 @@ module _ (img : List ℕ) (total : ℕ) (rule : List ℕ) (a : Bool) (e : a ≡ 
       unfolding madeOf
       made-done w = rw (sym e ∙ not-false a t, ← f, sym g ∙ not-false b u, sym h ∙ not-false c w)
 
--- what the maker makes is sound: `Done` comes only after its three tests
-pub sound-made : (img : List ℕ) (total : ℕ) (rule : List ℕ) → madeOf img total rule ≡ Done → Sound (leftBy Done img total rule)
-unfolding madeOf
-sound-made img total rule e = go (fitsLength (length img)) (fitsTotal (slotsIn (length img)) total) (fitsRecord rule) refl refl refl e
-  where
-    made : fitsLength (length img) ≡ true → fitsTotal (slotsIn (length img)) total ≡ true → fitsRecord rule ≡ true → Sound (leftBy Done img total rule)
-    made a b c =
-        let h = length-says (length img) .0 a in
-        let t = total-says (slotsIn (length img)) total .0 b in
-        sound-fresh (slotsIn (length img)) total rule (h .0) (h .1 .0) (t .0) (t .1) (rule-says rule c) c
+-- an image holds the root alone, with that total
+pub record Alone (made : List ℕ) (total : ℕ) : Type 0 where
+  pub root : viewAt made 0 .size ≡ total
+  pub rest : (t : ℕ) → t < countOf made → (t ≡ 0 → ⊥) → viewAt made t ≡ gone
 
-    go : (a b c : Bool) → fitsLength (length img) ≡ a → fitsTotal (slotsIn (length img)) total ≡ b → fitsRecord rule ≡ c
-        → cond a (cond b (cond c Done BadRule) BadTotal) BadLength ≡ Done → Sound (leftBy Done img total rule)
-    go true true true p q r f = made p q r
-    go true true false p q r f = absurd (rule-done f)
-    go true false c p q r f = absurd (total-done f)
-    go false b c p q r f = absurd (length-done f)
+-- `Done` comes only after the maker's three tests
+module _ (img : List ℕ) (total : ℕ) (rule : List ℕ) where
+  done-tested : (P : Type 0) → (fitsLength (length img) ≡ true → fitsTotal (slotsIn (length img)) total ≡ true → fitsRecord rule ≡ true → P)
+      → madeOf img total rule ≡ Done → P
+  unfolding madeOf
+  done-tested P made e = go (fitsLength (length img)) (fitsTotal (slotsIn (length img)) total) (fitsRecord rule) refl refl refl e
+    where
+      go : (a b c : Bool) → fitsLength (length img) ≡ a → fitsTotal (slotsIn (length img)) total ≡ b → fitsRecord rule ≡ c
+          → cond a (cond b (cond c Done BadRule) BadTotal) BadLength ≡ Done → P
+      go true true true p q r f = made p q r
+      go true true false p q r f = absurd (rule-done f)
+      go true false c p q r f = absurd (total-done f)
+      go false b c p q r f = absurd (length-done f)
+
+  -- what it makes is sound
+  pub sound-made : madeOf img total rule ≡ Done → Sound (leftBy Done img total rule)
+  sound-made = done-tested (Sound (leftBy Done img total rule)) (λ a b c.
+      let h = length-says (length img) .0 a in
+      let t = total-says (slotsIn (length img)) total .0 b in
+      sound-fresh (slotsIn (length img)) total rule (h .0) (h .1 .0) (t .0) (t .1) (rule-says rule c) c)
+
+  -- and holds the root alone
+  pub alone-made : madeOf img total rule ≡ Done → Alone (leftBy Done img total rule) total
+  alone-made = done-tested (Alone (leftBy Done img total rule) total) (λ a b c.
+      let n = slotsIn (length img) in
+      let h = length-says (length img) .0 a in
+      let t = total-says n total .0 b in
+      let k = count n total rule (h .0) (h .1 .0) (t .0) (t .1) (rule-says rule c) c in
+      record {
+        root = ap (λ (x : View). x .size) (view-root n total rule (h .0) (h .1 .0) (t .0) (t .1) (rule-says rule c) c);
+        rest = λ s l z. view-rest n total rule (h .0) (h .1 .0) (t .0) (t .1) (rule-says rule c) c s (rw k at l) z;
+      })
 
 -- the maker's statement settles answer and buffer
 pub made-once : (img : List ℕ) (total : ℕ) (rule : List ℕ) (r q : Made) (x y : List ℕ)

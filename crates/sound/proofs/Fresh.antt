@@ -75,7 +75,7 @@ module _ (n total : ℕ) (rule : List ℕ) (least : 2 ≤ n) (most : n ≤ 1023)
   unfolding fresh freshHeader
   long = rw (length-append (freshHeader n), length-append (recordBytes (rootHead total) [] rule), whole, length-replicate {A = ℕ} (64 * (n - 1)) 0) (omega arith)
 
-  count : countOf (fresh n total rule) ≡ n
+  pub count : countOf (fresh n total rule) ≡ n
   unfolding fresh freshHeader countOf u16At
   count = omega arith
 
@@ -133,16 +133,19 @@ module _ (n total : ℕ) (rule : List ℕ) (least : 2 ≤ n) (most : n ≤ 1023)
       byte : (k : ℕ) → k < 64 → getD (recAt (fresh n total rule) t) k 0 ≡ 0
       byte k h = byte-in (fresh n total rule) t k h ∙ tail (base t + k) (base t + k - 80) (omega arith) (omega arith)
 
-  view : viewAt (fresh n total rule) 0 ≡ viewMade (rootHead total) []
-  view = ap viewOf root ∙ view-made (rootHead total) [] rule
+  pub view-root : viewAt (fresh n total rule) 0 ≡ viewMade (rootHead total) []
+  view-root = ap viewOf root ∙ view-made (rootHead total) [] rule
+
+  pub view-rest : (t : ℕ) → t < n → (t ≡ 0 → ⊥) → viewAt (fresh n total rule) t ≡ gone
+  view-rest t l z = ap viewOf (rest t l z) ∙ view-free
 
   own : (t : ℕ) → t < n → (t ≡ 0) ⊎ (t ≡ 0 → ⊥) → Own (recAt (fresh n total rule) t)
   own t l (inl e) = rw (e, root) (own-made (rootHead total) [] rule good)
   own t l (inr z) = rw (rest t l z) own-free
 
   kin : Kin n (viewAt (fresh n total rule))
-  kin = kin-alone n (viewAt (fresh n total rule)) (ap (λ (x : View). x .kind) view) (ap (λ (x : View). x .identifier) view) (ap (λ (x : View). x .parent) view) (ap (λ (x : View). x .level) view)
-      (rw (ap (λ (x : View). x .size) view) within) (ap (λ (x : View). x .name) view) (λ t l z. ap viewOf (rest t l z) ∙ view-free)
+  kin = kin-alone n (viewAt (fresh n total rule)) (ap (λ (x : View). x .kind) view-root) (ap (λ (x : View). x .identifier) view-root) (ap (λ (x : View). x .parent) view-root) (ap (λ (x : View). x .level) view-root)
+      (rw (ap (λ (x : View). x .size) view-root) within) (ap (λ (x : View). x .name) view-root) view-rest
 
   df : currentDfOf (fresh n total rule) ≡ 0
   unfolding fresh freshHeader currentDfOf u16At
@@ -157,5 +160,5 @@ module _ (n total : ℕ) (rule : List ℕ) (least : 2 ≤ n) (most : n ≤ 1023)
     header = header;
     records = rw count (λ s l. own s l (same-or s 0));
     kin = rw count kin;
-    current = rw (count, df, ef) (record { df-low = omega arith; df-dir = ap (λ (x : View). x .kind) view; ef-low = λ z. absurd (z refl); ef-file = λ z. absurd (z refl); ef-child = λ z. absurd (z refl) });
+    current = rw (count, df, ef) (record { df-low = omega arith; df-dir = ap (λ (x : View). x .kind) view-root; ef-low = λ z. absurd (z refl); ef-file = λ z. absurd (z refl); ef-child = λ z. absurd (z refl) });
   }

@@ -1,0 +1,95 @@
+-- Every verdict is what its command announces: a new file, a deletion, or neither (`judge-announces`).
+use mathlib.Core.Path.{_≡_, refl, sym, ap, _∙_}
+use mathlib.Core.Bool.{true}
+use mathlib.Core.List.{List}
+use Prim.Native.Nat.{ℕ}
+use lib.Dec.{eqb}
+use borrow.Author.Tests.{ne-eqb}
+use Rattle.laws.specs.declared.Found.the-variants.{At}
+use Rattle.laws.proofs.Says.{and-says}
+use Rattle.laws.proofs.Firsts.{first-is}
+use Rattle.rules.specs.declared.Sets.{Sets}
+use Rattle.rules.specs.Descriptor.{df}
+use Rattle.image.specs.Layout.{countOf, currentDfOf}
+use Rattle.sound.specs.Table.{viewAt}
+use Rattle.sound.specs.Kinship.{isChildNamed, childNamed, freeSlot}
+use Rattle.sound.proofs.Says.{child-says}
+use Rattle.template.specs.declared.Data.{Data}
+use Rattle.template.specs.declared.Data.the-variants.{Df, Ef, Bad}
+use Rattle.template.specs.Data.{dataOf}
+use Rattle.verdict.specs.declared.State.{State}
+use Rattle.verdict.specs.declared.Verdict.{Verdict}
+use Rattle.verdict.specs.declared.Verdict.the-variants.{Refuse, Select, Create, Delete, Live}
+use Rattle.verdict.specs.Applied.{sentData}
+use Rattle.deciding.specs.Steps.{Plan, followed}
+use Rattle.deciding.specs.Target.{slotIn, selected, creating}
+use Rattle.deciding.specs.Commands.{selecting, select, create, delete}
+use Rattle.judging.specs.Command.{instruction, sentIdentifier, sharedSteps, selectFile, createFile, deleteFile}
+use Rattle.judging.specs.Judge.{lifePlan, planFor, judgeFor, judgeOf}
+use Rattle.card.proofs.Steps.{cond-by, chosen-by, judged-by, followed-by, anyWord}
+use Rattle.card.proofs.Told.{found-at}
+use Rattle.history.specs.Ledger.{makes, deletes, neither}
+use Rattle.history.specs.Story.{newFile, announced}
+
+abbrev pub Announces : List ℕ → List ℕ → Verdict → Type 0
+Announces img c (Refuse w) = Unit {0}
+Announces img c (Select d e w) = announced c ≡ neither
+Announces img c (Create s h a b from to) = announced c ≡ makes (h .identifier) (h .size) (eqb (h .kind) df)
+Announces img c (Delete s) = announced c ≡ deletes (viewAt img s .identifier)
+Announces img c (Live s life) = announced c ≡ neither
+
+module _ (img c : List ℕ) where
+  refused : (w : ℕ) → anyWord w ≡ true → Announces img c (Refuse w)
+  refused w k = tt
+
+  -- a plan's verdict does
+  Fit : Plan → Type 0
+  Fit p = Announces img c (followed p)
+
+  select-announces : (n d x : ℕ) → instruction c ≡ selectFile → Announces img c (followed (select img n d x))
+  select-announces n d x e = followed-by (Announces img c) anyWord refused _ refl (λ a. either (slotIn (selected img n d x)) (unfold announced in rw e))
+    where
+      either : (s : ℕ) → announced c ≡ neither → Announces img c (selecting img d s)
+      either s q = unfold selecting in cond-by (Announces img c) (eqb (viewAt img s .kind) df) _ _ (λ h. q) (λ h. q)
+
+  create-announces : (n d : ℕ) (sets : Sets) → instruction c ≡ createFile → Announces img c (followed (create img n d (sentData c) sets))
+  create-announces n d sets e = followed-by (Announces img c) anyWord refused _ refl (λ a. new (dataOf (sentData c)) (unfold announced in rw e))
+    where
+      new : (f : Data) → announced c ≡ newFile f → Announces img c (creating img d (slotIn (freeSlot n (viewAt img))) f)
+      new Bad q = tt
+      new (Df k i l a b from to z) q = q
+      new (Ef k i l m from to z) q = q
+
+  delete-announces : (n d : ℕ) (sets : Sets) → instruction c ≡ deleteFile → Announces img c (followed (delete img n d (sentIdentifier c) sets))
+  unfolding childNamed
+  delete-announces n d sets e = followed-by (Announces img c) anyWord refused _ refl (λ a. found (found-at _ (and-says _ _ .0 a .0)))
+    where
+      sent : announced c ≡ deletes (sentIdentifier c)
+      sent = unfold announced in rw e
+
+      found : childNamed n (viewAt img) d (sentIdentifier c) ≡ At (slotIn (childNamed n (viewAt img) d (sentIdentifier c)))
+          → announced c ≡ deletes (viewAt img (slotIn (childNamed n (viewAt img) d (sentIdentifier c))) .identifier)
+      found q =
+          let f = first-is n (isChildNamed (viewAt img) d (sentIdentifier c)) _ q in
+          sent ∙ ap deletes (sym (child-says (viewAt img) d (sentIdentifier c) _ .0 (f .here) .1))
+
+  life-announces : (d i : ℕ) (sets : Sets) → announced c ≡ neither → Announces img c (followed (lifePlan img d i sets))
+  unfolding lifePlan Fit
+  life-announces d i sets q =
+      chosen-by Fit i _ _ _ (λ e. followed-by (Announces img c) anyWord refused _ refl (λ a. q))
+      (λ z. chosen-by Fit i _ _ _ (λ e. followed-by (Announces img c) anyWord refused _ refl (λ a. q))
+      (λ z. chosen-by Fit i _ _ _ (λ e. followed-by (Announces img c) anyWord refused _ refl (λ a. q))
+      (λ z. chosen-by Fit i _ _ _ (λ e. followed-by (Announces img c) anyWord refused _ refl (λ a. q))
+      (λ z. followed-by (Announces img c) anyWord refused _ refl (λ a. q)))))
+
+  plan-announces : (n d : ℕ) (st : State) → Announces img c (followed (planFor img n d c st))
+  unfolding planFor Fit
+  plan-announces n d st =
+      chosen-by Fit (instruction c) _ _ _ (λ e. select-announces n d (sentIdentifier c) e)
+      (λ z. chosen-by Fit (instruction c) _ _ _ (λ e. create-announces n d (st .sets) e)
+      (λ y. chosen-by Fit (instruction c) _ _ _ (λ e. delete-announces n d (st .sets) e)
+      (λ x. life-announces d (instruction c) (st .sets) (unfold announced in rw (ne-eqb (instruction c) createFile y, ne-eqb (instruction c) deleteFile x)))))
+
+  pub judge-announces : (st : State) → Announces img c (judgeOf img c st)
+  unfolding judgeOf judgeFor
+  judge-announces st = judged-by (Announces img c) anyWord refused (sharedSteps img c st) _ refl (λ a. plan-announces (countOf img) (currentDfOf img) st)

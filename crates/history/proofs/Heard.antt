@@ -1,0 +1,115 @@
+-- What a call did to the table of a sound image is what the ledger heard of it (`call-did`).
+use mathlib.Core.Path.{_≡_, refl, sym, ap, _∙_}
+use mathlib.Core.Bool.{Bool, true, false, cond}
+use mathlib.Core.List.{List}
+use mathlib.Core.Logic.{inl, ⊎-elim}
+use Prim.Native.Nat.{ℕ, _<_}
+use native.Mathlib.Omega.{arith}
+use lib.Dec.{eqb}
+use borrow.Author.Tests.{eq-eqb, ne-eqb, eqb-true}
+use Rattle.laws.proofs.Says.{same-or}
+use Rattle.laws.proofs.Firsts.{first-is}
+use Rattle.rules.specs.Descriptor.{df, ef}
+use Rattle.image.specs.declared.Head.{Head}
+use Rattle.image.specs.Layout.{recAt, recordBytes, freeBytes, countOf, currentDfOf}
+use Rattle.sound.specs.Table.{View, viewAt, viewOf}
+use Rattle.sound.specs.Sound.{Sound}
+use Rattle.sound.specs.Kinship.{atOrBeneath, freeSlot}
+use Rattle.sound.specs.Effects.{Creates}
+use Rattle.sound.proofs.Good.{viewMade, view-made, view-free}
+use Rattle.sound.proofs.Kept.{gone}
+use Rattle.sound.proofs.Lived.{view-lived}
+use Rattle.sound.proofs.Created.{class-low}
+use Rattle.verdict.specs.declared.Verdict.{Verdict}
+use Rattle.verdict.specs.declared.Verdict.the-variants.{Refuse, Select, Create, Delete, Live}
+use Rattle.verdict.specs.Words.{done}
+use Rattle.verdict.specs.Applied.{wordOf}
+use Rattle.judging.specs.Judge.{judgeOf}
+use Rattle.card.specs.After.{recordAfter, dfAfter}
+use Rattle.card.specs.Demands.{Call}
+use Rattle.card.proofs.Tells.{Tells}
+use Rattle.card.proofs.Told.{judge-tells}
+use Rattle.card.proofs.Speaks.{Spoken, judge-speaks}
+use Rattle.card.proofs.After.{records-after}
+use Rattle.card.proofs.Demands.{word-is, effect-and-no-other}
+use Rattle.history.specs.Ledger.{Announced, neither}
+use Rattle.history.specs.Story.{announced, imageAfter, heard}
+use Rattle.history.proofs.Did.{OneMore, Did}
+use Rattle.history.proofs.Announced.{Announces, judge-announces}
+
+module _ (img c : List ℕ) (sound : Sound img) (w : ℕ → View) where
+  -- CREATE
+  module _ (s : ℕ) (h : Head) (name rule : List ℕ) (k : Creates img s h name rule) where
+    new-kind : h .kind ≡ cond (eqb (h .kind) df) df ef
+    new-kind = ⊎-elim
+        (λ e. rw (eq-eqb (h .kind) df e) e)
+        (λ z. rw (ne-eqb (h .kind) df z) (omega (arith, k .good .class, class-low (h .descriptor), k .good .some)))
+        (same-or (h .kind) df)
+
+    new-free : (viewAt img s .kind ≡ 0) × (s < countOf img)
+    unfolding freeSlot
+    new-free = let f = first-is (countOf img) (λ t. eqb (viewAt img t .kind) 0) s (k .slot) in (eqb-true _ _ (f .here), f .low)
+
+    one-more : (after : ℕ) → after ≡ cond (eqb (h .kind) df) s (currentDfOf img)
+        → ((t : ℕ) → t < countOf img → w t ≡ viewOf (cond (eqb t s) (recordBytes h name rule) (recAt img t)))
+        → OneMore (countOf img) (viewAt img) w (h .identifier) (h .size) (eqb (h .kind) df) (currentDfOf img) after
+    one-more after q e =
+        let made : w s ≡ viewMade h name = e s (new-free .1) ∙ rw (eq-eqb s s refl) (view-made h name rule) in
+        record {
+          slot = s;
+          low = new-free .1;
+          free = new-free .0;
+          other = λ z. omega (arith, new-free .0, sound .kin .root-kind, ap (λ (t : ℕ). viewAt img t .kind) z);
+          kind = ap (λ (x : View). x .kind) made ∙ new-kind;
+          parent = ap (λ (x : View). x .parent) made ∙ k .parent;
+          identifier = ap (λ (x : View). x .identifier) made;
+          size = ap (λ (x : View). x .size) made;
+          own = λ d. q ∙ rw d;
+          rest = λ t l z. e t l ∙ rw (ne-eqb t s z);
+        }
+
+  -- what is said of the announcement, if the word is 9000
+  said : (v : Verdict) → Announced
+  said v = cond (eqb (wordOf v) done) (announced c) neither
+
+  nothing-said : (v : Verdict) → announced c ≡ neither → said v ≡ neither
+  unfolding said
+  nothing-said v e = rw e (go (eqb (wordOf v) done))
+    where
+      go : (b : Bool) → cond b neither neither ≡ neither
+      go true = refl
+      go false = refl
+
+  did : (v : Verdict) → Tells img c v → Announces img c v → Spoken v → (after : ℕ) → after ≡ dfAfter img v
+      → ((t : ℕ) → t < countOf img → w t ≡ viewOf (recordAfter img c v t))
+      → Did (countOf img) (viewAt img) w (said v) (currentDfOf img) after
+  unfolding said
+  did (Refuse x) k a s after q e = rw (ne-eqb x done (λ z. s (inl z))) e
+  did (Select d f x) k a s after q e = rw (nothing-said (Select d f x) a) e
+  did (Create s h p r from to) k a z after q e = rw a (one-more s h _ _ (k .1) after q e)
+  did (Delete s) k a z after q e = rw a (record {
+    slot = s;
+    low = k .low;
+    file = k .file;
+    parent = k .child;
+    identifier = refl;
+    current = q;
+    rest = λ t l. e t l ∙ cleared t (atOrBeneath (viewAt img) s t);
+  })
+    where
+      cleared : (t : ℕ) (b : Bool) → viewOf (cond b freeBytes (recAt img t)) ≡ cond b gone (viewAt img t)
+      cleared t true = view-free
+      cleared t false = refl
+  did (Live s life) k a z after q e = rw a (λ t l. e t l ∙ ap viewOf (sym (records-after img c sound (Live s life) k t l)) ∙ view-lived img s life sound (k .0 .low) (k .0 .used) (k .1) t l)
+
+-- the table after a call, by what the ledger heard
+pub call-did : (img : List ℕ) (x : Call) → Sound img
+    → Did (countOf img) (viewAt img) (viewAt (imageAfter img x)) (heard img x) (currentDfOf img) (currentDfOf (imageAfter img x))
+unfolding heard said
+call-did img x sound =
+    let c = x .command in
+    let v = judgeOf img c (x .state) in
+    let e = effect-and-no-other img c (x .state) sound in
+    rw (word-is img c (x .state) sound)
+    (did img c sound (viewAt (imageAfter img x)) v (judge-tells img c sound (x .state)) (judge-announces img c (x .state)) (judge-speaks img c (x .state))
+    (currentDfOf (imageAfter img x)) (e .1 .1 .0) (λ t l. ap viewOf (e .0 t l)))

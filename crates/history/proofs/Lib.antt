@@ -1,0 +1,12 @@
+pub mod Entries
+pub mod Agree
+pub mod Directories
+pub mod Upward
+pub mod Did
+pub mod Rooms
+pub mod Announced
+pub mod Heard
+pub mod Memory
+pub mod Begins
+pub mod Demand
+pub mod Corollaries

@@ -1,0 +1,163 @@
+-- Memory is the last of CREATE's steps: where every other holds, the word is 9000 or 6A84, by the room that the records
+-- leave (`memory-decides`).
+use mathlib.Core.Path.{_≡_, refl, sym, ap, _∙_}
+use mathlib.Core.Bool.{Bool, true, false, not, cond, _&&_, _||_, false≢true}
+use mathlib.Core.Logic.{_⊎_, inl, inr, ⊎-elim}
+use mathlib.Core.List.{List, [], _∷_, _++_}
+use Prim.Native.Nat.{ℕ}
+use lib.Dec.{eqb}
+use borrow.Author.Tests.{eq-eqb}
+use Rattle.laws.proofs.Says.{and-says, not-says, or-says}
+use Rattle.image.specs.Layout.{countOf, currentDfOf}
+use Rattle.sound.specs.Table.{viewAt}
+use Rattle.sound.specs.Sound.{Sound}
+use Rattle.sound.specs.Kinship.{freeSlot, identifierFree, nameFree, fitsRoom}
+use Rattle.template.specs.declared.Data.{Data}
+use Rattle.template.specs.declared.Data.the-variants.{Df, Ef, Bad}
+use Rattle.template.specs.Data.{dataOf}
+use Rattle.verdict.specs.declared.State.{State}
+use Rattle.verdict.specs.Words.{done, notEnoughMemory, wrongData, securityNotSatisfied, conditionsNotSatisfied, identifierExists, nameExists}
+use Rattle.verdict.specs.Applied.{wordOf, sentData}
+use Rattle.deciding.specs.Steps.{Step, step, allHold, Plan}
+use Rattle.deciding.specs.Target.{allowedAt, slotIn, isFile, creation, newIdentifier, newName, newSize, creating}
+use Rattle.deciding.specs.Commands.{takesFiles, create}
+use Rattle.judging.specs.Command.{instruction, sharedSteps, createFile}
+use Rattle.judging.specs.Judge.{planFor, judgeOf}
+use Rattle.card.specs.Conditions.{stepsOf, effectOf}
+use Rattle.card.specs.Demands.{Call, firstFailing}
+use Rattle.card.proofs.Steps.{allWords}
+use Rattle.card.proofs.Demands.{word-is, judged-in-order}
+use Rattle.history.specs.Story.{wordFor, butLast, Ready, ReadyExactly, sizeSent}
+
+-- a list of steps, and one more
+but-last : (ys : List Step) (m : Step) → butLast (ys ++ (m ∷ [])) ≡ ys
+but-last [] m = refl
+but-last (s ∷ []) m = refl
+but-last (s ∷ t ∷ ys) m = ap (λ (l : List Step). s ∷ l) (but-last (t ∷ ys) m)
+
+module _ (m : Step) where
+  last-holds : (ys : List Step) → allHold ys ≡ true → m .holds ≡ true → allHold (ys ++ (m ∷ [])) ≡ true
+  last-holds [] h e = and-says (m .holds) true .1 (e, refl)
+  last-holds (s ∷ ys) h e =
+      let p = and-says (s .holds) (allHold ys) .0 h in
+      and-says (s .holds) (allHold (ys ++ (m ∷ []))) .1 (p .0, last-holds ys (p .1) e)
+
+  last-fails : (ys : List Step) → allHold ys ≡ true → m .holds ≡ false → (allHold (ys ++ (m ∷ [])) ≡ false) × (firstFailing (ys ++ (m ∷ [])) ≡ m .word)
+  last-fails [] h e = rw e (refl, refl)
+  last-fails (s ∷ ys) h e =
+      let p = and-says (s .holds) (allHold ys) .0 h in
+      rw (p .0) (last-fails ys (p .1) e)
+
+  -- one that fails among the others gives its word, whatever the last says
+  early-fails : (ys : List Step) → allHold ys ≡ false → (allHold (ys ++ (m ∷ [])) ≡ false) × (firstFailing (ys ++ (m ∷ [])) ≡ firstFailing ys)
+  early-fails [] h = absurd (false≢true (sym h))
+  early-fails (s ∷ ys) h = go (s .holds) h (λ q. early-fails ys q)
+    where
+      go : (b : Bool) → (b && allHold ys) ≡ false
+          → (allHold ys ≡ false → (allHold (ys ++ (m ∷ [])) ≡ false) × (firstFailing (ys ++ (m ∷ [])) ≡ firstFailing ys))
+          → ((b && allHold (ys ++ (m ∷ []))) ≡ false) × (cond b (firstFailing (ys ++ (m ∷ []))) (s .word) ≡ cond b (firstFailing ys) (s .word))
+      go true q rec = rec q
+      go false q rec = (refl, refl)
+
+-- a test that the words of all steps pass, the word of the first that fails passes
+first-word : (ok : ℕ → Bool) (ys : List Step) → allWords ok ys ≡ true → allHold ys ≡ false → ok (firstFailing ys) ≡ true
+first-word ok [] w h = absurd (false≢true (sym h))
+first-word ok (s ∷ ys) w h =
+    let p = and-says (ok (s .word)) (allWords ok ys) .0 w in
+    go (s .holds) h (p .0) (λ q. first-word ok ys (p .1) q)
+  where
+    go : (b : Bool) → (b && allHold ys) ≡ false → ok (s .word) ≡ true → (allHold ys ≡ false → ok (firstFailing ys) ≡ true)
+        → ok (cond b (firstFailing ys) (s .word)) ≡ true
+    go true q p rec = rec q
+    go false q p rec = p
+
+-- neither 9000 nor 6A84
+another : ℕ → Bool
+another w = not (eqb w done || eqb w notEnoughMemory)
+
+module _ (img c : List ℕ) (st : State) (e : instruction c ≡ createFile) where
+  new : Data
+  new = dataOf (sentData c)
+
+  earlier : List Step
+  earlier = sharedSteps img c st ++ (
+      step (isFile new) wrongData
+      ∷ step (allowedAt img (currentDfOf img) (creation new) (st .sets)) securityNotSatisfied
+      ∷ step (takesFiles img (currentDfOf img)) conditionsNotSatisfied
+      ∷ step (identifierFree (countOf img) (viewAt img) (currentDfOf img) (newIdentifier new)) identifierExists
+      ∷ step (nameFree (countOf img) (viewAt img) (newName (sentData c) new)) nameExists
+      ∷ [])
+
+  memory : Step
+  memory = step (fitsRoom (countOf img) (viewAt img) (currentDfOf img) (newSize new)) notEnoughMemory
+
+  plan-is : planFor img (countOf img) (currentDfOf img) c st ≡ create img (countOf img) (currentDfOf img) (sentData c) (st .sets)
+  unfolding planFor
+  plan-is = rw e
+
+  steps-are : stepsOf img c st ≡ earlier ++ (memory ∷ [])
+  unfolding earlier memory new
+  steps-are = ap (λ (p : Plan). sharedSteps img c st ++ p .steps) plan-is
+
+  effect-is : effectOf img c st ≡ creating img (currentDfOf img) (slotIn (freeSlot (countOf img) (viewAt img))) new
+  unfolding new
+  effect-is = ap (λ (p : Plan). p .effect) plan-is
+
+  is-file : allHold earlier ≡ true → isFile new ≡ true
+  unfolding earlier
+  is-file h = (simp and-says at h) .1 .1 .1 .1 .1 .1 .1 .1 .0
+
+  created-word : (d s : ℕ) (f : Data) → isFile f ≡ true → wordOf (creating img d s f) ≡ done
+  created-word d s Bad h = absurd (false≢true h)
+  created-word d s (Df k i l a b from to z) h = refl
+  created-word d s (Ef k i l m from to z) h = refl
+
+  module _ (sound : Sound img) (h : allHold (butLast (stepsOf img c st)) ≡ true) where
+    hold : allHold earlier ≡ true
+    hold = ap allHold (sym (ap butLast steps-are ∙ but-last earlier memory)) ∙ h
+
+    decides : (b : Bool) → memory .holds ≡ b → wordOf (judgeOf img c st) ≡ cond b done notEnoughMemory
+    unfolding memory
+    decides true q =
+        ap wordOf (judged-in-order img c st .0 (ap allHold steps-are ∙ last-holds memory earlier hold q) ∙ effect-is)
+        ∙ created-word (currentDfOf img) (slotIn (freeSlot (countOf img) (viewAt img))) new (is-file hold)
+    decides false q =
+        let f = last-fails memory earlier hold q in
+        ap wordOf (judged-in-order img c st .1 (ap allHold steps-are ∙ f .0)) ∙ ap firstFailing steps-are ∙ f .1
+
+  -- where one of the others fails, the word is neither 9000 nor 6A84
+  early-word : allHold earlier ≡ false → another (wordOf (judgeOf img c st)) ≡ true
+  early-word h =
+      let f = early-fails memory earlier h in
+      let w = ap wordOf (judged-in-order img c st .1 (ap allHold steps-are ∙ f .0)) ∙ ap firstFailing steps-are ∙ f .1 in
+      ap another w ∙ first-word another earlier (unfold earlier another in refl) h
+
+pub memory-decides : (img : List ℕ) (x : Call) → Sound img → Ready img x
+    → wordFor img x ≡ cond (fitsRoom (countOf img) (viewAt img) (currentDfOf img) (sizeSent x)) done notEnoughMemory
+unfolding memory new
+memory-decides img x sound r =
+    word-is img (x .command) (x .state) sound ∙ decides img (x .command) (x .state) (r .create) sound (r .earlier) _ refl
+
+-- a CREATE on a sound image is ready exactly when its word is 9000 or 6A84
+pub ready-exactly : ReadyExactly
+unfolding another
+ready-exactly img x sound e = (λ r. or-of (fitsRoom (countOf img) (viewAt img) (currentDfOf img) (sizeSent x)) (memory-decides img x sound r), back)
+  where
+    or-of : (b : Bool) → wordFor img x ≡ cond b done notEnoughMemory → (wordFor img x ≡ done) ⊎ (wordFor img x ≡ notEnoughMemory)
+    or-of true q = inl q
+    or-of false q = inr q
+
+    back : (wordFor img x ≡ done) ⊎ (wordFor img x ≡ notEnoughMemory) → Ready img x
+    back h = record { create = e; earlier = ap allHold (ap butLast (steps-are img (x .command) (x .state) e) ∙ but-last (earlier img (x .command) (x .state) e) (memory img (x .command) (x .state) e)) ∙ holds }
+      where
+        spoken : another (wordOf (judgeOf img (x .command) (x .state))) ≡ true → ⊥
+        spoken a = not-says _ .0 a (or-says _ _ .1 (⊎-elim
+            (λ q. inl (eq-eqb _ _ (sym (word-is img (x .command) (x .state) sound) ∙ q)))
+            (λ q. inr (eq-eqb _ _ (sym (word-is img (x .command) (x .state) sound) ∙ q))) h))
+
+        holds : allHold (earlier img (x .command) (x .state) e) ≡ true
+        holds = go (allHold (earlier img (x .command) (x .state) e)) refl
+          where
+            go : (b : Bool) → allHold (earlier img (x .command) (x .state) e) ≡ b → b ≡ true
+            go true q = refl
+            go false q = absurd (spoken (early-word img (x .command) (x .state) e q))

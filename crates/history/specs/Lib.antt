@@ -1,0 +1,3 @@
+pub mod Ledger
+pub mod Story
+pub mod Demand3

@@ -1,0 +1,86 @@
+-- A history: the card's image and the ledger beside it, command by command; and when CREATE has passed every check
+-- before memory.
+use mathlib.Core.Path.{_≡_}
+use mathlib.Core.Bool.{true, false, cond}
+use mathlib.Core.List.{List, [], _∷_}
+use mathlib.Core.Logic.{_↔_, _⊎_}
+use Prim.Native.Nat.{ℕ}
+use lib.Dec.{eqb}
+use Rattle.image.specs.Layout.{currentDfOf}
+use Rattle.sound.specs.Sound.{Sound}
+use Rattle.template.specs.declared.Data.{Data}
+use Rattle.template.specs.declared.Data.the-variants.{Df, Ef, Bad}
+use Rattle.template.specs.Data.{dataOf}
+use Rattle.verdict.specs.Words.{done, notEnoughMemory}
+use Rattle.verdict.specs.Applied.{sentData}
+use Rattle.deciding.specs.Steps.{Step, allHold}
+use Rattle.deciding.specs.Target.{newSize}
+use Rattle.judging.specs.Command.{instruction, sentIdentifier, createFile, deleteFile}
+use Rattle.card.specs.Command.{answerWord, replyOf, imageOf}
+use Rattle.card.specs.Conditions.{stepsOf}
+use Rattle.card.specs.Demands.{Call}
+use Rattle.history.specs.Ledger.{Ledger, Announced, makes, deletes, neither, noted, opened}
+
+-- what CREATE's data announce, and what a command does
+abbrev pub newFile : Data → Announced
+newFile Bad = neither
+newFile (Df descriptor identifier life a b c d total) = makes identifier total true
+newFile (Ef descriptor identifier life recordLength c d size) = makes identifier size false
+
+unfoldable pub announced : List ℕ → Announced
+announced c =
+    cond (eqb (instruction c) createFile) (newFile (dataOf (sentData c)))
+    (cond (eqb (instruction c) deleteFile) (deletes (sentIdentifier c))
+    neither)
+
+-- the word of a call, on an image
+abbrev pub wordFor : List ℕ → Call → ℕ
+wordFor img x = answerWord (replyOf img (x .command) (x .state))
+
+abbrev pub imageAfter : List ℕ → Call → List ℕ
+imageAfter img x = imageOf img (x .command) (x .state)
+
+-- the card, and the ledger beside it
+pub record Story : Type 0 where
+  pub image : List ℕ
+  pub ledger : Ledger
+
+-- it begins with what the maker left, and the total that it was given
+abbrev pub begun : List ℕ → ℕ → Story
+begun img total = record { image = img; ledger = opened total }
+
+-- what the ledger hears of a call: what it announced, if it was answered 9000
+unfoldable pub heard : List ℕ → Call → Announced
+heard img x = cond (eqb (wordFor img x) done) (announced (x .command)) neither
+
+-- one call: the ledger hears it, and which DF slot is current before and after
+unfoldable pub next : Story → Call → Story
+next st x = record {
+  image = imageAfter (st .image) x;
+  ledger = noted (st .ledger) (heard (st .image) x) (currentDfOf (st .image)) (currentDfOf (imageAfter (st .image) x));
+}
+
+-- any list of calls
+abbrev pub told : Story → List Call → Story
+told st [] = st
+told st (x ∷ rest) = told (next st x) rest
+
+-- a list of steps short of the last
+abbrev pub butLast : List Step → List Step
+butLast [] = []
+butLast (s ∷ []) = []
+butLast (s ∷ t ∷ rest) = s ∷ butLast (t ∷ rest)
+
+-- a CREATE FILE of which every check before memory passes, A to L: memory is the last of its steps
+pub record Ready (img : List ℕ) (x : Call) : Type 0 where
+  pub create : instruction (x .command) ≡ createFile
+  pub earlier : allHold (butLast (stepsOf img (x .command) (x .state))) ≡ true
+
+-- the size, or total, that it sends
+abbrev pub sizeSent : Call → ℕ
+sizeSent x = newSize (dataOf (sentData (x .command)))
+
+-- such CREATEs are just those answered 9000 or 6A84
+abbrev pub ReadyExactly : Type 0
+ReadyExactly = (img : List ℕ) (x : Call) → Sound img → instruction (x .command) ≡ createFile
+    → Ready img x ↔ ((wordFor img x ≡ done) ⊎ (wordFor img x ≡ notEnoughMemory))
