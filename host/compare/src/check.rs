@@ -6,7 +6,10 @@ use std::fmt;
 use cases::{Case, History};
 use model::ledger::{current_df_slot, Ledger};
 use model::lines::Case as Line;
+use model::words::Word;
 
+use crate::demand3::{word_fits, Given};
+use crate::ledger::{heard, Ledger as Stated};
 use crate::outcome::{run, Outcome};
 use crate::rights::lines_of_rule;
 use crate::subject::Pair;
@@ -135,7 +138,45 @@ pub fn check_case(pair: Pair, case: &Case, tally: &mut Tally) -> Result<(), Disa
     lines.iter().try_for_each(|line| check_line(pair, line, tally).map(|_| ()))
 }
 
-/// Plays a history command by command; after each a report, and the ledger.
+/// Demand 3's two ledgers beside one history: the model's, written from the
+/// documents, and the one that the theorem speaks of.
+struct Books {
+    model: Ledger,
+    stated: Stated,
+}
+
+impl Books {
+    fn open(total: u32) -> Books {
+        Books { model: Ledger::open(total), stated: Stated::opened(total) }
+    }
+
+    /// Enters a command; what they have against it, against the image that it
+    /// left and the report on that, or against each other.
+    fn enter(
+        &mut self,
+        command: &[u8],
+        word: Word,
+        (before, image): (u16, &[u8]),
+        report: Option<&Outcome>,
+    ) -> Option<String> {
+        let after = current_df_slot(image);
+        let (here, there) = (u64::from(before), u64::from(after));
+        let fits = self.model.agrees(command, word, before)
+            && word_fits(&self.stated, here, command, word);
+        let told = heard(command, word);
+        let next = self.stated.noted(told, here, there);
+        self.model.enter(command, word, before, after);
+        let given = Given { ledger: &self.stated, next: &next, told, before: here, after: there };
+        let complaint = (!fits)
+            .then(|| format!("word {word:04X} against the room that it knows"))
+            .or_else(|| given.complaint(image))
+            .or_else(|| report.and_then(|told| audit(&self.model, after, told)));
+        self.stated = next;
+        complaint
+    }
+}
+
+/// Plays a history command by command; after each a report, and the ledgers.
 pub fn check_history(pair: Pair, history: &History, tally: &mut Tally) -> Result<(), Disagreement> {
     let (buffer, total) = (history.buffer(), history.total);
     let make = Line::Make { buffer, total, rule: history.rule.clone() };
@@ -143,7 +184,7 @@ pub fn check_history(pair: Pair, history: &History, tally: &mut Tally) -> Result
     else {
         return Ok(());
     };
-    let mut ledger = Ledger::open(total);
+    let mut books = Books::open(total);
     for (number, step) in history.steps.iter().enumerate() {
         let before = current_df_slot(&image);
         let line = Line::command(&image, &step.command, step.state);
@@ -151,15 +192,9 @@ pub fn check_history(pair: Pair, history: &History, tally: &mut Tally) -> Result
         let Some(Outcome::Command { word, image: left, .. }) = outcome else { continue };
         image = left;
         let report = check_line(pair, &Line::Report { image: image.clone() }, tally)?;
-        let mut complaint = None;
-        if !ledger.agrees(&step.command, word, before) {
-            complaint = Some(format!("word {word:04X} against the room that it knows"));
-        }
-        let after = current_df_slot(&image);
-        ledger.enter(&step.command, word, before, after);
-        complaint = complaint.or_else(|| report.and_then(|told| audit(&ledger, after, &told)));
         tally.ledger_steps += 1;
-        if let Some(complaint) = complaint {
+        let found = books.enter(&step.command, word, (before, &image), report.as_ref());
+        if let Some(complaint) = found {
             let steps = history.steps.iter().take(number + 1).cloned().collect();
             let history = History { steps, ..history.clone() };
             return Err(Disagreement::Ledger { history, complaint });

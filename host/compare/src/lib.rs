@@ -10,6 +10,7 @@
 //! | who can be compared: the proved card, the model | [`subject`] |
 //! | what a line gives | [`outcome`] |
 //! | a case, line by line, with the ledger | [`check`] |
+//! | demand 3's ledger and what it says of a command, as the theorem has them | [`ledger`], [`demand3`] |
 //! | the seven decisions of a rule, as commands | [`rights`] |
 //! | making a case smaller | [`shrink`], [`pieces`] |
 //! | stored and shared vectors | [`vectors`] |
@@ -18,6 +19,8 @@
 #![warn(missing_docs)]
 
 pub mod check;
+pub mod demand3;
+pub mod ledger;
 pub mod outcome;
 pub mod pieces;
 pub mod rights;

@@ -4,6 +4,7 @@
 
 mod generated;
 mod impostors;
+mod ledger;
 mod program;
 mod vectors;
 
