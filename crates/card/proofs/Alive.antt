@@ -23,7 +23,7 @@ use Rattle.verdict.specs.Applied.{sentData}
 use Rattle.deciding.specs.Steps.{allHold, Plan, followed}
 use Rattle.judging.specs.Command.{instruction, sharedSteps}
 use Rattle.deciding.specs.Target.{creating}
-use Rattle.deciding.specs.Commands.{selecting}
+use Rattle.commands.specs.Commands.{selecting}
 use Rattle.judging.specs.Judge.{lifePlan, planFor, judgeFor, judgeOf}
 use Rattle.card.proofs.Steps.{cond-by, chosen-by, anyWord, judged-by, followed-by}
 

@@ -12,7 +12,8 @@ use Rattle.verdict.specs.Applied.{sentData}
 use Rattle.deciding.specs.Steps.{Step, allHold, Plan}
 use Rattle.judging.specs.Command.{instruction, sentIdentifier, sharedSteps, selectFile, createFile, deleteFile, activateFile, deactivateFile, terminateEf, terminateDf, terminateCard}
 use Rattle.deciding.specs.Target.{currentFile}
-use Rattle.deciding.specs.Commands.{select, create, delete, activate, deactivate, terminateTheEf, terminateTheDf, terminateTheCard}
+use Rattle.creation.specs.Creation.{create}
+use Rattle.commands.specs.Commands.{select, delete, activate, deactivate, terminateTheEf, terminateTheDf, terminateTheCard}
 use Rattle.judging.specs.Judge.{lifePlan, planFor}
 use Rattle.card.specs.Conditions.{stepsOf, Shared, Selects, CreatesFile, DeletesFile, ActivatesFile, DeactivatesFile, TerminatesEf, TerminatesDf, TerminatesCard}
 

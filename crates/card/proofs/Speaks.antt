@@ -26,7 +26,7 @@ use Rattle.verdict.specs.Applied.{wordOf, sentData}
 use Rattle.deciding.specs.Steps.{allHold, Plan, followed}
 use Rattle.judging.specs.Command.{instruction, sharedSteps}
 use Rattle.deciding.specs.Target.{lifeAt, slotIn, isFile, creating, selected}
-use Rattle.deciding.specs.Commands.{selectWord, selecting}
+use Rattle.commands.specs.Commands.{selectWord, selecting}
 use Rattle.judging.specs.Judge.{lifePlan, planFor, judgeFor, judgeOf}
 use Rattle.card.specs.Demands.{Succeeds}
 use Rattle.card.proofs.Steps.{cond-by, chosen-by, allWords, judged-by, followed-by}

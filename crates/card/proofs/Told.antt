@@ -46,7 +46,8 @@ use Rattle.effect.specs.Fit.{FieldSent, FileSent}
 use Rattle.deciding.specs.Steps.{Step, step, allHold, Plan, followed}
 use Rattle.judging.specs.Command.{instruction, fitLength, sharedSteps, createFile}
 use Rattle.deciding.specs.Target.{currentFile, isFound, slotIn, isFile, creation, newIdentifier, newName, newSize, newHead, creating, selected}
-use Rattle.deciding.specs.Commands.{selecting, select, admission, create, delete, activate, deactivate, terminateTheEf, terminateTheDf, terminateTheCard}
+use Rattle.creation.specs.Creation.{admission, create}
+use Rattle.commands.specs.Commands.{selecting, select, delete, activate, deactivate, terminateTheEf, terminateTheDf, terminateTheCard}
 use Rattle.judging.specs.Judge.{lifePlan, planFor, judgeFor, judgeOf}
 use Rattle.deciding.proofs.Readied.{ready, selected-by, selected-stands}
 use Rattle.judging.proofs.Plans.{current-stands, create-long}

@@ -18,7 +18,8 @@ use Rattle.verdict.specs.Applied.{sentData}
 use Rattle.deciding.specs.Steps.{Step}
 use Rattle.judging.specs.Command.{classByte, instruction, sentIdentifier, onOtherChannel, isKnown, crowded, fitParameters, fitLength, sharedSteps}
 use Rattle.deciding.specs.Target.{currentFile, lifeAt, allowedAt, isFound, slotIn, selected, isFile, creation, newIdentifier, newName, newSize}
-use Rattle.deciding.specs.Commands.{takesFiles, mayDelete}
+use Rattle.creation.specs.Creation.{takesFiles}
+use Rattle.commands.specs.Commands.{mayDelete}
 use Rattle.judging.specs.Judge.{planFor}
 
 -- all steps of a command, A to L in order, and the effect that it has where all hold

@@ -1,4 +1,3 @@
 pub mod Steps
 pub mod Target
 pub mod Ready
-pub mod Commands

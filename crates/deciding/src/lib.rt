@@ -1,6 +1,4 @@
-// Each command decided by its own steps H to L (01, from "SELECT" on), on a sound image: the word of the first
-// that fails, or the one effect that is due. It reads and decides, and changes nothing. It may use laws, rules,
-// template, image, sound, kinship and verdict. The steps that all commands share stand above, in judging.
-pub mod commands;
-pub mod creation;
+// What a command is about, and how it is judged: steps, targets, what a sound image makes ready (01 "The order in
+// which a command is judged"). It reads and changes nothing. It may use laws, rules, template, image, sound, kinship
+// and verdict. The commands themselves stand above, in `creation` and `commands`, the steps that all share in `judging`.
 pub mod target;

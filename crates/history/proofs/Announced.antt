@@ -23,7 +23,8 @@ use Rattle.verdict.specs.declared.Verdict.the-variants.{Refuse, Select, Create,
 use Rattle.verdict.specs.Applied.{sentData}
 use Rattle.deciding.specs.Steps.{Plan, followed}
 use Rattle.deciding.specs.Target.{slotIn, selected, creating}
-use Rattle.deciding.specs.Commands.{selecting, select, create, delete}
+use Rattle.creation.specs.Creation.{create}
+use Rattle.commands.specs.Commands.{selecting, select, delete}
 use Rattle.judging.specs.Command.{instruction, sentIdentifier, sharedSteps, selectFile, createFile, deleteFile}
 use Rattle.judging.specs.Judge.{lifePlan, planFor, judgeFor, judgeOf}
 use Rattle.card.proofs.Steps.{cond-by, chosen-by, judged-by, followed-by, anyWord}

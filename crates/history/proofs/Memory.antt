@@ -20,7 +20,7 @@ use Rattle.verdict.specs.Words.{done, notEnoughMemory, wrongData, securityNotSa
 use Rattle.verdict.specs.Applied.{wordOf, sentData}
 use Rattle.deciding.specs.Steps.{Step, step, allHold, Plan}
 use Rattle.deciding.specs.Target.{allowedAt, slotIn, isFile, creation, newIdentifier, newName, newSize, creating}
-use Rattle.deciding.specs.Commands.{takesFiles, create}
+use Rattle.creation.specs.Creation.{takesFiles, create}
 use Rattle.judging.specs.Command.{instruction, sharedSteps, createFile}
 use Rattle.judging.specs.Judge.{planFor, judgeOf}
 use Rattle.card.specs.Conditions.{stepsOf, effectOf}

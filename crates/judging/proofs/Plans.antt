@@ -17,7 +17,8 @@ use Rattle.deciding.specs.Ready.{Ready}
 use Rattle.judging.specs.Command.{instruction, lc, isSeven, hasData, fitLength}
 use Rattle.deciding.specs.Steps.{Plan, followed}
 use Rattle.deciding.specs.Target.{currentFile}
-use Rattle.deciding.specs.Commands.{select, create, delete, activate, deactivate, terminateTheEf}
+use Rattle.creation.specs.Creation.{create}
+use Rattle.commands.specs.Commands.{select, delete, activate, deactivate, terminateTheEf}
 
 pub plan-eq : (a b : ℕ) (p q : Plan) {x : Verdict} → a ≡ b → x ≡ followed p → x ≡ followed (cond (eqb a b) p q)
 plan-eq a b p q e h = rw (eq-eqb a b e) h

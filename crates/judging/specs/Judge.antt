@@ -11,7 +11,8 @@ use Rattle.verdict.specs.Applied.{sentData}
 use Rattle.deciding.specs.Steps.{Plan, judged, followed}
 use Rattle.judging.specs.Command.{instruction, sentIdentifier, sharedSteps, selectFile, createFile, deleteFile, activateFile, deactivateFile, terminateEf, terminateDf}
 use Rattle.deciding.specs.Target.{currentFile}
-use Rattle.deciding.specs.Commands.{select, create, delete, activate, deactivate, terminateTheEf, terminateTheDf, terminateTheCard}
+use Rattle.creation.specs.Creation.{create}
+use Rattle.commands.specs.Commands.{select, delete, activate, deactivate, terminateTheEf, terminateTheDf, terminateTheCard}
 
 -- the plan of a life-cycle command i: the current EF, else the current DF; the current EF; the current DF d; the root
 unfoldable pub lifePlan : List ℕ → ℕ → ℕ → Sets → Plan

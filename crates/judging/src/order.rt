@@ -10,8 +10,6 @@ ghost use Rattle.deciding.specs.Ready.{Ready};
 ghost use Rattle.deciding.specs.Steps.{judged, followed};
 ghost use Rattle.judging.specs.Command.{fitLength, laterSteps};
 ghost use Rattle.judging.specs.Judge.{lifePlan, planFor, judgeFor, judgeOf};
-use deciding::commands;
-use deciding::creation;
 use crate::shared;
 use deciding::target;
 use image::fields;

@@ -22,7 +22,7 @@ use Rattle.verdict.specs.declared.Verdict.the-variants.{Refuse, Select, Create,
 use Rattle.verdict.specs.Words.{notEnoughMemory, conditionsNotSatisfied}
 use Rattle.verdict.specs.Applied.{wordOf}
 use Rattle.deciding.specs.Steps.{judged, step}
-use Rattle.deciding.specs.Commands.{activate}
+use Rattle.commands.specs.Commands.{activate}
 
 -- a row: the number of its line, what the definitions give, what 01 says
 pub record Row : Type 0 where
