@@ -21,7 +21,8 @@ use Rattle.verdict.specs.declared.Verdict.{Verdict}
 use Rattle.verdict.specs.declared.Verdict.the-variants.{Refuse, Select, Create, Delete, Live}
 use Rattle.verdict.specs.Applied.{sentData}
 use Rattle.deciding.specs.Steps.{allHold, Plan, followed}
-use Rattle.judging.specs.Command.{instruction, sharedSteps}
+use Rattle.frame.specs.Frame.{instruction}
+use Rattle.judging.specs.Shared.{sharedSteps}
 use Rattle.deciding.specs.Target.{creating}
 use Rattle.commands.specs.Commands.{selecting}
 use Rattle.judging.specs.Judge.{lifePlan, planFor, judgeFor, judgeOf}

@@ -24,7 +24,7 @@ use Rattle.verdict.specs.declared.Verdict.{Verdict}
 use Rattle.verdict.specs.declared.Verdict.the-variants.{Refuse, Select, Create, Delete, Live}
 use Rattle.verdict.specs.Applied.{wordOf, appliedOf}
 use Rattle.deciding.specs.Steps.{Step, allHold, followed}
-use Rattle.judging.specs.Command.{sharedSteps}
+use Rattle.judging.specs.Shared.{sharedSteps}
 use Rattle.judging.specs.Judge.{planFor, judgeFor, judgeOf}
 use Rattle.card.specs.declared.Reply.the-variants.{Word, Damaged}
 use Rattle.card.specs.Command.{answerWord, replyOf, imageOf}

@@ -10,7 +10,8 @@ use Rattle.image.specs.Layout.{countOf, currentDfOf, currentEfOf}
 use Rattle.verdict.specs.declared.State.{State}
 use Rattle.verdict.specs.Applied.{sentData}
 use Rattle.deciding.specs.Steps.{Step, allHold, Plan}
-use Rattle.judging.specs.Command.{instruction, sentIdentifier, sharedSteps, selectFile, createFile, deleteFile, activateFile, deactivateFile, terminateEf, terminateDf, terminateCard}
+use Rattle.frame.specs.Frame.{instruction, sentIdentifier, selectFile, createFile, deleteFile, activateFile, deactivateFile, terminateEf, terminateDf, terminateCard}
+use Rattle.judging.specs.Shared.{sharedSteps}
 use Rattle.deciding.specs.Target.{currentFile}
 use Rattle.creation.specs.Creation.{create}
 use Rattle.commands.specs.Commands.{select, delete, activate, deactivate, terminateTheEf, terminateTheDf, terminateTheCard}

@@ -24,7 +24,8 @@ use Rattle.verdict.specs.declared.Verdict.the-variants.{Refuse, Select, Create,
 use Rattle.verdict.specs.Words.{done, fileDeactivated, fileTerminated}
 use Rattle.verdict.specs.Applied.{wordOf, sentData}
 use Rattle.deciding.specs.Steps.{allHold, Plan, followed}
-use Rattle.judging.specs.Command.{instruction, sharedSteps}
+use Rattle.frame.specs.Frame.{instruction}
+use Rattle.judging.specs.Shared.{sharedSteps}
 use Rattle.deciding.specs.Target.{lifeAt, slotIn, isFile, creating, selected}
 use Rattle.commands.specs.Commands.{selectWord, selecting}
 use Rattle.judging.specs.Judge.{lifePlan, planFor, judgeFor, judgeOf}

@@ -44,7 +44,8 @@ use Rattle.verdict.specs.declared.Verdict.the-variants.{Refuse, Select, Create,
 use Rattle.verdict.specs.Applied.{sentData}
 use Rattle.effect.specs.Fit.{FieldSent, FileSent}
 use Rattle.deciding.specs.Steps.{Step, step, allHold, Plan, followed}
-use Rattle.judging.specs.Command.{instruction, fitLength, sharedSteps, createFile}
+use Rattle.frame.specs.Frame.{instruction, fitLength, createFile}
+use Rattle.judging.specs.Shared.{sharedSteps}
 use Rattle.deciding.specs.Target.{currentFile, isFound, slotIn, isFile, creation, newIdentifier, newName, newSize, newHead, creating, selected}
 use Rattle.creation.specs.Creation.{admission, create}
 use Rattle.commands.specs.Commands.{selecting, select, delete, activate, deactivate, terminateTheEf, terminateTheDf, terminateTheCard}

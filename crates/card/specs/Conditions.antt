@@ -16,7 +16,8 @@ use Rattle.verdict.specs.declared.State.{State}
 use Rattle.verdict.specs.declared.Verdict.{Verdict}
 use Rattle.verdict.specs.Applied.{sentData}
 use Rattle.deciding.specs.Steps.{Step}
-use Rattle.judging.specs.Command.{classByte, instruction, sentIdentifier, onOtherChannel, isKnown, crowded, fitParameters, fitLength, sharedSteps}
+use Rattle.frame.specs.Frame.{classByte, instruction, sentIdentifier, onOtherChannel, isKnown, crowded, fitParameters, fitLength}
+use Rattle.judging.specs.Shared.{sharedSteps}
 use Rattle.deciding.specs.Target.{currentFile, lifeAt, allowedAt, isFound, slotIn, selected, isFile, creation, newIdentifier, newName, newSize}
 use Rattle.creation.specs.Creation.{takesFiles}
 use Rattle.commands.specs.Commands.{mayDelete}

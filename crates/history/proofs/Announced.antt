@@ -25,7 +25,8 @@ use Rattle.deciding.specs.Steps.{Plan, followed}
 use Rattle.deciding.specs.Target.{slotIn, selected, creating}
 use Rattle.creation.specs.Creation.{create}
 use Rattle.commands.specs.Commands.{selecting, select, delete}
-use Rattle.judging.specs.Command.{instruction, sentIdentifier, sharedSteps, selectFile, createFile, deleteFile}
+use Rattle.frame.specs.Frame.{instruction, sentIdentifier, selectFile, createFile, deleteFile}
+use Rattle.judging.specs.Shared.{sharedSteps}
 use Rattle.judging.specs.Judge.{lifePlan, planFor, judgeFor, judgeOf}
 use Rattle.card.proofs.Steps.{cond-by, chosen-by, judged-by, followed-by, anyWord}
 use Rattle.card.proofs.Told.{found-at}

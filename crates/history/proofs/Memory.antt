@@ -21,7 +21,8 @@ use Rattle.verdict.specs.Applied.{wordOf, sentData}
 use Rattle.deciding.specs.Steps.{Step, step, allHold, Plan}
 use Rattle.deciding.specs.Target.{allowedAt, slotIn, isFile, creation, newIdentifier, newName, newSize, creating}
 use Rattle.creation.specs.Creation.{takesFiles, create}
-use Rattle.judging.specs.Command.{instruction, sharedSteps, createFile}
+use Rattle.frame.specs.Frame.{instruction, createFile}
+use Rattle.judging.specs.Shared.{sharedSteps}
 use Rattle.judging.specs.Judge.{planFor, judgeOf}
 use Rattle.card.specs.Conditions.{stepsOf, effectOf}
 use Rattle.card.specs.Demands.{Call, firstFailing}

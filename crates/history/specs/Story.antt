@@ -15,7 +15,7 @@ use Rattle.verdict.specs.Words.{done, notEnoughMemory}
 use Rattle.verdict.specs.Applied.{sentData}
 use Rattle.deciding.specs.Steps.{Step, allHold}
 use Rattle.deciding.specs.Target.{newSize}
-use Rattle.judging.specs.Command.{instruction, sentIdentifier, createFile, deleteFile}
+use Rattle.frame.specs.Frame.{instruction, sentIdentifier, createFile, deleteFile}
 use Rattle.card.specs.Command.{answerWord, replyOf, imageOf}
 use Rattle.card.specs.Conditions.{stepsOf}
 use Rattle.card.specs.Demands.{Call}

@@ -1,11 +1,11 @@
 -- A plan that is chosen by a number, a plan about what is current, and what a fit length says.
-use mathlib.Core.Path.{_≡_, refl, sym, ap, _∙_}
-use mathlib.Core.Bool.{Bool, true, cond}
+use mathlib.Core.Path.{_≡_, sym, ap, _∙_}
+use mathlib.Core.Bool.{true, cond}
 use mathlib.Core.List.{List}
 use Prim.Native.Nat.{ℕ, _+_, _≤_}
 use native.Mathlib.Omega.{arith}
 use lib.Dec.{eqb, leb}
-use lib.ListN.{length, getD}
+use lib.ListN.{length}
 use borrow.Author.Tests.{eq-eqb, ne-eqb, eqb-true, leb-true}
 use mathlib.Core.Logic.{⊎-elim}
 use Rattle.laws.proofs.Says.{and-says, same-or}
@@ -14,7 +14,7 @@ use Rattle.image.specs.Layout.{currentDfOf, currentEfOf, none}
 use Rattle.kinship.specs.Climb.{Stands}
 use Rattle.verdict.specs.declared.Verdict.{Verdict}
 use Rattle.deciding.specs.Ready.{Ready}
-use Rattle.judging.specs.Command.{instruction, lc, isSeven, hasData, fitLength}
+use Rattle.frame.specs.Frame.{instruction, lc, isSeven, hasData, fitLength}
 use Rattle.deciding.specs.Steps.{Plan, followed}
 use Rattle.deciding.specs.Target.{currentFile}
 use Rattle.creation.specs.Creation.{create}

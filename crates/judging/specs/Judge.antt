@@ -9,7 +9,8 @@ use Rattle.verdict.specs.declared.State.{State}
 use Rattle.verdict.specs.declared.Verdict.{Verdict}
 use Rattle.verdict.specs.Applied.{sentData}
 use Rattle.deciding.specs.Steps.{Plan, judged, followed}
-use Rattle.judging.specs.Command.{instruction, sentIdentifier, sharedSteps, selectFile, createFile, deleteFile, activateFile, deactivateFile, terminateEf, terminateDf}
+use Rattle.frame.specs.Frame.{instruction, sentIdentifier, selectFile, createFile, deleteFile, activateFile, deactivateFile, terminateEf, terminateDf}
+use Rattle.judging.specs.Shared.{sharedSteps}
 use Rattle.deciding.specs.Target.{currentFile}
 use Rattle.creation.specs.Creation.{create}
 use Rattle.commands.specs.Commands.{select, delete, activate, deactivate, terminateTheEf, terminateTheDf, terminateTheCard}

@@ -1,2 +1,2 @@
-pub mod Command
+pub mod Shared
 pub mod Judge

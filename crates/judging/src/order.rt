@@ -8,9 +8,9 @@ ghost use Rattle.image.specs.Layout.{currentDfOf};
 ghost use Rattle.sound.specs.Sound.{Sound};
 ghost use Rattle.deciding.specs.Ready.{Ready};
 ghost use Rattle.deciding.specs.Steps.{judged, followed};
-ghost use Rattle.judging.specs.Command.{fitLength, laterSteps};
+ghost use Rattle.frame.specs.Frame.{fitLength};
+ghost use Rattle.judging.specs.Shared.{laterSteps};
 ghost use Rattle.judging.specs.Judge.{lifePlan, planFor, judgeFor, judgeOf};
-use crate::shared;
 use deciding::target;
 use image::fields;
 use rules::Sets;
@@ -48,13 +48,13 @@ fn by_instruction(image: &[u8], n: usize, d: usize, command: &[u8], state: State
     let i = command[1];
     let sets = state.sets;
     if i == 0xA4 {
-        return commands::select_file(image, n, d, shared::sent_identifier(command));
+        return commands::select_file(image, n, d, frame::sent_identifier(command));
     }
     if i == 0xE0 {
-        return creation::create_file(image, n, d, shared::sent_data(command), sets);
+        return creation::create_file(image, n, d, frame::sent_data(command), sets);
     }
     if i == 0xE4 {
-        return commands::delete_file(image, n, d, shared::sent_identifier(command), sets);
+        return commands::delete_file(image, n, d, frame::sent_identifier(command), sets);
     }
     on_current(image, n, d, i, sets)
 }
@@ -65,13 +65,13 @@ fn judge_later(image: &[u8], n: usize, d: usize, command: &[u8], state: State) -
     requires { ⌜ (d ≡ currentDfOf (now image)) × (4 ≤ length (now command)) ⌝ }
     ensures { λ r. ⌜ r ≡ judged (laterSteps (now (command .entry)) state) (followed (planFor (now (image .entry)) n d (now (command .entry)) state)) ⌝ }
 {
-    if shared::is_crowded(command[1], state) {
+    if frame::is_crowded(command[1], state) {
         return Verdict::Refuse(0x6985);
     }
-    if !shared::fit_parameters(command) {
+    if !frame::fit_parameters(command) {
         return Verdict::Refuse(0x6B00);
     }
-    if !shared::fit_length(command) {
+    if !frame::fit_length(command) {
         return Verdict::Refuse(0x6700);
     }
     by_instruction(image, n, d, command, state)
@@ -86,13 +86,13 @@ fn judge_for(image: &[u8], n: usize, d: usize, command: &[u8], state: State) -> 
     if command.len() < 4 {
         return Verdict::Refuse(0x6700);
     }
-    if shared::on_other_channel(command[0]) {
+    if frame::on_other_channel(command[0]) {
         return Verdict::Refuse(0x6985);
     }
     if command[0] != 0x00 {
         return Verdict::Refuse(0x6E00);
     }
-    if !shared::is_known(command[1]) {
+    if !frame::is_known(command[1]) {
         return Verdict::Refuse(0x6D00);
     }
     if target::is_terminated(image, 0) {

@@ -1,0 +1,98 @@
+-- The bytes of a command, and what the steps A to G ask of them (01 "The order in which a command is judged").
+use Prim.Native.Nat.{ℕ, _+_, _/_, _%_}
+use mathlib.Core.Bool.{Bool, cond, not, _&&_, _||_}
+use mathlib.Core.List.{List}
+use lib.ListN.{length, getD}
+use lib.Dec.{eqb, leb}
+use Rattle.numbers.specs.Numbers.{u16At}
+use Rattle.verdict.specs.declared.State.{State}
+
+abbrev pub classByte : List ℕ → ℕ
+classByte c = getD c 0 0
+
+abbrev pub instruction : List ℕ → ℕ
+instruction c = getD c 1 0
+
+-- P1 P2 as one number
+abbrev pub parameters : List ℕ → ℕ
+parameters c = u16At c 2
+
+abbrev pub lc : List ℕ → ℕ
+lc c = getD c 4 0
+
+-- the identifier that SELECT and DELETE send
+abbrev pub sentIdentifier : List ℕ → ℕ
+sentIdentifier c = u16At c 5
+
+abbrev pub selectFile : ℕ
+selectFile = 0xA4
+
+abbrev pub createFile : ℕ
+createFile = 0xE0
+
+abbrev pub deleteFile : ℕ
+deleteFile = 0xE4
+
+abbrev pub activateFile : ℕ
+activateFile = 0x44
+
+abbrev pub deactivateFile : ℕ
+deactivateFile = 0x04
+
+abbrev pub terminateEf : ℕ
+terminateEf = 0xE8
+
+abbrev pub terminateDf : ℕ
+terminateDf = 0xE6
+
+abbrev pub terminateCard : ℕ
+terminateCard = 0xFE
+
+unfoldable pub isTerminate : ℕ → Bool
+isTerminate i = eqb i terminateEf || (eqb i terminateDf || eqb i terminateCard)
+
+unfoldable pub isKnown : ℕ → Bool
+isKnown i =
+    eqb i selectFile
+    || (eqb i createFile
+    || (eqb i deleteFile
+    || (eqb i activateFile
+    || (eqb i deactivateFile
+    || isTerminate i))))
+
+-- CREATE, DELETE, TERMINATE are refused while another channel is open
+unfoldable pub wantsAlone : ℕ → Bool
+wantsAlone i = eqb i createFile || (eqb i deleteFile || isTerminate i)
+
+-- of the byte of open channels only bits 1-3 count
+unfoldable pub otherChannel : State → Bool
+otherChannel st = not (eqb (st .channels / 2 % 8) 0)
+
+unfoldable pub crowded : ℕ → State → Bool
+crowded i st = wantsAlone i && otherChannel st
+
+-- P1 P2 are 00 00, of SELECT 00 0C
+unfoldable pub wantedParameters : ℕ → ℕ
+wantedParameters i = cond (eqb i selectFile) 0x000C 0x0000
+
+unfoldable pub fitParameters : List ℕ → Bool
+fitParameters c = eqb (parameters c) (wantedParameters (instruction c))
+
+-- 5+Lc bytes with Lc at least 1; 7 bytes with Lc 2
+unfoldable pub hasData : List ℕ → Bool
+hasData c = leb 6 (length c) && eqb (length c) (5 + lc c)
+
+unfoldable pub isSeven : List ℕ → Bool
+isSeven c = eqb (length c) 7 && eqb (lc c) 2
+
+-- CREATE 5+Lc with Lc at least 1; DELETE, SELECT 7 with Lc 2; others 4
+unfoldable pub fitLength : List ℕ → Bool
+fitLength c =
+    cond (eqb (instruction c) createFile) (hasData c)
+    (cond (eqb (instruction c) selectFile) (isSeven c)
+    (cond (eqb (instruction c) deleteFile) (isSeven c)
+    (eqb (length c) 4)))
+
+-- CLA 01-03
+unfoldable pub onOtherChannel : ℕ → Bool
+onOtherChannel class = leb 1 class && leb class 3
