@@ -1,3 +1,4 @@
+pub mod Files
 pub mod Sameness
 pub mod Costs
 pub mod Counts

@@ -1,5 +1,2 @@
-pub mod Bytes
-pub mod Parts
-pub mod Above
-pub mod NamePairs
 pub mod Passed
+pub mod Parts

@@ -1,85 +1,40 @@
--- One law for each way out of the functions that look at places, identifiers, charges and what is current:
--- what was read and answered stands in it as plain numbers.
-use mathlib.Core.Path.{_≡_, refl, sym, _∙_, ap}
-use mathlib.Core.Bool.{Bool, true, false, not, _&&_}
+-- One law for each way out of the functions that look at places and at what is current: what was
+-- read and answered stands in it as plain numbers.
+use mathlib.Core.Path.{_≡_, _∙_, ap}
+use mathlib.Core.Bool.{Bool, true, false, not}
 use mathlib.Core.List.{List}
 use Prim.Native.Nat.{ℕ, _+_, _<_, _≤_}
 use lib.Dec.{eqb, leb}
-use borrow.Author.Tests.{eq-eqb, ne-eqb, not-true, not-false, lt-ltb, le-ltb}
-use Rattle.laws.specs.Walks.{allBelow}
+use borrow.Author.Tests.{eq-eqb, ne-eqb, lt-ltb, le-ltb}
 use Rattle.laws.specs.Tests.{implies}
 use Rattle.laws.proofs.Chains.{implies-no, implies-yes}
-use Rattle.laws.proofs.Walks.{all-more, all-fails, all-end}
-use Rattle.image.specs.Layout.{recAt, kindOf, identifierOf, parentOf, levelOf, sizeOf, currentDfOf, currentEfOf}
-use Rattle.sound.specs.Table.{viewAt, isFile, charged}
-use Rattle.sound.specs.Kin.{placedAt, apartAt, siblingsAt, chargesAt}
+use Rattle.image.specs.Layout.{recAt, kindOf, parentOf, levelOf, currentDfOf, currentEfOf}
+use Rattle.sound.specs.Table.{viewAt, isFile}
+use Rattle.sound.specs.Kin.{placedAt}
 use Rattle.sound.specs.Sound.{currentb}
-use Rattle.sound.specs.Kinship.{isChild, isChildNamed}
+use Rattle.kinship.proofs.Files.{no-file, a-file}
 
 pub le-last : (z a b : ℕ) {x : Bool} → z ≡ a → x ≡ leb z b → x ≡ leb a b
 le-last z a b e h = h ∙ ap (λ (y : ℕ). leb y b) e
 
--- not siblings with one identifier: no child of that parent with it
-apart-child : (a b c : Bool) → implies a (implies b (not c)) ≡ not ((a && b) && c)
-unfolding implies
-apart-child true true c = refl
-apart-child true false c = refl
-apart-child false b c = refl
-
 module _ (img : List ℕ) (s : ℕ) (f : Bool) (e : f ≡ isFile (viewAt img) s) where
-  pub no : not f ≡ true → isFile (viewAt img) s ≡ false
-  no t = sym e ∙ not-true f t
-
-  pub yes : not f ≡ false → isFile (viewAt img) s ≡ true
-  yes t = sym e ∙ not-false f t
-
   module _ (n : ℕ) where
     pub placed-free : not f ≡ true → true ≡ placedAt n (viewAt img) s
     unfolding placedAt
-    placed-free t = implies-no _ _ (no t)
+    placed-free t = implies-no _ _ (no-file img s f e t)
 
     module _ (t : not f ≡ false) (p : ℕ) (q : p ≡ parentOf (recAt img s)) where
       pub placed-high : n ≤ p → false ≡ placedAt n (viewAt img) s
       unfolding placedAt
-      placed-high h = implies-yes _ _ _ (yes t) (rw (← q, le-ltb p n h))
+      placed-high h = implies-yes _ _ _ (a-file img s f e t) (rw (← q, le-ltb p n h))
 
       pub placed-kind : (k : ℕ) → p < n → k ≡ kindOf (recAt img p) → (k ≡ 1 → ⊥) → false ≡ placedAt n (viewAt img) s
       unfolding placedAt
-      placed-kind k l g h = implies-yes _ _ _ (yes t) (rw (← q, lt-ltb p n l, ← g, ne-eqb k 1 h))
+      placed-kind k l g h = implies-yes _ _ _ (a-file img s f e t) (rw (← q, lt-ltb p n l, ← g, ne-eqb k 1 h))
 
       pub placed-last : (k a b : ℕ) (x : Bool) → p < n → k ≡ kindOf (recAt img p) → k ≡ 1 → a ≡ levelOf (recAt img s) → b ≡ levelOf (recAt img p) → x ≡ eqb a (b + 1) → x ≡ placedAt n (viewAt img) s
       unfolding placedAt
-      placed-last k a b x l g h i j y = implies-yes _ _ _ (yes t) (rw (← q, lt-ltb p n l, ← g, eq-eqb k 1 h, ← i, ← j) y)
-
-  pub siblings-free : not f ≡ true → true ≡ siblingsAt (viewAt img) s
-  unfolding siblingsAt
-  siblings-free t = implies-no _ _ (no t)
-
-  -- d and x are the parent and the identifier of s, r says whether k is a child of d with identifier x
-  module _ (t : not f ≡ false) (d x k : ℕ) (p : d ≡ parentOf (recAt img s)) (q : x ≡ identifierOf (recAt img s)) (r : Bool) (g : r ≡ isChildNamed (viewAt img) d x k) where
-    apart-is : (b : Bool) → r ≡ b → apartAt (viewAt img) s k ≡ not b
-    unfolding apartAt isChildNamed isChild
-    apart-is b h = rw (← p, ← q) (apart-child (isFile (viewAt img) k) (eqb (parentOf (recAt img k)) d) (eqb (identifierOf (recAt img k)) x) ∙ ap not (sym g ∙ h))
-
-    pub siblings-turn : allBelow k (apartAt (viewAt img) s) ≡ true → r ≡ false → allBelow (k + 1) (apartAt (viewAt img) s) ≡ true
-    siblings-turn h z = all-more (apartAt (viewAt img) s) k h (apart-is false z)
-
-    pub siblings-stop : k < s → r ≡ true → false ≡ siblingsAt (viewAt img) s
-    unfolding siblingsAt
-    siblings-stop l z = implies-yes _ _ _ (yes t) (sym (all-fails (apartAt (viewAt img) s) s k l (apart-is true z)))
-
-  pub siblings-end : not f ≡ false → (k : ℕ) → k ≤ s → s ≤ k → allBelow k (apartAt (viewAt img) s) ≡ true → true ≡ siblingsAt (viewAt img) s
-  unfolding siblingsAt
-  siblings-end t k a b h = implies-yes _ _ _ (yes t) (all-end (apartAt (viewAt img) s) s k a b h)
-
-module _ (img : List ℕ) (n d k : ℕ) (e : k ≡ kindOf (recAt img d)) where
-  pub charges-no : (k ≡ 1 → ⊥) → true ≡ chargesAt n (viewAt img) d
-  unfolding chargesAt
-  charges-no h = implies-no _ _ (rw (← e) (ne-eqb k 1 h))
-
-  pub charges-is : (a z : ℕ) (x : Bool) → k ≡ 1 → a ≡ charged n (viewAt img) d → z ≡ sizeOf (recAt img d) → x ≡ leb a z → x ≡ chargesAt n (viewAt img) d
-  unfolding chargesAt
-  charges-is a z x h g i y = implies-yes _ _ _ (rw (← e) (eq-eqb k 1 h)) (rw (← g, ← i) y)
+      placed-last k a b x l g h i j y = implies-yes _ _ _ (a-file img s f e t) (rw (← q, lt-ltb p n l, ← g, eq-eqb k 1 h, ← i, ← j) y)
 
 -- what is current
 module _ (img : List ℕ) (n df : ℕ) (e : df ≡ currentDfOf img) where

@@ -1,9 +1,10 @@
 // The code that decides whether any bytes are a sound image (01 "Image"). It may use laws, numbers, rules,
-// image, sound and kinship.
+// image, sound, kinship and the crates of its parts.
 //
-// A module for each part, with a contract of its own: the header, each record by itself, parents and levels,
-// identifiers, names, charges, what is current. Walking up is safe only once parents and levels are known
-// good, and names are short only once each record is.
+// A module or a crate for each part, with a contract of its own: the header and each record by itself (`records`),
+// parents and levels, identifiers (`siblings`, `ancestry`), names (`naming`), charges (`charging`), what is
+// current. Walking up is safe only once parents and levels are known good, and names are short only once each
+// record is.
 ghost use mathlib.Core.Path.{_≡_};
 ghost use mathlib.Core.Bool.{true};
 ghost use Rattle.image.specs.Layout.{Sized};
@@ -11,12 +12,7 @@ ghost use Rattle.sound.specs.Table.{viewAt};
 ghost use Rattle.sound.specs.Kin.{kinb};
 ghost use Rattle.sound.specs.Sound.{recordsb, soundb};
 
-pub mod charges;
 pub mod current;
-pub mod header;
-pub mod identifiers;
-pub mod names;
-pub mod own;
 pub mod places;
 
 // Whether all holds that must hold between records.
@@ -31,27 +27,27 @@ fn kin(image: &[u8], n: usize) -> bool
     if !places::placed(image, n) {
         return false;
     }
-    if !identifiers::siblings(image, n) {
+    if !siblings::apart(image, n) {
         return false;
     }
-    if !identifiers::above(image, n) {
+    if !ancestry::apart(image, n) {
         return false;
     }
-    if !names::distinct(image, n) {
+    if !naming::distinct(image, n) {
         return false;
     }
-    charges::covered(image, n)
+    charging::covered(image, n)
 }
 
 // Whether an image is sound, for any bytes of any length.
 pub fn sound(image: &[u8]) -> bool
     ensures { λ r. ⌜ r ≡ soundb (now (image .entry)) ⌝ }
 {
-    if !header::agrees(image) {
+    if !records::header::agrees(image) {
         return false;
     }
     let n = image::fields::count(image);
-    if !own::records(image, n) {
+    if !records::own::records(image, n) {
         return false;
     }
     if !kin(image, n) {

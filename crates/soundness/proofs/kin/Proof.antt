@@ -21,15 +21,15 @@ returns-2 : tie.Need-returns-2
 unfolding kinb
 returns-2 c = search (refused-and, called-and, refl) depth 30
 
-siblings-requires : tie.Need-siblings-requires
-siblings-requires c κs = search needs
+apart-requires : tie.Need-apart-requires
+apart-requires c κs = search needs
 
 returns-3 : tie.Need-returns-3
 unfolding kinb
 returns-3 c = search (refused-and, called-and, refl) depth 30
 
-above-requires : tie.Need-above-requires
-above-requires c κs = (c .before .before .before .before .before .before .before .pre .0, (passed _ _ (c .before .before .before .before .before .root .ensures) (c .before .before .before .before .if1 .left), passed _ _ (c .before .before .before .placed .ensures) (c .before .before .if2 .left)))
+apart-requires-2 : tie.Need-apart-requires-2
+apart-requires-2 c κs = (c .before .before .before .before .before .before .before .pre .0, (passed _ _ (c .before .before .before .before .before .root .ensures) (c .before .before .before .before .if1 .left), passed _ _ (c .before .before .before .placed .ensures) (c .before .before .if2 .left)))
 
 returns-4 : tie.Need-returns-4
 unfolding kinb
@@ -57,9 +57,9 @@ kin-spec =
     returns
     placed-requires
     returns-2
-    siblings-requires
+    apart-requires
     returns-3
-    above-requires
+    apart-requires-2
     returns-4
     distinct-requires
     returns-5

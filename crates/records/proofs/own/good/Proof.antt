@@ -1,0 +1,35 @@
+-- `own::good`: all zero, or a good used record.
+use Rattle.laws.proofs.Branches.{tests}
+use Rattle.image.specs.Layout.{kindOf}
+use Rattle.sound.specs.Own.{ownb}
+use Rattle.laws.specs.Tests.{either}
+use borrow.Author.Needs.{needs}
+use Rattle.records.proofs.own.good.Statement.{statement}
+use Rattle.records.proofs.own.good.Tie as tie
+
+shared-slice-read-if1 : tie.Need-shared-slice-read-if1
+shared-slice-read-if1 c = search needs
+
+zeros-requires : tie.Need-zeros-requires
+zeros-requires c κs = search needs
+
+returns : tie.Need-returns
+unfolding ownb kindOf either
+returns c = search tests depth 30
+
+used-requires : tie.Need-used-requires
+used-requires c κs = search needs
+
+returns-2 : tie.Need-returns-2
+unfolding ownb kindOf either
+returns-2 c = search tests depth 30
+
+pub good-spec : {M : Type 1} → statement M
+good-spec =
+    tie.close
+    (tie.spec
+    shared-slice-read-if1
+    zeros-requires
+    returns
+    used-requires
+    returns-2)
