@@ -147,7 +147,7 @@ pub fn create_file(image: &[u8], n: usize, d: usize, sent: &[u8], sets: Sets) ->
     ensures { λ r. ⌜ r ≡ followed (create (now (image .entry)) n d (now (sent .entry)) sets) ⌝ }
 {
     let s = new_slot(image, n);
-    match template::read(sent) {
+    match describing::read(sent) {
         Data::Df { descriptor, identifier, life, name_start, name_end, rule_start, rule_end, total } => {
             new_df(image, n, d, s, sent, sets, descriptor, identifier, life, name_start, name_end, rule_start, rule_end, total)
         }

@@ -1,5 +1,5 @@
 pub mod Gathering
 pub mod Lists
-pub mod Judging
 pub mod Holding
 pub mod Good
+pub mod Reading

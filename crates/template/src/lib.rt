@@ -1,16 +1,8 @@
-// CREATE's data (01 "CREATE", data): a template 62 of data objects, read for any bytes into what a new file
-// is to be, or "bad" (6A80). It may use laws, numbers and rules.
+// CREATE's data (01 "CREATE", data): a template 62 of data objects. It may use laws, numbers and rules.
 //
-// Two layers. `gather` notes which objects of 01's list stand in the template and where, as one value
-// that judges nothing; `judge` judges that value and the bytes it points at. Every value is handed on as a
-// part of the data, from the middle of it, and nothing is copied.
-ghost use mathlib.Core.Path.{_≡_};
-ghost use Rattle.template.specs.Data.{dataOf};
-ghost use Rattle.template.specs.Good.{Good};
-
-pub mod form;
+// `gather` notes which objects of 01's list stand in the template and where, as one value that judges nothing;
+// `value` reads a value. What the whole must obey is judged above, in `describing`.
 pub mod gather;
-pub mod judge;
 pub mod value;
 
 // One data object at a place: its tag, and where its value starts and ends.
@@ -50,15 +42,4 @@ pub enum Data {
         size: u32,
     },
     Bad,
-}
-
-// CREATE's data read: any bytes, from the byte after Lc to the end of the command.
-pub fn read(s: &[u8]) -> Data
-    ensures { λ r. ⌜ (r ≡ dataOf (now (s .entry))) × Good (now (s .entry)) r ⌝ }
-{
-    if !judge::is_template(s) {
-        return Data::Bad;
-    }
-    let o = gather::all(s);
-    judge::file(s, o)
 }

@@ -1,5 +1,5 @@
 -- The first byte, or 0.
-use Rattle.template.proofs.Judging.{no-first}
+use Rattle.template.proofs.Reading.{no-first}
 use borrow.Author.Needs.{needs}
 use Rattle.template.proofs.value.first.Statement.{statement}
 use Rattle.template.proofs.value.first.Tie as tie

@@ -1,7 +1,7 @@
 -- A size in two to four bytes.
 use Rattle.laws.proofs.Branches.{is-eq, not-eq}
 use Rattle.template.specs.Values.{numberOf}
-use Rattle.template.proofs.Judging.{three-bytes}
+use Rattle.template.proofs.Reading.{three-bytes}
 use borrow.Author.Needs.{needs}
 use Rattle.template.proofs.value.number.Statement.{statement}
 use Rattle.template.proofs.value.number.Tie as tie
