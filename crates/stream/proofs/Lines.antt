@@ -11,7 +11,8 @@ use Rattle.laws.specs.Lists.{part, splice}
 use Rattle.numbers.specs.Numbers.{u16At}
 use Rattle.card.specs.declared.Reply.{Reply}
 use Rattle.card.specs.Command.{replyOf, imageOf, answerWord}
-use Rattle.stream.specs.Text.{digitOf, lineOf}
+use Rattle.text.specs.Digits.{digitOf}
+use Rattle.stream.specs.Text.{lineOf}
 use Rattle.stream.specs.Replay.{full, sentAt, endOf, cutShort, wordAt, imageAt}
 
 pub line-put : (l : List ℕ) (at w a b c d : ℕ) (y : List ℕ) → a ≡ digitOf (w / 4096) → b ≡ digitOf (w / 256 % 16)

@@ -1,6 +1,6 @@
 -- From the maker's answer to the text of a stream: only the buffer's length counts, and a refusal is `BAD`.
 use native.Mathlib.Omega.{arith}
-use mathlib.Core.Path.{_≡_, refl, sym, _∙_, ap, subst}
+use mathlib.Core.Path.{_≡_, refl, sym, _∙_, ap}
 use mathlib.Core.Bool.{Bool, true, false, cond, _&&_}
 use mathlib.Core.List.{List}
 use Prim.Native.Nat.{ℕ, _+_, _*_, _-_, _/_, _<_, _≤_}
@@ -9,18 +9,16 @@ use lib.ListN.{length, take, replicate, length-replicate}
 use lib.Seq.{length-take-le}
 use borrow.Author.Tests.{lt-ltb, le-ltb, lt-leb, leb-true}
 use Rattle.laws.specs.Lists.{splice}
-use Rattle.laws.proofs.Splices.{length-splice}
 use Rattle.laws.proofs.Says.{and-says}
 use Rattle.numbers.specs.Numbers.{u16At, u32At}
 use Rattle.maker.specs.declared.Made.{Made}
 use Rattle.maker.specs.declared.Made.the-variants.{Done, BadLength, BadTotal, BadRule}
 use Rattle.maker.specs.Making.{slotsIn, fitsLength, madeOf, answerOf, leftBy}
 use Rattle.sound.specs.Effects.{fresh}
-use Rattle.stream.specs.Text.{big, bad, Wrote, Counted}
+use Rattle.text.specs.Written.{Wrote, big}
+use Rattle.text.proofs.Written.{from-start}
+use Rattle.stream.specs.Text.{bad}
 use Rattle.stream.specs.Replay.{rootRule, runOf, goodHeader, performOf, replayOf}
-
-pub same-text : (r : ℕ) (o y t u : List ℕ) → Wrote r o y t → t ≡ u → Wrote r o y u
-same-text r o y t u w e = subst (Wrote r o y) e w
 
 -- what is written, by the maker's answer
 by-made : List ℕ → List ℕ → Made → List ℕ
@@ -95,11 +93,7 @@ header-long s e = leb-true 11 (length s) (and-says (leb 11 (length s)) _ .0 e .0
 
 pub too-big : (s out y : List ℕ) → 32768 < length s → 4 ≤ length out → y ≡ splice out 0 big → Wrote 4 out y (replayOf s)
 unfolding replayOf
-too-big s out y h f e = record {
-  long = ap (λ (b : Bool). length (cond b big (cond (goodHeader s) (performOf s (replicate (16 + 64 * u16At s 5) 0)) bad))) (sym (lt-ltb 32768 (length s) h));
-  fits = f;
-  bytes = e ∙ ap (λ (b : Bool). splice out 0 (cond b big (cond (goodHeader s) (performOf s (replicate (16 + 64 * u16At s 5) 0)) bad))) (sym (lt-ltb 32768 (length s) h));
-}
+too-big s out y h f e = rw (lt-ltb 32768 (length s) h) (from-start big refl f e)
 
 pub bad-header : (s : List ℕ) → length s ≤ 32768 → goodHeader s ≡ false → bad ≡ replayOf s
 unfolding replayOf
@@ -122,10 +116,3 @@ played s img n h e en l =
     perform-length s img (replicate (16 + 64 * u16At s 5) 0)
     (l ∙ ap (λ (k : ℕ). 16 + 64 * k) en ∙ sym (length-replicate (16 + 64 * u16At s 5) 0))
     ∙ good-start s h e
-
--- what was written can be lent as a part of the buffer
-pub counted : (r : ℕ) (o y t : List ℕ) → Wrote r o y t → Counted r y
-counted r o y t w =
-    let e : length y ≡ length o = ap length (w .bytes) ∙ length-splice o 0 t (omega (arith, w .long, w .fits)) in
-    let f : r ≤ length y = omega (arith, w .fits, e) in
-    (f, sym (length-take-le r y f))

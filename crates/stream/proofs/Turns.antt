@@ -9,7 +9,9 @@ use lib.ListN.{length, length-append}
 use borrow.Author.Tests.{lt-ltb, le-ltb}
 use Rattle.laws.specs.Lists.{splice}
 use Rattle.laws.proofs.Splices.{splice-nil, splice-step, length-splice}
-use Rattle.stream.specs.Text.{lineOf, cut, Wrote}
+use Rattle.text.specs.Written.{Wrote}
+use Rattle.text.proofs.Written.{from-start, same-text}
+use Rattle.stream.specs.Text.{lineOf, cut}
 use Rattle.stream.specs.Replay.{endOf, cutShort, wordAt, imageAt, runOf}
 use Rattle.stream.proofs.Lines.{whole}
 
@@ -77,20 +79,18 @@ module _ {s image₀ out₀ image out : List ℕ} {at put : ℕ} (g : Going s im
   pub ended : length s ≤ at → Wrote put out₀ out (runOf (length s) s 11 image₀)
   ended h =
       let e : runOf (length s) s 11 image₀ ≡ g .written = g .rest ∙ ap (λ (x : List ℕ). g .written ++ x) (run-ends (g .turns) s at image h) ∙ append-nil (g .written) in
-      record {
-        long = g .long ∙ ap length (sym e);
-        fits = omega (arith, g .room, g .little, g .low);
-        bytes = g .bytes ∙ ap (λ (x : List ℕ). splice out₀ 0 x) (sym e);
-      }
+      same-text (g .written) (runOf (length s) s 11 image₀)
+      (from-start (g .written) (g .long) (omega (arith, g .room, g .little, g .low)) (g .bytes)) (sym e)
 
   pub cut-off : (y : List ℕ) → at < length s → cutShort s at ≡ true → y ≡ splice out put cut → Wrote (put + 4) out₀ y (runOf (length s) s 11 image₀)
   cut-off y h t w =
       let e : runOf (length s) s 11 image₀ ≡ g .written ++ cut = g .rest ∙ ap (λ (x : List ℕ). g .written ++ x) (run-cuts (g .turns) s at image (g .enough) h t) in
-      record {
-        long = ap (λ (n : ℕ). n + 4) (g .long) ∙ sym (length-append (g .written) cut) ∙ ap length (sym e);
-        fits = omega (arith, g .room, g .little, g .low);
-        bytes = splice-step out₀ 0 (g .written) out put cut y (g .bytes) fits (omega (arith, g .long)) w ∙ ap (λ (x : List ℕ). splice out₀ 0 x) (sym e);
-      }
+      same-text (g .written ++ cut) (runOf (length s) s 11 image₀)
+      (from-start (g .written ++ cut)
+      (ap (λ (n : ℕ). n + 4) (g .long) ∙ sym (length-append (g .written) cut))
+      (omega (arith, g .room, g .little, g .low))
+      (splice-step out₀ 0 (g .written) out put cut y (g .bytes) fits (omega (arith, g .long)) w))
+      (sym e)
 
   pub goes-on : (to : ℕ) (img y : List ℕ) → at < length s → cutShort s at ≡ false → to ≡ endOf s at → img ≡ imageAt s at image
       → length img ≡ length image → y ≡ splice out put (lineOf (wordAt s at image)) → Going s image₀ out₀ img y to (put + 5)

@@ -10,7 +10,8 @@ use Rattle.numbers.specs.Numbers.{u16At, u32At}
 use Rattle.verdict.specs.declared.State.{State}
 use Rattle.maker.specs.Making.{madeOf, answerOf, leftBy}
 use Rattle.card.specs.Command.{replyOf, imageOf, answerWord}
-use Rattle.stream.specs.Text.{lineOf, big, bad, cut}
+use Rattle.text.specs.Written.{big}
+use Rattle.stream.specs.Text.{lineOf, bad, cut}
 
 -- sets full, no other channel
 abbrev pub full : State

@@ -6,33 +6,23 @@ ghost use Prim.Native.Nat.{_+_, _*_, _<_, _≤_};
 ghost use lib.ListN.{length};
 ghost use Rattle.laws.specs.Lists.{splice};
 ghost use Rattle.card.specs.Command.{replyOf, imageOf, answerWord};
-ghost use Rattle.stream.specs.Text.{digitOf, lineOf, bad, cut, Wrote, Counted};
+ghost use Rattle.text.specs.Written.{Wrote, Counted};
+ghost use Rattle.stream.specs.Text.{lineOf, bad, cut};
 ghost use Rattle.stream.specs.Replay.{full, goodHeader, cutShort, sentAt, endOf, wordAt, imageAt, runOf, performOf, replayOf};
 use card::Reply;
 use maker::Made;
 use rules::Sets;
 use verdict::State;
 
-// The capital hex digit of a number below 16.
-fn digit(d: u16) -> u8
-    requires { ⌜ d < 16 ⌝ }
-    ensures { λ r. ⌜ r ≡ digitOf d ⌝ }
-{
-    if d < 10 {
-        return 48 + d as u8;
-    }
-    55 + d as u8
-}
-
 // Writes a word's line at `at`.
 fn put_line(out: &mut [u8], at: usize, word: u16)
     requires { ⌜ at + 5 ≤ length (now out) ⌝ }
     ensures { λ _. ⌜ now (out .exit) ≡ splice (now (out .entry)) at (lineOf word) ⌝ }
 {
-    let a = digit(word / 4096);
-    let b = digit(word / 256 % 16);
-    let c = digit(word / 16 % 16);
-    let d = digit(word % 16);
+    let a = text::digit(word / 4096);
+    let b = text::digit(word / 256 % 16);
+    let c = text::digit(word / 16 % 16);
+    let d = text::digit(word % 16);
     numbers::copy_in(out, at, &[a, b, c, d, 10]);
 }
 

@@ -15,21 +15,21 @@ use Rattle.template.specs.declared.Object.the-variants.{Whole, Broken}
 use Rattle.template.specs.declared.Objects.{Objects}
 use Rattle.template.specs.Objects.{objectAt, order, noted, onTag, takenAt, noObjects, takenBelow, objectsOf, Held}
 
--- the value of the object at a place stands within the data, and never at its start
-abbrev Inside : List ℕ → Object → Type 0
-Inside s Broken = Unit
-Inside s (Whole tag start end) = (0 < start) × (start ≤ end) × (end ≤ length s)
+-- the value of the object at a place stands behind its tag and length, has at most 127 bytes, and ends within the data
+abbrev pub Inside : List ℕ → ℕ → Object → Type 0
+Inside s at Broken = Unit
+Inside s at (Whole tag start end) = (start ≡ at + 2) × (start ≤ end) × (end ≤ start + 127) × (end ≤ length s)
 
-unless : (s : List ℕ) (b : Bool) (x : Object) → (b ≡ false → Inside s x) → Inside s (cond b Broken x)
-unless s true x f = tt
-unless s false x f = f refl
+unless : (s : List ℕ) (at : ℕ) (b : Bool) (x : Object) → (b ≡ false → Inside s at x) → Inside s at (cond b Broken x)
+unless s at true x f = tt
+unless s at false x f = f refl
 
-inside : (s : List ℕ) (at : ℕ) → Inside s (objectAt s at)
+pub inside : (s : List ℕ) (at : ℕ) → Inside s at (objectAt s at)
 unfolding objectAt
 inside s at =
     let n : ℕ = getD s (at + 1) 0 in
-    unless s (ltb (length s) (at + 2)) _ (λ p. unless s (ltb 127 n) _ (λ q. unless s (ltb (length s) (at + 2 + n)) _
-    (λ r. (omega arith, omega arith, ltb-false (length s) (at + 2 + n) r))))
+    unless s at (ltb (length s) (at + 2)) _ (λ p. unless s at (ltb 127 n) _ (λ q. unless s at (ltb (length s) (at + 2 + n)) _
+    (λ r. (refl, omega arith, omega (arith, ltb-false 127 n q), ltb-false (length s) (at + 2 + n) r))))
 
 -- none yet
 zeros : (n k : ℕ) → _≡_ {A = ℕ} (getD (replicate n 0) k 0) 0
@@ -71,12 +71,12 @@ module _ (s : List ℕ) (o : Objects) (k : ℕ) (lt : k < 10) (h : Held s o) whe
         high = λ j. written (λ x y. y ≤ length s) (o .starts) (o .ends) k a e hl hm q j (h .high j);
       }
 
-  held-on : (r : Object) → Inside s r → Held s (onTag o k r)
+  held-on : (r : Object) → Inside s (o .next) r → Held s (onTag o k r)
   held-on Broken i = h
   held-on (Whole tag start end) i = go (eqb tag (getD order k 0))
     where
       go : (b : Bool) → Held s (cond b (noted o k start end) o)
-      go true = held-noted start end (i .0) (i .1) (i .2)
+      go true = held-noted start end (omega (arith, i .0)) (i .1) (i .3)
       go false = h
 
   held-taken : Held s (takenAt s o k)

@@ -1,5 +1,6 @@
 -- `perform`: the maker done, and the run; or a refusal, and `BAD`.
-use Rattle.stream.proofs.Made.{same-text, performed, no-length, no-total, no-rule}
+use Rattle.text.proofs.Written.{same-text}
+use Rattle.stream.proofs.Made.{performed, no-length, no-total, no-rule}
 use borrow.Author.Needs.{needs}
 use Rattle.stream.proofs.perform.Statement.{statement}
 use Rattle.stream.proofs.perform.Tie as tie
@@ -44,7 +45,7 @@ same-length-2 : tie.Need-same-length-2
 same-length-2 c = search needs
 
 returns : tie.Need-returns
-returns c = same-text _ _ _ _ _ (c .before .before .before .before .run .ensures) (performed _ _ _ _ (c .before .before .before .before .before .before .before .before .before .before .before .before .before .before .u32-at .ensures) (c .before .before .before .before .before .before .before .before .before .before .before .make .ensures .0) _ (c .before .before .before .before .before .before .before .enum-told .given .1) (c .before .before .before .before .before .before .before .before .before .before .before .make .ensures .1))
+returns c = same-text _ _ (c .before .before .before .before .run .ensures) (performed _ _ _ _ (c .before .before .before .before .before .before .before .before .before .before .before .before .before .before .u32-at .ensures) (c .before .before .before .before .before .before .before .before .before .before .before .make .ensures .0) _ (c .before .before .before .before .before .before .before .enum-told .given .1) (c .before .before .before .before .before .before .before .before .before .before .before .make .ensures .1))
 
 same-length-3 : tie.Need-same-length-3
 same-length-3 c = search needs
@@ -53,7 +54,7 @@ same-length-4 : tie.Need-same-length-4
 same-length-4 c = search needs
 
 returns-2 : tie.Need-returns-2
-returns-2 c = same-text _ _ _ _ _ (c .before .before .put-bad .ensures) (no-length _ _ _ _ (c .before .before .before .before .before .before .before .before .before .before .before .u32-at .ensures) (c .before .before .before .before .before .before .before .before .make .ensures .0) (c .before .before .before .before .enum-told2 .given .1))
+returns-2 c = same-text _ _ (c .before .before .put-bad .ensures) (no-length _ _ _ _ (c .before .before .before .before .before .before .before .before .before .before .before .u32-at .ensures) (c .before .before .before .before .before .before .before .before .make .ensures .0) (c .before .before .before .before .enum-told2 .given .1))
 
 same-length-5 : tie.Need-same-length-5
 same-length-5 c = search needs
@@ -62,7 +63,7 @@ same-length-6 : tie.Need-same-length-6
 same-length-6 c = search needs
 
 returns-3 : tie.Need-returns-3
-returns-3 c = same-text _ _ _ _ _ (c .before .before .put-bad2 .ensures) (no-total _ _ _ _ (c .before .before .before .before .before .before .before .before .before .before .before .u32-at .ensures) (c .before .before .before .before .before .before .before .before .make .ensures .0) (c .before .before .before .before .enum-told3 .given .1))
+returns-3 c = same-text _ _ (c .before .before .put-bad2 .ensures) (no-total _ _ _ _ (c .before .before .before .before .before .before .before .before .before .before .before .u32-at .ensures) (c .before .before .before .before .before .before .before .before .make .ensures .0) (c .before .before .before .before .enum-told3 .given .1))
 
 same-length-7 : tie.Need-same-length-7
 same-length-7 c = search needs
@@ -71,7 +72,7 @@ same-length-8 : tie.Need-same-length-8
 same-length-8 c = search needs
 
 returns-4 : tie.Need-returns-4
-returns-4 c = same-text _ _ _ _ _ (c .before .before .put-bad3 .ensures) (no-rule _ _ _ _ (c .before .before .before .before .before .before .before .before .before .before .before .u32-at .ensures) (c .before .before .before .before .before .before .before .before .make .ensures .0) (c .before .before .before .before .enum-told4 .given .1))
+returns-4 c = same-text _ _ (c .before .before .put-bad3 .ensures) (no-rule _ _ _ _ (c .before .before .before .before .before .before .before .before .before .before .before .u32-at .ensures) (c .before .before .before .before .before .before .before .before .make .ensures .0) (c .before .before .before .before .enum-told4 .given .1))
 
 pub perform-spec : {M : Type 1} → statement M
 perform-spec =

@@ -1,5 +1,5 @@
 -- `replay`: what `write` writes, in an array.
-use Rattle.stream.proofs.Made.{counted}
+use Rattle.text.proofs.Written.{counted}
 use borrow.Author.Needs.{needs}
 use Rattle.stream.proofs.replay.Statement.{statement}
 use Rattle.stream.proofs.replay.Tie as tie

@@ -2,7 +2,8 @@
 use native.Mathlib.Omega.{arith}
 use mathlib.Core.Path.{sym, _∙_}
 use borrow.Author.Tests.{not-true, not-false}
-use Rattle.stream.proofs.Made.{same-text, header-long, too-big, bad-header, many-slots, played, cut-to}
+use Rattle.text.proofs.Written.{same-text}
+use Rattle.stream.proofs.Made.{header-long, too-big, bad-header, many-slots, played, cut-to}
 use borrow.Author.Needs.{needs}
 use Rattle.stream.proofs.write.Statement.{statement}
 use Rattle.stream.proofs.write.Tie as tie
@@ -29,7 +30,7 @@ same-length-2 : tie.Need-same-length-2
 same-length-2 c = search needs
 
 returns-2 : tie.Need-returns-2
-returns-2 c = same-text _ _ _ _ _ (c .before .before .put-bad .ensures) (bad-header _ (c .before .before .before .before .before .before .if1 .left) (sym (c .before .before .before .before .before .good-header .ensures) ∙ not-true _ (c .before .before .before .before .if2 .taken)))
+returns-2 c = same-text _ _ (c .before .before .put-bad .ensures) (bad-header _ (c .before .before .before .before .before .before .if1 .left) (sym (c .before .before .before .before .before .good-header .ensures) ∙ not-true _ (c .before .before .before .before .if2 .taken)))
 
 u16-at-requires : tie.Need-u16-at-requires
 u16-at-requires c κs = omega (arith, header-long _ (sym (c .before .good-header .ensures) ∙ not-false _ (c .if2 .left)))
@@ -44,7 +45,7 @@ same-length-3 : tie.Need-same-length-3
 same-length-3 c = search needs
 
 returns-3 : tie.Need-returns-3
-returns-3 c = same-text _ _ _ _ _ (c .before .before .put-bad2 .ensures) (many-slots _ _ (c .before .before .before .before .before .before .before .before .if1 .left) (sym (c .before .before .before .before .before .before .before .good-header .ensures) ∙ not-false _ (c .before .before .before .before .before .before .if2 .left)) (c .before .before .before .before .before .u16-at .ensures) (c .before .before .before .before .if3 .taken))
+returns-3 c = same-text _ _ (c .before .before .put-bad2 .ensures) (many-slots _ _ (c .before .before .before .before .before .before .before .before .if1 .left) (sym (c .before .before .before .before .before .before .before .good-header .ensures) ∙ not-false _ (c .before .before .before .before .before .before .if2 .left)) (c .before .before .before .before .before .u16-at .ensures) (c .before .before .before .before .if3 .taken))
 
 mul-long : tie.Need-mul-long
 mul-long c = search needs
@@ -69,7 +70,7 @@ same-length-4 c = search needs
 
 returns-4 : tie.Need-returns-4
 returns-4 c =
-    same-text _ _ _ _ _ (c .before .before .before .perform .ensures)
+    same-text _ _ (c .before .before .before .perform .ensures)
     (played _ _ _ (c .before .before .before .before .before .before .before .before .before .before .before .if1 .left) (sym (c .before .before .before .before .before .before .before .before .before .before .good-header .ensures) ∙ not-false _ (c .before .before .before .before .before .before .before .before .before .if2 .left)) (c .before .before .before .before .before .before .before .before .u16-at .ensures) (sym (cut-to _ _ (c .before .before .before .before .before .before .before .if3 .left) (c .before .before .before .before .before .before .space .ensures))))
 
 pub write-spec : {M : Type 1} → statement M

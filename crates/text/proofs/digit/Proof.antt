@@ -1,10 +1,10 @@
 -- `digit`: `0` to `9`, then `A` to `F`.
-use Rattle.stream.specs.Text.{digitOf}
+use Rattle.text.specs.Digits.{digitOf}
 use Rattle.laws.proofs.Branches.{is-lt, not-lt}
 use mathlib.Core.Path.{refl}
 use borrow.Author.Needs.{needs}
-use Rattle.stream.proofs.digit.Statement.{statement}
-use Rattle.stream.proofs.digit.Tie as tie
+use Rattle.text.proofs.digit.Statement.{statement}
+use Rattle.text.proofs.digit.Tie as tie
 
 cast-result : tie.Need-cast-result
 cast-result c = search needs
