@@ -15,7 +15,7 @@ use Rattle.image.specs.declared.Head.{Head}
 use Rattle.image.specs.Layout.{base, Within, Sized, recAt, recordBytes, putRecord, setLife, setCurrent, countOf, currentDfOf, currentEfOf, none}
 use Rattle.image.proofs.Records.{record-same, record-other}
 use Rattle.image.proofs.Made.{length-made}
-use Rattle.image.proofs.Lives.{withLife, life-same, life-other}
+use Rattle.image.proofs.Lives.{life-same, life-other}
 use Rattle.image.proofs.Headers.{SameFront, SameHeader, same-front, same-df, same-ef, front-refl, front-trans, header-put, header-life, front-current, df-current, ef-current, record-current}
 use Rattle.sound.specs.Table.{viewAt}
 use Rattle.sound.specs.Sound.{Sound}

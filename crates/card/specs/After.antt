@@ -6,8 +6,7 @@ use mathlib.Core.List.{List}
 use lib.Dec.{eqb}
 use Rattle.laws.specs.Lists.{part}
 use Rattle.rules.specs.Descriptor.{df}
-use Rattle.image.specs.Layout.{recAt, recordBytes, freeBytes, currentDfOf, currentEfOf, none}
-use Rattle.image.proofs.Lives.{withLife}
+use Rattle.image.specs.Layout.{recAt, withLife, recordBytes, freeBytes, currentDfOf, currentEfOf, none}
 use Rattle.sound.specs.Table.{viewAt}
 use Rattle.sound.specs.Kinship.{atOrBeneath}
 use Rattle.verdict.specs.declared.Verdict.{Verdict}

@@ -9,10 +9,9 @@ use lib.Dec.{eqb}
 use borrow.Author.Tests.{eq-eqb, ne-eqb}
 use Rattle.laws.specs.Walks.{sumBelow, ifSo}
 use Rattle.laws.proofs.Says.{same-or}
-use Rattle.laws.proofs.Sums.{sum-change}
+use Rattle.laws.proofs.Sums.{sum-change, sum-none}
 use Rattle.rules.specs.Descriptor.{df}
 use Rattle.sound.specs.Table.{View, File}
-use Rattle.sound.proofs.Charges.{sum-none}
 use Rattle.history.specs.Ledger.{Entry, Ledger, sumOver, firstOf}
 use Rattle.history.proofs.Entries.{sum-of-one}
 

@@ -6,12 +6,12 @@ use mathlib.Core.List.{List, [], _∷_}
 use Prim.Native.Nat.{ℕ}
 use lib.Dec.{eqb}
 use borrow.Author.Tests.{eq-eqb, ne-eqb, eqb-true}
+use Rattle.laws.proofs.Says.{untrue}
 use Rattle.image.specs.Layout.{currentDfOf}
 use Rattle.card.specs.Demands.{Call}
 use Rattle.history.specs.Ledger.{Entry, Ledger, Announced, makes, deletes, neither, someOf, isOwn, keep, livesIn, noted}
 use Rattle.history.specs.Story.{Story, imageAfter, heard, next}
 use Rattle.history.specs.Demand3.{here, Lives, Makes}
-use Rattle.history.proofs.Upward.{untrue}
 
 some-keep : (p q : Entry → Bool) (l : List Entry) → someOf p l ≡ false → someOf p (keep q l) ≡ false
 unfolding someOf keep

@@ -8,13 +8,13 @@ use Prim.Native.Nat.{ℕ, _+_, _<_, _≤_}
 use native.Mathlib.Omega.{arith}
 use lib.Dec.{leb}
 use borrow.Author.Tests.{leb-true, leb-false, le-leb, lt-leb}
-use Rattle.laws.proofs.Says.{same-or}
+use Rattle.laws.proofs.Sums.{sum-none}
+use Rattle.laws.proofs.Says.{same-or, untrue}
 use Rattle.image.specs.Layout.{countOf, currentDfOf}
 use Rattle.sound.specs.Table.{View, viewAt}
 use Rattle.sound.specs.Sound.{Sound}
 use Rattle.sound.specs.Kin.{Kin}
 use Rattle.sound.specs.Kinship.{totalFor, roomFor, fitsRoom}
-use Rattle.sound.proofs.Charges.{sum-none}
 use Rattle.maker.specs.declared.Made.the-variants.{Done}
 use Rattle.maker.specs.Making.{madeOf, leftBy}
 use Rattle.maker.proofs.Buffers.{sound-made, alone-made}
@@ -26,7 +26,6 @@ use Rattle.history.specs.Story.{Story, begun, imageAfter, heard, next, t
 use Rattle.history.specs.Demand3.{here, room, Lives, Strikes, Makes, Demand3, History, Demand3Holds}
 use Rattle.history.proofs.Agree.{Agrees, worth, sumFiles, worth-free, worth-root}
 use Rattle.history.proofs.Directories.{Dir, dir-lives, lives-dir, charged-same, total-same, room-same}
-use Rattle.history.proofs.Upward.{untrue}
 use Rattle.history.proofs.Did.{Did, agree-step}
 use Rattle.history.proofs.Rooms.{Spared, spared, struck, made-none}
 use Rattle.history.proofs.Heard.{call-did}

@@ -4,6 +4,7 @@ use mathlib.Core.Bool.{Bool, true, false, cond, false≢true}
 use Prim.Native.Nat.{ℕ, _+_, _<_}
 use native.Mathlib.Omega.{arith}
 use borrow.Author.Tests.{eq-eqb, ne-eqb}
+use Rattle.laws.proofs.Says.{untrue}
 use Rattle.laws.proofs.Sums.{sum-cong, sum-change}
 use Rattle.rules.specs.Descriptor.{df, ef}
 use Rattle.sound.specs.Table.{View, chargeOf, charged}
@@ -15,7 +16,7 @@ use Rattle.sound.proofs.Kept.{gone}
 use Rattle.history.specs.Ledger.{Ledger, Announced, makes, deletes, neither, strikes}
 use Rattle.history.proofs.Agree.{Agrees, slot-cases}
 use Rattle.history.proofs.Directories.{Dir, dir-used}
-use Rattle.history.proofs.Upward.{untrue, within-same, beneath-step}
+use Rattle.history.proofs.Upward.{within-same, beneath-step}
 use Rattle.history.proofs.Did.{OneMore, AllBeneathGone, Did}
 
 -- what the root's slot costs: nothing

@@ -9,29 +9,19 @@ use lib.Dec.{eqb, ltb}
 use lib.ListN.{length}
 use borrow.Author.Tests.{eq-eqb, ne-eqb, eqb-true, eqb-false}
 use Rattle.laws.specs.Walks.{sumBelow, anyBelow, ifSo}
-use Rattle.laws.proofs.Says.{same-or, apart}
+use Rattle.laws.proofs.Says.{same-or, apart, untrue, same-test}
 use Rattle.laws.proofs.Walks.{any-at, none-any}
-use Rattle.laws.proofs.Sums.{sum-le, sum-swap, sum-at, sum-const, sum-has}
+use Rattle.laws.proofs.Sums.{sum-le, sum-swap, sum-at, sum-const, sum-has, sum-none}
 use Rattle.rules.specs.Descriptor.{df}
 use Rattle.sound.specs.Table.{View, File, up}
 use Rattle.sound.specs.Kin.{Kin}
 use Rattle.sound.specs.Kinship.{atOrBeneath}
 use Rattle.sound.proofs.Says.{AtOrBeneath, beneath-says}
 use Rattle.sound.proofs.Climbing.{Reached, reached, not-root, up-none, up-shift}
-use Rattle.sound.proofs.Charges.{sum-none}
 use Rattle.history.specs.Ledger.{Entry, Ledger, upIn, beneathIn, isNamed, fileIn, within, goesWith}
 use Rattle.history.proofs.Entries.{sum-length}
 use Rattle.history.proofs.Agree.{Agrees, entryOf, worth, sumFiles, worth-file, only-entry}
 use Rattle.history.proofs.Directories.{Dir, dir-used, parent-dir, above-same}
-
--- two tests that hold together are the same
-same-test : (a b : Bool) → (b ≡ true → a ≡ true) → (b ≡ false → a ≡ false) → a ≡ b
-same-test a true f g = f refl
-same-test a false f g = g refl
-
-pub untrue : (b : Bool) → (b ≡ true → ⊥) → b ≡ false
-untrue true f = absurd (f refl)
-untrue false f = refl
 
 -- a file lies at most as deep as there are files: at each level up to its own stands another
 module _ (n : ℕ) (v : ℕ → View) (kin : Kin n v) where

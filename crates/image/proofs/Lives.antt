@@ -12,12 +12,8 @@ use Rattle.laws.proofs.Splices.{length-part, getD-part, length-splice, getD-spl
 use Rattle.laws.proofs.Says.{same-or, apart}
 use Rattle.numbers.specs.Numbers.{u16At, u32At}
 use Rattle.numbers.proofs.Reading.{u16At-same}
-use Rattle.image.specs.Layout.{base, Within, recAt, setLife, kindOf, descriptorOf, lifeCycleOf, identifierOf, parentOf, levelOf, recordLengthOf, sizeOf, nameOf, ruleOf, fieldAt}
+use Rattle.image.specs.Layout.{base, Within, recAt, withLife, setLife, kindOf, descriptorOf, lifeCycleOf, identifierOf, parentOf, levelOf, recordLengthOf, sizeOf, nameOf, ruleOf, fieldAt}
 use Rattle.image.proofs.Places.{length-record}
-
--- a record with another life-cycle byte
-unfoldable pub withLife : List ℕ → ℕ → List ℕ
-withLife r x = splice r 2 (x ∷ [])
 
 module _ (r : List ℕ) (x : ℕ) (whole : length r ≡ 64) where
   pub length-with : length (withLife r x) ≡ 64

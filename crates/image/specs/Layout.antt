@@ -114,6 +114,10 @@ putRecord img s r = splice img (base s) r
 abbrev pub clearRecord : List ℕ → ℕ → List ℕ
 clearRecord img s = putRecord img s freeBytes
 
+-- a record with another life-cycle byte
+unfoldable pub withLife : List ℕ → ℕ → List ℕ
+withLife r life = splice r 2 (life ∷ [])
+
 -- another life-cycle byte for record s
 unfoldable pub setLife : List ℕ → ℕ → ℕ → List ℕ
 setLife img s life = splice img (base s + 2) (life ∷ [])

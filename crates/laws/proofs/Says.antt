@@ -61,6 +61,16 @@ same-says a b = (to, from)
 
 pub ruleset says = (and-says, implies-says, either-says, not-says, or-says, eq-says, le-says, all-says, same-says)
 
+-- what isn't true is false
+pub untrue : (b : Bool) → (b ≡ true → ⊥) → b ≡ false
+untrue true f = absurd (f refl)
+untrue false f = refl
+
+-- two tests that hold together are the same
+pub same-test : (a b : Bool) → (b ≡ true → a ≡ true) → (b ≡ false → a ≡ false) → a ≡ b
+same-test a true f g = f refl
+same-test a false f g = g refl
+
 -- two numbers are the same or not
 pub same-or : (a b : ℕ) → (a ≡ b) ⊎ (a ≡ b → ⊥)
 same-or a b = go (eqb a b) refl

@@ -48,6 +48,12 @@ unfolding sumBelow
 sum-cong zero f g h = refl
 sum-cong (suc n) f g h = rw (sum-cong n f g (λ i l. h i (omega arith)), h n (omega arith))
 
+-- a sum of nothing
+pub sum-none : (n : ℕ) (f : ℕ → ℕ) → ((i : ℕ) → i < n → f i ≡ 0) → sumBelow n f ≡ 0
+unfolding sumBelow
+sum-none zero f h = refl
+sum-none (suc n) f h = omega (arith, sum-none n f (λ i l. h i (omega arith)), h n (omega arith))
+
 pub sum-le : (n : ℕ) (f g : ℕ → ℕ) → ((i : ℕ) → i < n → f i ≤ g i) → sumBelow n f ≤ sumBelow n g
 unfolding sumBelow
 sum-le zero f g h = omega arith

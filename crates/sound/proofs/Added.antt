@@ -8,7 +8,7 @@ use Rattle.laws.proofs.Sums.{sum-change}
 use Rattle.laws.proofs.Says.{same-or}
 use Rattle.sound.specs.Table.{View, File, up, chargeOf, charged}
 use Rattle.sound.specs.Kin.{Placed, Kin}
-use Rattle.sound.proofs.Climbing.{Reached, reached}
+use Rattle.sound.proofs.Climbing.{reached}
 use Rattle.sound.proofs.Charges.{charge-free, charge-child, charge-stranger, charged-none}
 
 -- the checks of CREATE that look at other records: x is what the new record says, d the current directory's slot

@@ -7,9 +7,9 @@ use native.Mathlib.Omega.{arith}
 use Rattle.laws.proofs.Says.{says}
 use Rattle.sound.specs.Table.{View, up}
 use Rattle.sound.specs.Kin.{Kin}
-use Rattle.sound.specs.Kinship.{atOrBeneath, beneath}
+use Rattle.sound.specs.Kinship.{beneath}
 use Rattle.sound.proofs.Says.{AtOrBeneath, beneath-says}
-use Rattle.sound.proofs.Climbing.{Reached, reached, up-none}
+use Rattle.sound.proofs.Climbing.{reached, up-none}
 
 -- so many steps up from s, one or more, stands d
 pub record StepsUp (v : ℕ → View) (d s : ℕ) : Type 0 where

@@ -1,18 +1,12 @@
 -- What a file costs, and whom.
-use mathlib.Core.Path.{_≡_, refl}
+use mathlib.Core.Path.{_≡_}
 use mathlib.Core.Logic.{⊎-elim}
-use Prim.Native.Nat.{ℕ, zero, suc, _+_, _<_}
-use native.Mathlib.Omega.{arith}
+use Prim.Native.Nat.{ℕ, _+_}
 use borrow.Author.Tests.{eq-eqb, ne-eqb}
-use Rattle.laws.specs.Walks.{sumBelow}
 use Rattle.laws.proofs.Says.{same-or}
+use Rattle.laws.proofs.Sums.{sum-none}
 use Rattle.sound.specs.Table.{View, chargeOf, charged}
 use Rattle.sound.specs.Kin.{Kin}
-
-pub sum-none : (n : ℕ) (f : ℕ → ℕ) → ((i : ℕ) → i < n → f i ≡ 0) → sumBelow n f ≡ 0
-unfolding sumBelow
-sum-none zero f h = refl
-sum-none (suc n) f h = omega (arith, sum-none n f (λ i l. h i (omega arith)), h n (omega arith))
 
 -- a free record costs nothing
 pub charge-free : (d s : ℕ) (x : View) → x .kind ≡ 0 → chargeOf d s x ≡ 0

@@ -3,14 +3,13 @@ use mathlib.Core.Path.{_≡_, refl, sym, ap, _∙_}
 use mathlib.Core.List.{List}
 use mathlib.Core.Bool.{Bool, true, false, cond}
 use mathlib.Core.Logic.{⊎-elim}
-use Prim.Native.Nat.{ℕ, zero, suc, _+_, _*_, _<_, _≤_}
+use Prim.Native.Nat.{ℕ, zero, suc, _+_, _<_, _≤_}
 use native.Mathlib.Nat.{not-suc-le-zero}
 use native.Mathlib.Numerals.{add-one}
 use native.Mathlib.Omega.{arith}
-use lib.ListN.{length}
 use Rattle.laws.proofs.Walks.{split-lt}
 use Rattle.image.specs.Layout.{Within, Sized, recAt, freeBytes, clearRecord}
-use Rattle.image.proofs.Records.{record-same, record-other, length-put, within-sized}
+use Rattle.image.proofs.Records.{record-same, record-other}
 use Rattle.image.proofs.Headers.{SameHeader, header-put}
 use Rattle.sound.specs.Effects.{clearBelow}
 

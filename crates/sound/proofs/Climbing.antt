@@ -1,6 +1,6 @@
 -- The way up from a file: each step ends at a used record, one level higher.
-use mathlib.Core.Path.{_≡_, refl, sym, ap, _∙_}
-use Prim.Native.Nat.{ℕ, zero, suc, _+_, _-_, _<_, _≤_}
+use mathlib.Core.Path.{_≡_, refl, ap}
+use Prim.Native.Nat.{ℕ, zero, suc, _+_, _<_, _≤_}
 use native.Mathlib.Omega.{arith}
 use Rattle.sound.specs.Table.{View, File, up}
 use Rattle.sound.specs.Kin.{Placed, Kin}

@@ -1,9 +1,9 @@
 -- CREATE keeps an image sound: `sound-created`, from exactly what CREATE checks.
-use mathlib.Core.Path.{_≡_, refl, sym, ap, _∙_}
+use mathlib.Core.Path.{_≡_, refl, ap, _∙_}
 use mathlib.Core.List.{List, []}
 use mathlib.Core.Bool.{Bool, true, false, cond}
 use mathlib.Core.Logic.{_↔_, _⊎_, inl, inr, ⊎-elim}
-use Prim.Native.Nat.{ℕ, zero, suc, _+_, _*_, _-_, _<_, _≤_}
+use Prim.Native.Nat.{ℕ, suc, _+_, _<_, _≤_}
 use native.Mathlib.Omega.{arith}
 use lib.ListN.{length}
 use lib.Dec.{eqb}
@@ -17,7 +17,7 @@ use Rattle.image.specs.Layout.{Within, recAt, putRecord, kindOf, recordBytes, c
 use Rattle.image.proofs.Records.{record-same, record-other}
 use Rattle.image.proofs.Made.{length-made}
 use Rattle.image.proofs.Headers.{header-put, same-front}
-use Rattle.sound.specs.Table.{View, File, up, viewAt, viewOf, charged}
+use Rattle.sound.specs.Table.{View, File, up, viewAt, viewOf}
 use Rattle.sound.specs.Own.{Own}
 use Rattle.sound.specs.Kin.{Kin}
 use Rattle.sound.specs.Sound.{Current, Sound}

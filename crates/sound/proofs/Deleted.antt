@@ -3,11 +3,11 @@ use mathlib.Core.Path.{_≡_, refl, sym, ap, _∙_}
 use mathlib.Core.List.{List}
 use mathlib.Core.Bool.{Bool, true, false, cond, false≢true}
 use mathlib.Core.Logic.{_⊎_, inl, inr, ⊎-elim}
-use Prim.Native.Nat.{ℕ, zero, suc, _+_, _*_, _-_, _<_, _≤_}
+use Prim.Native.Nat.{ℕ, suc, _+_, _-_, _<_, _≤_}
 use native.Mathlib.Omega.{arith}
 use lib.Dec.{eqb}
 use borrow.Author.Tests.{eq-eqb, ne-eqb}
-use Rattle.laws.proofs.Says.{same-or}
+use Rattle.laws.proofs.Says.{same-or, untrue}
 use Rattle.image.specs.Layout.{recAt, kindOf, parentOf, freeBytes, countOf, currentDfOf, currentEfOf, none}
 use Rattle.image.proofs.Headers.{same-front}
 use Rattle.sound.specs.Table.{View, File, up, viewAt, viewOf}
@@ -22,10 +22,6 @@ use Rattle.sound.proofs.Kept.{gone, kin-kept}
 use Rattle.sound.proofs.Good.{view-free, own-free}
 use Rattle.sound.proofs.Front.{sound-set, sound-sized}
 use Rattle.sound.proofs.Cleared.{header-clear, record-clear}
-
-untrue : (b : Bool) → (b ≡ true → ⊥) → b ≡ false
-untrue true f = absurd (f refl)
-untrue false f = refl
 
 module _ (img : List ℕ) (d : ℕ) (sound : Sound img) (c : Deletes img d) where
   p : ℕ → Bool

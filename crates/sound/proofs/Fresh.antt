@@ -3,12 +3,13 @@ use mathlib.Core.Path.{_≡_, refl, sym, ap, _∙_}
 use mathlib.Core.List.{List, [], _∷_, _++_, append-assoc}
 use mathlib.Core.Bool.{true}
 use mathlib.Core.Logic.{_⊎_, inl, inr, ⊎-elim}
-use Prim.Native.Nat.{ℕ, zero, suc, _+_, _*_, _-_, _/_, _%_, _<_, _≤_}
+use Prim.Native.Nat.{ℕ, _+_, _*_, _-_, _/_, _%_, _<_, _≤_}
 use native.Mathlib.Omega.{arith}
-use lib.ListN.{length, getD, replicate, take, drop, length-append, length-replicate, getD-replicate, List·getD-append}
+use lib.ListN.{length, getD, replicate, take, length-append, length-replicate, getD-replicate, List·getD-append}
 use lib.Seq.{getD-append-add, take-at, drop-at, ext-getD}
 use Rattle.laws.specs.Lists.{part}
 use Rattle.laws.specs.Tests.{either}
+use Rattle.laws.proofs.Sums.{sum-none}
 use Rattle.laws.proofs.Says.{same-or}
 use Rattle.numbers.specs.Numbers.{u16At}
 use Rattle.rules.specs.Descriptor.{classOf, hasRecords}
@@ -21,10 +22,10 @@ use Rattle.image.proofs.Places.{byte-in, length-record}
 use Rattle.sound.specs.Table.{View, File, viewAt, viewOf, charged, chargeOf}
 use Rattle.sound.specs.Own.{Own}
 use Rattle.sound.specs.Kin.{Kin}
-use Rattle.sound.specs.Sound.{Header, Current, Sound}
+use Rattle.sound.specs.Sound.{Header, Sound}
 use Rattle.sound.specs.Effects.{Good, rootHead, freshHeader, fresh}
 use Rattle.sound.proofs.Kept.{gone}
-use Rattle.sound.proofs.Charges.{sum-none, charge-free, charge-stranger}
+use Rattle.sound.proofs.Charges.{charge-free, charge-stranger}
 use Rattle.sound.proofs.Good.{viewMade, view-made, own-made, view-free, own-free}
 
 -- a table whose only file is the root

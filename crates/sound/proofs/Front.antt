@@ -1,12 +1,12 @@
 -- What carries soundness over a change: an image with a sound one's header is sound when its records are;
 -- and SELECT.
-use mathlib.Core.Path.{_≡_, refl, sym, ap, _∙_}
+use mathlib.Core.Path.{_≡_, ap, _∙_}
 use mathlib.Core.List.{List}
-use Prim.Native.Nat.{ℕ, _+_, _*_, _<_, _≤_}
+use Prim.Native.Nat.{ℕ, _<_, _≤_}
 use native.Mathlib.Omega.{arith}
-use lib.ListN.{length, getD}
+use lib.ListN.{length}
 use Rattle.numbers.proofs.Reading.{u16At-same}
-use Rattle.image.specs.Layout.{Sized, Within, recAt, countOf, versionOf, currentDfOf, currentEfOf, none, setCurrent}
+use Rattle.image.specs.Layout.{Sized, Within, recAt, countOf, versionOf, currentDfOf, currentEfOf, setCurrent}
 use Rattle.image.proofs.Headers.{SameFront, same-count, front-refl, front-trans, front-current, df-current, ef-current, record-current}
 use Rattle.sound.specs.Table.{View, viewAt, viewOf}
 use Rattle.sound.specs.Own.{Own}

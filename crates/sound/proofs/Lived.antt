@@ -8,10 +8,10 @@ use native.Mathlib.Omega.{arith}
 use lib.ListN.{length, getD}
 use Rattle.laws.proofs.Says.{same-or}
 use Rattle.rules.specs.Life.{knownLife}
-use Rattle.image.specs.Layout.{Within, recAt, kindOf, countOf, setLife}
+use Rattle.image.specs.Layout.{withLife, Within, recAt, kindOf, countOf, setLife}
 use Rattle.image.proofs.Places.{length-record}
 use Rattle.image.proofs.Headers.{SameHeader, header-life, same-front, same-df, same-ef}
-use Rattle.image.proofs.Lives.{withLife, byte-kept, life-set, kind-kept, descriptor-kept, identifier-kept, parent-kept, level-kept, stride-kept, size-kept, name-kept, rule-kept, life-same, life-other}
+use Rattle.image.proofs.Lives.{byte-kept, life-set, kind-kept, descriptor-kept, identifier-kept, parent-kept, level-kept, stride-kept, size-kept, name-kept, rule-kept, life-same, life-other}
 use Rattle.sound.specs.Table.{View, viewAt, viewOf}
 use Rattle.sound.specs.Own.{Padded, Used, Own}
 use Rattle.sound.specs.Sound.{Sound}
