@@ -33,7 +33,7 @@ module _ (img : List ℕ) (n : ℕ) (tree : placedb n (viewAt img) ≡ true) whe
 
   pub way-up : Sized img n → rootb n (viewAt img) ≡ true → Rooted img n
   unfolding rootb
-  way-up sized root = rooted-by img n sized ((simp says at root) .1 .1 .0) all-placed
+  way-up sized root = rooted-by img n sized ((simp says at root) .1 .1 .0) (root-level n (viewAt img) root) all-placed
 
   -- p is the parent of s, x its identifier
   module _ (s : ℕ) (low : s < n) (f : Bool) (e : f ≡ isFile (viewAt img) s) (t : not f ≡ false) (p : ℕ) (q : p ≡ parentOf (recAt img s)) where

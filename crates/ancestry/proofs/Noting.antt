@@ -13,8 +13,7 @@ use borrow.Author.Tests.{eq-eqb, ne-eqb, eqb-true, not-true}
 use Rattle.laws.proofs.Chains.{implies-yes}
 use Rattle.laws.proofs.Says.{not-says, apart, says}
 use Rattle.laws.proofs.Walks.{each-all}
-use Rattle.rules.specs.Descriptor.{df}
-use Rattle.keys.specs.Marks.{marked, marking, Keyed}
+use Rattle.keys.specs.Marks.{marked, marking}
 use Rattle.keys.proofs.Bits.{length-marking, marked-new, marked-kept}
 use Rattle.keys.proofs.Walking.{keyed-none, keyed-free, keyed-again, keyed-put}
 use Rattle.sound.specs.Table.{View, viewAt, File, isFile, up}

@@ -1,19 +1,18 @@
 -- Sums of what files cost their directories: where they start, what one more file adds, and what they say of a
 -- directory at the end.
-use mathlib.Core.Path.{_≡_, refl, sym, ap, _∙_}
-use mathlib.Core.Bool.{Bool, true, false, not, _&&_}
+use mathlib.Core.Path.{_≡_, refl, sym, _∙_}
+use mathlib.Core.Bool.{Bool, true, false, not}
 use mathlib.Core.List.{List}
 use Prim.Native.Nat.{ℕ, _+_, _*_, _<_, _≤_}
 use native.Mathlib.Omega.{arith}
 use lib.Dec.{eqb, leb}
-use lib.ListN.{length, getD, set, replicate, length-set, length-replicate, getD-replicate}
+use lib.ListN.{getD, set, replicate, length-set, length-replicate, getD-replicate}
 use lib.Seq.{getD-set-same, getD-set-other}
 use borrow.Author.Tests.{eq-eqb, ne-eqb, eqb-true, eqb-false, not-true, not-false}
-use Rattle.laws.specs.Walks.{ifSo}
 use Rattle.laws.proofs.Chains.{implies-no, implies-yes}
 use Rattle.laws.proofs.Sums.{sum-start, sum-more}
-use Rattle.image.specs.Layout.{Sized, recAt, kindOf, parentOf, sizeOf}
-use Rattle.sound.specs.Table.{View, viewAt, isFile, payer, chargeOf, charged}
+use Rattle.image.specs.Layout.{Sized, recAt, kindOf, sizeOf}
+use Rattle.sound.specs.Table.{View, viewAt, isFile, chargeOf, charged}
 use Rattle.sound.specs.Kin.{chargesAt}
 use Rattle.charging.specs.Summing.{Summed}
 

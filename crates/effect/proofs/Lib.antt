@@ -1,4 +1,3 @@
-pub mod Marks
 pub mod Sent
 pub mod Writes
 pub mod Cases

@@ -2,34 +2,16 @@
 // none. What lies beneath is marked on the image as it came, and only then zeroed: a walk up over a half-zeroed
 // image leads nowhere.
 ghost use mathlib.Core.Path.{_≡_};
-ghost use mathlib.Core.Bool.{false, cond};
-ghost use Prim.Native.Nat.{ℕ, _<_, _≤_};
-ghost use lib.ListN.{length, getD};
+ghost use mathlib.Core.Bool.{cond};
+ghost use Prim.Native.Nat.{_<_};
+ghost use lib.ListN.{getD};
 ghost use lib.Dec.{eqb};
 ghost use Rattle.image.specs.Layout.{Sized, Within, countOf, none};
-ghost use Rattle.sound.specs.Table.{viewAt};
-ghost use Rattle.sound.specs.Kinship.{atOrBeneath};
 ghost use Rattle.sound.specs.Effects.{clearBelow, deleted};
 ghost use Rattle.sound.proofs.Cleared.{clearIf};
 ghost use Rattle.kinship.specs.Climb.{Rooted};
 use image::fields;
 use image::write;
-use kinship::climb;
-
-// Marks each slot that holds d or a file beneath it.
-fn marks_of(image: &[u8], n: usize, d: usize) -> [bool; 1023]
-    requires { ⌜ Rooted (now image) n ⌝ }
-    requires { ⌜ d < n ⌝ }
-    ensures { λ r. ⌜ (length r ≡ 1023) × ((k : ℕ) → k < n → getD r k false ≡ atOrBeneath (viewAt (now (image .entry))) d k) ⌝ }
-{
-    let mut marks = [false; 1023];
-    let mut s = 0;
-    while s < n {
-        marks[s] = climb::at_or_beneath(image, n, d, s);
-        s += 1;
-    }
-    marks
-}
 
 fn clear_if(image: &mut [u8], s: usize, marked: bool)
     requires { ⌜ Within (now image) s ⌝ }
@@ -40,15 +22,14 @@ fn clear_if(image: &mut [u8], s: usize, marked: bool)
     }
 }
 
-// Each marked record below n becomes a free one.
-fn clear_marked(image: &mut [u8], n: usize, marks: &[bool])
+// Each record below n that is marked with 1 becomes a free one.
+fn clear_marked(image: &mut [u8], n: usize, marks: &[u8; 1023])
     requires { ⌜ Sized (now image) n ⌝ }
-    requires { ⌜ n ≤ length (now marks) ⌝ }
-    ensures { λ _. ⌜ now (image .exit) ≡ clearBelow n (λ k. getD (now (marks .entry)) k false) (now (image .entry)) ⌝ }
+    ensures { λ _. ⌜ now (image .exit) ≡ clearBelow n (λ k. eqb (getD (now (marks .entry)) k 0) 1) (now (image .entry)) ⌝ }
 {
     let mut s = 0;
     while s < n {
-        clear_if(image, s, marks[s]);
+        clear_if(image, s, marks[s] == 1);
         s += 1;
     }
 }
@@ -72,7 +53,8 @@ pub fn erase(image: &mut [u8], n: usize, d: usize)
 {
     let df = fields::current_df(image);
     let ef = ef_left(fields::current_ef(image), d);
-    let marks = marks_of(image, n, d);
+    let mut marks = [0u8; 1023];
+    subtree::settle_all(&mut marks, image, n, d);
     clear_marked(image, n, &marks);
     write::set_current(image, df as u16, ef);
 }

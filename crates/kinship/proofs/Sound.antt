@@ -13,8 +13,13 @@ use Rattle.sound.specs.Sound.{Sound, Header}
 use Rattle.kinship.specs.Climb.{Rooted, Stands, Paid}
 
 -- parents that stand where they must make the way up safe
-pub rooted-by : (img : List ℕ) (n : ℕ) → Sized img n → viewAt img 0 .parent ≡ 0 → ((s : ℕ) → s < n → File (viewAt img) s → Placed n (viewAt img) s) → Rooted img n
-rooted-by img n sized top placed = record { sized = sized; parent = λ s h. ⊎-elim (λ z. root s z h) (λ z. child s z h) (same-or s 0) }
+pub rooted-by : (img : List ℕ) (n : ℕ) → Sized img n → viewAt img 0 .parent ≡ 0 → viewAt img 0 .level ≡ 0 → ((s : ℕ) → s < n → File (viewAt img) s → Placed n (viewAt img) s) → Rooted img n
+rooted-by img n sized top high placed =
+    record {
+      sized = sized;
+      parent = λ s h. ⊎-elim (λ z. root s z h) (λ z. child s z h) (same-or s 0);
+      level = λ s h l. placed s (h .low) (h .used, λ z. omega (arith, ap (λ (x : ℕ). viewAt img x .level) z)) .up;
+    }
   where
     root : (s : ℕ) → s ≡ 0 → Stands img n s → Stands img n (viewAt img s .parent)
     root s z h =
@@ -34,7 +39,7 @@ module _ (img : List ℕ) (sound : Sound img) where
   sized = sized-by img (sound .header)
 
   pub rooted : Rooted img (countOf img)
-  rooted = rooted-by img (countOf img) sized (sound .kin .root-parent) (sound .kin .placed)
+  rooted = rooted-by img (countOf img) sized (sound .kin .root-parent) (sound .kin .root-level) (sound .kin .placed)
 
   pub paid : (d : ℕ) → d < countOf img → viewAt img d .kind ≡ df → Paid img (countOf img) d
   paid d l k = record { within = sound .kin .charges d l k }

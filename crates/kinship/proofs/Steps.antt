@@ -3,17 +3,17 @@
 use mathlib.Core.Path.{_≡_, refl, sym, ap, _∙_}
 use mathlib.Core.Bool.{Bool, true, false}
 use mathlib.Core.List.{List}
-use Prim.Native.Nat.{ℕ, suc, _+_, _-_, _<_, _≤_}
+use Prim.Native.Nat.{ℕ, suc, _+_, _<_, _≤_}
 use native.Mathlib.Numerals.{add-one}
 use native.Mathlib.Omega.{arith}
 use lib.Dec.{eqb}
-use borrow.Author.Tests.{eq-eqb, ne-eqb, le-leb, lt-leb}
+use borrow.Author.Tests.{eq-eqb, ne-eqb}
 use Rattle.laws.specs.Walks.{anyBelow}
 use Rattle.laws.proofs.Walks.{any-turn, any-stop, any-end}
-use Rattle.image.specs.Layout.{recAt, kindOf, levelOf, lifeCycleOf}
+use Rattle.image.specs.Layout.{recAt, lifeCycleOf}
 use Rattle.rules.specs.Life.{isTerminated}
 use Rattle.sound.specs.Table.{viewAt, up}
-use Rattle.sound.specs.Kinship.{terminatedAt, terminatedUp, atOrBeneath}
+use Rattle.sound.specs.Kinship.{terminatedAt, terminatedUp}
 use Rattle.kinship.specs.Climb.{Rooted, Stands, isNamedUp, namedUp}
 
 -- where a walk up from s stands after i steps
@@ -32,9 +32,6 @@ climb-more img n s i t p rooted c e =
       here = e ∙ ap (λ (x : ℕ). viewAt img x .parent) (c .here) ∙ ap (λ (k : ℕ). up (viewAt img) k s) (sym (add-one i));
       stands = rw e (rooted .parent t (c .stands));
     }
-
-pub climb-end : (img : List ℕ) (n s k i t : ℕ) → Climbed img n s i t → i ≤ k → k ≤ i → t ≡ up (viewAt img) k s
-climb-end img n s k i t c l m = let e : i ≡ k = omega arith in rw e at (c .here)
 
 -- asked on the way: is one of them terminated
 abbrev pub terminatedStep : List ℕ → ℕ → ℕ → Bool
@@ -79,18 +76,3 @@ pub named-end : (img : List ℕ) (x s i l : ℕ) → l ≡ viewAt img s .level �
     → false ≡ namedUp (viewAt img) x s
 unfolding namedUp
 named-end img x s i l q a b h = any-end (isNamedUp (viewAt img) x s) (suc (viewAt img s .level)) i (omega arith) (omega arith) h
-
--- beneath: as many steps up as there are levels between them stands d
-module _ (img : List ℕ) (d s : ℕ) where
-  pub beneath-free : (k : ℕ) → k ≡ kindOf (recAt img s) → k ≡ 0 → false ≡ atOrBeneath (viewAt img) d s
-  unfolding atOrBeneath
-  beneath-free k e f = rw (← e, eq-eqb k 0 f)
-
-  module _ (k : ℕ) (e : k ≡ kindOf (recAt img s)) (f : k ≡ 0 → ⊥) (high low : ℕ) (p : high ≡ levelOf (recAt img d)) (q : low ≡ levelOf (recAt img s)) where
-    pub beneath-high : low < high → false ≡ atOrBeneath (viewAt img) d s
-    unfolding atOrBeneath
-    beneath-high h = rw (← e, ne-eqb k 0 f, ← p, ← q, lt-leb high low h)
-
-    pub beneath-is : (t : ℕ) → high ≤ low → t ≡ up (viewAt img) (low - high) s → eqb t d ≡ atOrBeneath (viewAt img) d s
-    unfolding atOrBeneath
-    beneath-is t h u = rw (← e, ne-eqb k 0 f, ← p, ← q, le-leb high low h, u)

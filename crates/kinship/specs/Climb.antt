@@ -2,7 +2,7 @@
 use mathlib.Core.Path.{_≡_}
 use mathlib.Core.Bool.{Bool}
 use mathlib.Core.List.{List}
-use Prim.Native.Nat.{ℕ, suc, _<_, _≤_}
+use Prim.Native.Nat.{ℕ, suc, _+_, _<_, _≤_}
 use lib.Dec.{eqb}
 use Rattle.laws.specs.Walks.{anyBelow}
 use Rattle.image.specs.Layout.{Sized}
@@ -13,10 +13,11 @@ pub record Stands (img : List ℕ) (n s : ℕ) : Type 0 where
   pub low : s < n
   pub used : viewAt img s .kind ≡ 0 → ⊥
 
--- every file's parent slot holds a file
+-- every file's parent slot holds a file, and a file below level 0 is one level deeper than its parent
 pub record Rooted (img : List ℕ) (n : ℕ) : Type 0 where
   pub sized : Sized img n
   pub parent : (s : ℕ) → Stands img n s → Stands img n (viewAt img s .parent)
+  pub level : (s : ℕ) → Stands img n s → 0 < viewAt img s .level → viewAt img s .level ≡ viewAt img (viewAt img s .parent) .level + 1
 
 -- what its children cost directory d is within its total
 pub record Paid (img : List ℕ) (n d : ℕ) : Type 0 where

@@ -1,27 +1,11 @@
 // The way up from a file, step by step to the parent slot: is something terminated there, has something an
-// identifier, does it lead through a directory (01 "CREATE" steps K and L, "DELETE", all life-cycle commands).
+// identifier (01 "CREATE" steps K and L, "DELETE", all life-cycle commands).
 ghost use mathlib.Core.Path.{_≡_};
-ghost use Prim.Native.Nat.{_<_};
-ghost use Rattle.sound.specs.Table.{viewAt, up};
-ghost use Rattle.sound.specs.Kinship.{terminatedUp, atOrBeneath};
+ghost use Rattle.sound.specs.Table.{viewAt};
+ghost use Rattle.sound.specs.Kinship.{terminatedUp};
 ghost use Rattle.kinship.specs.Climb.{Rooted, Stands, namedUp};
 use image::fields;
 use rules::life_cycle;
-
-// The slot k steps up from s.
-pub fn up_from(image: &[u8], n: usize, k: usize, s: usize) -> usize
-    requires { ⌜ Rooted (now image) n ⌝ }
-    requires { ⌜ Stands (now image) n s ⌝ }
-    ensures { λ r. ⌜ r ≡ up (viewAt (now (image .entry))) k s ⌝ }
-{
-    let mut t = s;
-    let mut i = 0;
-    while i < k {
-        t = fields::parent(image, t);
-        i += 1;
-    }
-    t
-}
 
 // Whether the file in slot s or a directory above it is terminated.
 pub fn terminated_up(image: &[u8], n: usize, s: usize) -> bool
@@ -59,21 +43,4 @@ pub fn named_up(image: &[u8], n: usize, x: u16, s: usize) -> bool
         i += 1;
     }
     false
-}
-
-// Whether slot s holds directory d itself or a file beneath it.
-pub fn at_or_beneath(image: &[u8], n: usize, d: usize, s: usize) -> bool
-    requires { ⌜ Rooted (now image) n ⌝ }
-    requires { ⌜ (d < n) × (s < n) ⌝ }
-    ensures { λ r. ⌜ r ≡ atOrBeneath (viewAt (now (image .entry))) d s ⌝ }
-{
-    if fields::kind(image, s) == 0 {
-        return false;
-    }
-    let high = fields::level(image, d);
-    let low = fields::level(image, s);
-    if low < high {
-        return false;
-    }
-    up_from(image, n, low - high, s) == d
 }

@@ -1,5 +1,5 @@
 // The maker of fresh images and the report (01 "Making and reporting"). It may use laws, numbers, rules, image,
-// sound, soundness and kinship.
+// sound, kinship, subtree and soundness.
 //
 // Both calls take any bytes. An answer is an enum; specs/ gives 01's number and values for each of its cases.
 pub mod fresh;

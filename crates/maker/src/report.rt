@@ -16,7 +16,7 @@ fn figures(image: &[u8], n: usize) -> Figures
     let total = image::fields::size(image, d) as u32;
     let room = kinship::room::room(image, n, d) as u32;
     let children = kinship::count::children(image, n, d);
-    let beneath = kinship::count::beneath(image, n, d);
+    let beneath = subtree::beneath(image, n, d);
     Figures {
         total: total,
         room: room,

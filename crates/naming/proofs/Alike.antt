@@ -8,7 +8,6 @@ use native.Mathlib.Omega.{arith}
 use lib.Dec.{leb}
 use lib.ListN.{length, getD}
 use borrow.Author.Tests.{leb-true, leb-false}
-use Rattle.laws.specs.Lists.{part}
 use Rattle.laws.proofs.Says.{same-or}
 use Rattle.laws.proofs.Splices.{length-part, getD-part}
 use Rattle.laws.proofs.Walks.{all-each}

@@ -1,70 +1,125 @@
--- What a record's own bytes tell: a loop over bytes that must be zero, a padded field, the numbers that were
--- read, each as a law for one way out of a function.
-use mathlib.Core.Path.{_≡_, sym, _∙_, ap}
-use mathlib.Core.Bool.{Bool, true, false, not, _&&_}
+-- What a record's own bytes tell: the numbers that were read, name and rule with the zeros after them, each as
+-- a law for one way out of a function.
+use mathlib.Core.Path.{_≡_, refl, sym, _∙_, ap}
+use mathlib.Core.Bool.{Bool, true, false, not, _&&_, and-true, and-false, false≢true}
 use mathlib.Core.List.{List}
-use Prim.Native.Nat.{ℕ, _+_, _*_, _-_, _<_, _≤_}
+use Prim.Native.Nat.{ℕ, zero, suc, _+_, _*_, _-_, _<_, _≤_}
 use native.Mathlib.Omega.{arith}
 use lib.ListN.{length, getD, take, drop}
 use lib.Dec.{eqb, leb}
-use borrow.Author.Tests.{eq-eqb, ne-eqb, not-false, le-leb, lt-leb}
+use borrow.Author.Tests.{eqb-true, eq-eqb, ne-eqb, not-true, not-false, le-leb, lt-leb}
 use Rattle.laws.specs.Lists.{part}
-use Rattle.laws.proofs.Walks.{all-zero, all-more, all-fails}
+use Rattle.laws.specs.Tests.{implies, either}
+use Rattle.laws.proofs.Says.{and-says, implies-says}
 use Rattle.numbers.specs.Numbers.{u16At, u32At}
-use Rattle.rules.specs.Value.{goodIdentifier, goodLength}
+use Rattle.rules.specs.Value.{goodIdentifier, wholeRecords, goodLength}
+use Rattle.rules.specs.Descriptor.{ef, hasRecords}
 use Rattle.rules.specs.Rule.{fitsRecord}
-use Rattle.image.specs.Layout.{recAt, countOf, versionOf, descriptorOf, recordLengthOf, sizeOf, ruleOf, fieldAt}
+use Rattle.image.specs.Layout.{recAt, countOf, versionOf, kindOf, descriptorOf, recordLengthOf, sizeOf, ruleOf, fieldAt}
 use Rattle.image.proofs.Places.{record-in}
-use Rattle.sound.specs.Own.{zerosb, paddedb, ownb, measuredb, ruledb}
+use Rattle.sound.specs.Own.{zerosb, paddedb, ownb, measuredb, namedb, ruledb}
 use Rattle.sound.specs.Sound.{headerb}
-
-module _ (s : List ℕ) (at : ℕ) where
-  pub zeros-start : zerosb s at 0 ≡ true
-  unfolding zerosb
-  zeros-start = all-zero (λ k. eqb (getD s (at + k) 0) 0)
-
-  pub zeros-more : (k : ℕ) → zerosb s at k ≡ true → getD s (at + k) 0 ≡ 0 → zerosb s at (k + 1) ≡ true
-  unfolding zerosb
-  zeros-more k h e = all-more (λ k. eqb (getD s (at + k) 0) 0) k h (eq-eqb (getD s (at + k) 0) 0 e)
-
-  pub zeros-stop : (n k : ℕ) → k < n → (getD s (at + k) 0 ≡ 0 → ⊥) → false ≡ zerosb s at n
-  unfolding zerosb
-  zeros-stop n k l e = sym (all-fails (λ k. eqb (getD s (at + k) 0) 0) n k l (ne-eqb (getD s (at + k) 0) 0 e))
-
-  pub zeros-end : (n k : ℕ) → k ≤ n → n ≤ k → zerosb s at k ≡ true → true ≡ zerosb s at n
-  zeros-end n k a b h = let e : k ≡ n = omega arith in sym (rw e at h)
-
--- a length that was read: n is that number
-module _ (r : List ℕ) (at n : ℕ) (e : n ≡ getD r at 0) where
-  pub padded-is : (b : Bool) → n ≤ 16 → b ≡ zerosb r (at + 1 + n) (16 - n) → b ≡ paddedb r at
-  unfolding paddedb
-  padded-is b h z = rw (← e, le-leb n 16 h) z
-
-  pub padded-not : 16 < n → false ≡ paddedb r at
-  unfolding paddedb
-  padded-not h = rw (← e, lt-leb n 16 h)
+use Rattle.records.proofs.Zeros.{agree, zeros-each, zeros-part, zeros-both, zeros-start, zeros-more}
 
 pub identifier-last : (v w : ℕ) {b : Bool} → v ≡ w → b ≡ goodIdentifier v → b ≡ goodIdentifier w
 identifier-last v w e h = h ∙ ap goodIdentifier e
 
-pub measured-not : (r : List ℕ) (z : ℕ) → z ≡ u32At r 12 → z < 1 → false ≡ measuredb r
-unfolding measuredb sizeOf
-measured-not r z e h = rw (← e, lt-leb 1 z h)
+-- size and record length: z and l are those numbers, h says whether there are records
+module _ (r : List ℕ) (z : ℕ) (e : z ≡ u32At r 12) where
+  pub recorded-not : z < 1 → false ≡ (leb 1 (sizeOf r) && wholeRecords (recordLengthOf r) (sizeOf r))
+  unfolding sizeOf
+  recorded-not h = rw (← e, lt-leb 1 z h)
 
-pub measured-is : (r : List ℕ) (z l : ℕ) (b : Bool) → z ≡ u32At r 12 → 1 ≤ z → l ≡ u16At r 10 → b ≡ goodLength (getD r 1 0) l z → b ≡ measuredb r
-unfolding measuredb sizeOf recordLengthOf descriptorOf
-measured-is r z l b e h f g = rw (← e, ← f, le-leb 1 z h) g
+  pub recorded-is : 1 ≤ z → (l : ℕ) (b : Bool) → l ≡ u16At r 10 → b ≡ wholeRecords l z → b ≡ (leb 1 (sizeOf r) && wholeRecords (recordLengthOf r) (sizeOf r))
+  unfolding sizeOf recordLengthOf
+  recorded-is h l b f g = rw (← e, ← f, le-leb 1 z h) g
 
-module _ (r : List ℕ) (n : ℕ) (p : Bool) (e : p ≡ paddedb r 33) (t : not p ≡ false) (f : n ≡ getD r 33 0) where
-  pub ruled-long : 16 < n → false ≡ ruledb r
-  unfolding ruledb
-  ruled-long h = rw (← padded-not r 33 n f h)
+module _ (r : List ℕ) (h : Bool) (f : h ≡ hasRecords (getD r 1 0)) where
+  pub measured-records : h ≡ true → (b : Bool) → b ≡ (leb 1 (sizeOf r) && wholeRecords (recordLengthOf r) (sizeOf r)) → b ≡ measuredb r
+  unfolding measuredb goodLength descriptorOf either
+  measured-records t b g = rw (← f, t) g
 
-  pub ruled-is : (b : Bool) → b ≡ fitsRecord (take (34 + n - 34) (drop 34 r)) → b ≡ ruledb r
-  unfolding ruledb ruleOf fieldAt part
-  ruled-is b g =
-      let k : 34 + n - 34 ≡ n = omega arith in
-      rw (← e, not-false p t, ← f) (g ∙ ap (λ (m : ℕ). fitsRecord (take m (drop 34 r))) k)
+  module _ (t : h ≡ false) (l : ℕ) (e : l ≡ u16At r 10) where
+    pub measured-length : (l ≡ 0 → ⊥) → false ≡ measuredb r
+    unfolding measuredb goodLength descriptorOf either recordLengthOf
+    measured-length n = rw (← f, t, ← e, ne-eqb l 0 n) (sym (and-false (leb 1 (sizeOf r))))
+
+    pub measured-size : l ≡ 0 → (z : ℕ) → z ≡ u32At r 12 → not (eqb z 0) ≡ measuredb r
+    unfolding measuredb goodLength descriptorOf either recordLengthOf sizeOf
+    measured-size n z g = rw (← f, t, ← e, eq-eqb l 0 n, ← g) (some z ∙ sym (and-true (leb 1 z)))
+      where
+        some : (z : ℕ) → not (eqb z 0) ≡ leb 1 z
+        some zero = refl
+        some (suc z) = ap not (ne-eqb (suc z) 0 (λ e. omega arith)) ∙ sym (le-leb 1 (suc z) (omega arith))
+
+always : (b : Bool) → implies b true ≡ true
+unfolding implies
+always true = refl
+always false = refl
+
+-- the name: x says whether there is none, n is its length
+module _ (r : List ℕ) (x : Bool) (g : x ≡ zerosb r 16 17) where
+  pub named-none : x ≡ true → true ≡ namedb r
+  unfolding namedb paddedb
+  named-none t =
+      let e : getD r 16 0 ≡ 0 = zeros-each r 16 17 (sym g ∙ t) 16 (omega arith) (omega arith) in
+      rw (e, zeros-part r 16 17 17 16 (omega arith) (omega arith) (sym g ∙ t)) (sym (always (eqb (kindOf r) ef)))
+
+  -- an EF's name field that passed is empty
+  named-empty : getD r 0 0 ≡ 2 → namedb r ≡ true → zerosb r 16 17 ≡ true
+  unfolding namedb paddedb kindOf
+  named-empty k z =
+      let p = and-says (paddedb r 16) (implies (eqb (kindOf r) ef) (eqb (getD r 16 0) 0)) .0 z in
+      let q = and-says (leb (getD r 16 0) 16) (zerosb r (17 + getD r 16 0) (16 - getD r 16 0)) .0 (p .0) in
+      let o : getD r 16 0 ≡ 0 = eqb-true (getD r 16 0) 0 (implies-says (eqb (kindOf r) ef) (eqb (getD r 16 0) 0) .0 (p .1) (eq-eqb (getD r 0 0) 2 k)) in
+      zeros-both r 16 1 17 16 16 17 (omega arith) (omega arith) (omega arith) (zeros-more r 16 0 (zeros-start r 16) o) (rw o at (q .1))
+
+  module _ (t : x ≡ false) (n : ℕ) (e : n ≡ getD r 16 0) where
+    pub named-long : 16 < n → false ≡ namedb r
+    unfolding namedb paddedb
+    named-long h = rw (← e, lt-leb n 16 h)
+
+    pub named-ef : getD r 0 0 ≡ 2 → false ≡ namedb r
+    named-ef k = sym t ∙ g ∙ agree (zerosb r 16 17) (namedb r) (λ z. sym (named-none (g ∙ z))) (named-empty k)
+
+    pub named-df : n ≤ 16 → (getD r 0 0 ≡ 2 → ⊥) → (b : Bool) → b ≡ zerosb r (17 + n) (16 - n) → b ≡ namedb r
+    unfolding namedb paddedb kindOf implies
+    named-df h k b z = rw (← e, le-leb n 16 h, ne-eqb (getD r 0 0) 2 k) (z ∙ sym (and-true (zerosb r (17 + n) (16 - n))))
+
+-- the rule: n is its length
+module _ (r : List ℕ) (n : ℕ) (f : n ≡ getD r 33 0) where
+  pub ruled-none : n < 1 → false ≡ (ruledb r && zerosb r 50 14)
+  unfolding ruledb ruleOf fieldAt part fitsRecord
+  ruled-none h =
+      let z : getD r 33 0 ≡ 0 = omega arith in
+      rw z (sym (ap (λ (b : Bool). b && zerosb r 50 14) (and-false (paddedb r 33))))
+
+  pub ruled-long : 16 < n → false ≡ (ruledb r && zerosb r 50 14)
+  unfolding ruledb paddedb
+  ruled-long h = rw (← f, lt-leb n 16 h)
+
+  module _ (h : n ≤ 16) (p : Bool) (e : p ≡ zerosb r (34 + n) (30 - n)) where
+    pub ruled-tail : not p ≡ true → false ≡ (ruledb r && zerosb r 50 14)
+    unfolding ruledb paddedb
+    ruled-tail t =
+        agree false (ruledb r && zerosb r 50 14) (λ z. absurd (false≢true z)) (λ z. sym (not-true p t) ∙ e ∙ whole z)
+      where
+        whole : (ruledb r && zerosb r 50 14) ≡ true → zerosb r (34 + n) (30 - n) ≡ true
+        whole z =
+            let a = and-says (ruledb r) (zerosb r 50 14) .0 z in
+            let b = and-says (paddedb r 33) (fitsRecord (ruleOf r)) .0 (a .0) in
+            let c = and-says (leb (getD r 33 0) 16) (zerosb r (34 + getD r 33 0) (16 - getD r 33 0)) .0 (b .0) in
+            zeros-both r (34 + n) (16 - n) 50 14 (34 + n) (30 - n) (omega arith) (omega arith) (omega arith) (rw f (c .1)) (a .1)
+
+    pub ruled-is : not p ≡ false → (b : Bool) → b ≡ fitsRecord (take (34 + n - 34) (drop 34 r)) → b ≡ (ruledb r && zerosb r 50 14)
+    unfolding ruledb paddedb ruleOf fieldAt part
+    ruled-is t b g =
+        let k : 34 + n - 34 ≡ n = omega arith in
+        let z = sym e ∙ not-false p t in
+        let pad = zeros-part r (34 + n) (30 - n) (34 + n) (16 - n) (omega arith) (omega arith) z in
+        let spare = zeros-part r (34 + n) (30 - n) 50 14 (omega arith) (omega arith) z in
+        rw (← f, le-leb n 16 h, pad, spare)
+        (g ∙ ap (λ (m : ℕ). fitsRecord (take m (drop 34 r))) k ∙ sym (and-true (fitsRecord (take n (drop 34 r)))))
 
 -- a record of the image, tested as a part of it
 pub own-part : (img : List ℕ) (s : ℕ) (b : Bool) → b ≡ ownb (take (16 + 64 * s + 64 - (16 + 64 * s)) (drop (16 + 64 * s) img)) → b ≡ ownb (recAt img s)

@@ -1,7 +1,7 @@
 // The header: mark, version, slot count, length, zero bytes (01 "Image").
 ghost use mathlib.Core.Path.{_≡_};
 ghost use Rattle.sound.specs.Sound.{headerb};
-use crate::own;
+use crate::blank;
 
 // Whether any bytes start with a good header, whose slot count agrees with their length.
 pub fn agrees(image: &[u8]) -> bool
@@ -32,5 +32,5 @@ pub fn agrees(image: &[u8]) -> bool
     if numbers::u16_at(image, 3) != 1 {
         return false;
     }
-    own::zeros(image, 11, 5)
+    blank::zeros(image, 11, 5)
 }

@@ -3,5 +3,6 @@
 //
 // It is the larger part of the test that every command makes of the whole image, so each test is in the shape
 // that runs fast.
+pub mod blank;
 pub mod header;
 pub mod own;

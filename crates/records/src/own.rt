@@ -1,45 +1,21 @@
 // Each record by itself, as a slice of 64 bytes: all zero, or kind, descriptor, life cycle, identifier, size,
 // record length, name, rule and zero bytes as they must be (01 "Image").
 ghost use mathlib.Core.Path.{_≡_};
-ghost use Prim.Native.Nat.{_+_, _≤_};
+ghost use mathlib.Core.Bool.{_&&_};
+ghost use lib.Dec.{leb};
 ghost use lib.ListN.{length};
-ghost use Rattle.image.specs.Layout.{Sized, Within, recAt};
-ghost use Rattle.sound.specs.Own.{zerosb, paddedb, markedb, measuredb, namedb, ruledb, usedb, ownb};
+ghost use Rattle.rules.specs.Value.{wholeRecords};
+ghost use Rattle.image.specs.Layout.{Sized, Within, recAt, recordLengthOf, sizeOf};
+ghost use Rattle.sound.specs.Own.{zerosb, markedb, measuredb, namedb, ruledb, usedb, ownb};
 ghost use Rattle.sound.specs.Sound.{recordsb};
-
-// Whether the n bytes of s from `at` on are zero.
-pub fn zeros(s: &[u8], at: usize, n: usize) -> bool
-    requires { ⌜ at + n ≤ length (now s) ⌝ }
-    ensures { λ r. ⌜ r ≡ zerosb (now (s .entry)) at n ⌝ }
-{
-    let mut k = 0;
-    while k < n {
-        if s[at + k] != 0 {
-            return false;
-        }
-        k += 1;
-    }
-    true
-}
-
-// Whether a length of at most 16 stands at `at`, with zeros after so many bytes.
-fn padded(r: &[u8], at: usize) -> bool
-    requires { ⌜ at + 17 ≤ length (now r) ⌝ }
-    ensures { λ b. ⌜ b ≡ paddedb (now (r .entry)) at ⌝ }
-{
-    let n = numbers::wide(r[at]) as usize;
-    if n > 16 {
-        return false;
-    }
-    zeros(r, at + 1 + n, 16 - n)
-}
+use crate::blank;
 
 // Kind, descriptor, life cycle, zero byte, identifier.
 fn marked(r: &[u8]) -> bool
     requires { ⌜ length (now r) ≡ 64 ⌝ }
     ensures { λ b. ⌜ b ≡ markedb (now (r .entry)) ⌝ }
 {
-    if rules::descriptor::class(r[1]) != r[0] {
+    if !rules::descriptor::is_of_class(r[1], r[0]) {
         return false;
     }
     if !rules::life_cycle::is_known(r[2]) {
@@ -51,16 +27,30 @@ fn marked(r: &[u8]) -> bool
     rules::value::good_identifier(numbers::u16_at(r, 4))
 }
 
-// Size and record length.
-fn measured(r: &[u8]) -> bool
+// Size and record length of a file with records.
+fn recorded(r: &[u8]) -> bool
     requires { ⌜ length (now r) ≡ 64 ⌝ }
-    ensures { λ b. ⌜ b ≡ measuredb (now (r .entry)) ⌝ }
+    ensures { λ b. ⌜ b ≡ (leb 1 (sizeOf (now (r .entry))) && wholeRecords (recordLengthOf (now (r .entry))) (sizeOf (now (r .entry)))) ⌝ }
 {
     let size = numbers::u32_at(r, 12);
     if size < 1 {
         return false;
     }
-    rules::value::good_length(r[1], numbers::u16_at(r, 10), size)
+    rules::value::whole_records(numbers::u16_at(r, 10), size)
+}
+
+// Size and record length. Where there are no records both are only compared with zero.
+fn measured(r: &[u8]) -> bool
+    requires { ⌜ length (now r) ≡ 64 ⌝ }
+    ensures { λ b. ⌜ b ≡ measuredb (now (r .entry)) ⌝ }
+{
+    if rules::descriptor::has_records(r[1]) {
+        return recorded(r);
+    }
+    if numbers::u16_at(r, 10) != 0 {
+        return false;
+    }
+    numbers::u32_at(r, 12) != 0
 }
 
 // The name; an EF has none.
@@ -68,25 +58,32 @@ fn named(r: &[u8]) -> bool
     requires { ⌜ length (now r) ≡ 64 ⌝ }
     ensures { λ b. ⌜ b ≡ namedb (now (r .entry)) ⌝ }
 {
-    if !padded(r, 16) {
+    if blank::name(r) {
+        return true;
+    }
+    let n = numbers::wide(r[16]) as usize;
+    if n > 16 {
         return false;
     }
     if r[0] == 2 {
-        return r[16] == 0;
-    }
-    true
-}
-
-// The rule.
-fn ruled(r: &[u8]) -> bool
-    requires { ⌜ length (now r) ≡ 64 ⌝ }
-    ensures { λ b. ⌜ b ≡ ruledb (now (r .entry)) ⌝ }
-{
-    if !padded(r, 33) {
         return false;
     }
+    blank::after_name(r, n)
+}
+
+// The rule, and zeros after it to the end.
+fn ruled(r: &[u8]) -> bool
+    requires { ⌜ length (now r) ≡ 64 ⌝ }
+    ensures { λ b. ⌜ b ≡ (ruledb (now (r .entry)) && zerosb (now (r .entry)) 50 14) ⌝ }
+{
     let n = numbers::wide(r[33]) as usize;
+    if n < 1 {
+        return false;
+    }
     if n > 16 {
+        return false;
+    }
+    if !blank::after_rule(r, n) {
         return false;
     }
     let to = 34 + n;
@@ -106,10 +103,7 @@ fn used(r: &[u8]) -> bool
     if !named(r) {
         return false;
     }
-    if !ruled(r) {
-        return false;
-    }
-    zeros(r, 50, 14)
+    ruled(r)
 }
 
 // Whether 64 bytes are a free record, or a used one that is good by itself.
@@ -118,7 +112,7 @@ pub fn good(r: &[u8]) -> bool
     ensures { λ b. ⌜ b ≡ ownb (now (r .entry)) ⌝ }
 {
     if r[0] == 0 {
-        return zeros(r, 0, 64);
+        return blank::record(r);
     }
     used(r)
 }

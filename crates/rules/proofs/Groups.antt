@@ -6,12 +6,13 @@ use mathlib.Core.List.{List}
 use Prim.Native.Nat.{ℕ, zero, suc, _+_, _-_, _<_, _≤_}
 use native.Mathlib.Omega.{arith}
 use lib.ListN.{length, getD}
-use lib.Dec.{ltb}
-use borrow.Author.Tests.{lt-ltb, le-ltb}
+use lib.Dec.{eqb, leb, ltb}
+use borrow.Author.Tests.{lt-ltb, le-ltb, eqb-true, leb-true, le-leb}
+use Rattle.laws.proofs.Says.{and-says}
 use Rattle.rules.specs.declared.Sets.{Sets}
 use Rattle.rules.specs.Condition.{holdsOf}
 use Rattle.rules.specs.Group.{slotsOf, nextOf, someFrom, someGroup}
-use Rattle.rules.specs.Rule.{malformedAt, wellFormed, holdsAt, allowsOf}
+use Rattle.rules.specs.Rule.{malformedAt, wellFormed, oneGroup, fitsRecord, holdsAt, allowsOf}
 
 pub further : (rule : List ℕ) (at : ℕ) → at < nextOf rule at
 unfolding nextOf
@@ -74,6 +75,19 @@ module _ {rule : List ℕ} {at : ℕ} (inv : Formed rule at) where
         record {
           left = left-next (inv .left) to h (rw (le-ltb 127 (getD rule at 0) a, le-ltb (length rule) (nextOf rule at) (rw e at n))) e;
         }
+
+-- the last test, of a number that a callee gave
+pub eq-last : (a b c : ℕ) → a ≡ c → eqb a b ≡ eqb c b
+eq-last a b c e = ap (λ (x : ℕ). eqb x b) e
+
+-- r says whether the rule is one group
+pub one-formed : (rule : List ℕ) (r : Bool) → 1 ≤ length rule → length rule ≤ 16 → r ≡ oneGroup rule → r ≡ true → true ≡ fitsRecord rule
+unfolding fitsRecord oneGroup
+one-formed rule r a b e t =
+    let p = and-says (leb (getD rule 0 0) 127) (eqb (nextOf rule 0) (length rule)) .0 (sym e ∙ t) in
+    let q : nextOf rule 0 ≡ length rule = eqb-true (nextOf rule 0) (length rule) (p .1) in
+    rw (le-leb 1 (length rule) a, le-leb (length rule) 16 b)
+    (formed-end (formed-next (formed-start rule) {to = nextOf rule 0} (omega arith) refl (leb-true (getD rule 0 0) 127 (p .0)) (omega arith)) (omega arith))
 
 pub ruleset formed = (formed-start, formed-end, formed-high, formed-past, formed-next)
 

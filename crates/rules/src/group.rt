@@ -2,9 +2,9 @@
 // first (01 "Descriptor and rules", compact rule). Total for any bytes: a group that runs past the end of
 // its rule has FF, never, for the SC bytes that are not there.
 ghost use mathlib.Core.Path.{_≡_};
-ghost use Prim.Native.Nat.{_<_};
+ghost use Prim.Native.Nat.{_+_, _<_};
 ghost use lib.ListN.{length};
-ghost use Rattle.rules.specs.Group.{scAt, slotsOf, nextOf};
+ghost use Rattle.rules.specs.Group.{b7, b6, b5, b4, b3, b2, b1, scAt, slotsOf, nextOf};
 
 // The SC byte at a place, for a bit that is set (1); FF, never, for one that is not.
 fn sc_at(rule: &[u8], at: usize, on: u8) -> u8
@@ -43,13 +43,20 @@ pub fn unpack(rule: &[u8], at: usize) -> [u8; 7]
     ]
 }
 
+// How many of the bits b7 to b1 are set, all at once: a product puts each of them alone into four bits of a
+// number, and a second one sums them up.
+fn set_bits(am: u8) -> usize
+    ensures { λ r. ⌜ (r ≡ b7 am + b6 am + b5 am + b4 am + b3 am + b2 am + b1 am) × (r < 16) ⌝ }
+{
+    let seven = (am % 128) as u64;
+    let alone = (seven * 0x08040201 / 8) & 0x11111111;
+    (alone * 0x11111111 / 0x10000000 % 16) as usize
+}
+
 // The place after the group at `at`.
 pub fn next(rule: &[u8], at: usize) -> usize
     requires { ⌜ at < length (now rule) ⌝ }
     ensures { λ r. ⌜ r ≡ nextOf (now (rule .entry)) at ⌝ }
 {
-    let am = rule[at];
-    let high = am / 64 % 2 + am / 32 % 2 + am / 16 % 2 + am / 8 % 2;
-    let low = am / 4 % 2 + am / 2 % 2 + am % 2;
-    at + 1 + (high as usize) + (low as usize)
+    at + 1 + set_bits(rule[at])
 }

@@ -2,7 +2,8 @@
 // is the only way anyone asks a rule.
 ghost use mathlib.Core.Path.{_≡_};
 ghost use Prim.Native.Nat.{_<_};
-ghost use Rattle.rules.specs.Rule.{wellFormed, fitsRecord, slotOf, grantedOf, allowsOf};
+ghost use lib.ListN.{length};
+ghost use Rattle.rules.specs.Rule.{wellFormed, oneGroup, fitsRecord, slotOf, grantedOf, allowsOf};
 use crate::Right;
 use crate::Sets;
 use crate::condition;
@@ -26,6 +27,17 @@ pub fn well_formed(rule: &[u8]) -> bool
     true
 }
 
+// Whether a rule is one group, as most are.
+fn is_one_group(rule: &[u8]) -> bool
+    requires { ⌜ 0 < length (now rule) ⌝ }
+    ensures { λ r. ⌜ r ≡ oneGroup (now (rule .entry)) ⌝ }
+{
+    if 127 < rule[0] {
+        return false;
+    }
+    group::next(rule, 0) == rule.len()
+}
+
 // Whether a rule may stand in a record: 1 to 16 bytes, well formed.
 pub fn fits_record(rule: &[u8]) -> bool
     ensures { λ r. ⌜ r ≡ fitsRecord (now (rule .entry)) ⌝ }
@@ -35,6 +47,9 @@ pub fn fits_record(rule: &[u8]) -> bool
     }
     if 16 < rule.len() {
         return false;
+    }
+    if is_one_group(rule) {
+        return true;
     }
     well_formed(rule)
 }

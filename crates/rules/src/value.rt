@@ -8,6 +8,10 @@ use crate::descriptor;
 pub fn good_identifier(x: u16) -> bool
     ensures { λ r. ⌜ r ≡ goodIdentifier x ⌝ }
 {
+    // what nearly every identifier says with its low byte
+    if x % 256 != 0xFF {
+        return true;
+    }
     if x == 0x3FFF {
         return false;
     }

@@ -1,8 +1,8 @@
 -- `erase::clear_marked`: the invariant is that the marked records below s are cleared, and no other.
 use Prim.Native.Nat.{_-_, _≤_}
 use mathlib.Core.Path.{_≡_, sym}
-use mathlib.Core.Bool.{false}
 use native.Mathlib.Omega.{arith}
+use lib.Dec.{eqb}
 use lib.ListN.{length, getD}
 use borrow.Author.Needs.{needs}
 use Rattle.sound.specs.Effects.{clearBelow}
@@ -11,7 +11,7 @@ use Rattle.effect.proofs.erase.clear_marked.Statement.{statement}
 use Rattle.effect.proofs.erase.clear_marked.Tie as tie
 
 abbrev Inv-loop : tie.InvT-loop
-Inv-loop image₀ n marks s₀ image s = ((s ≤ n) × (length image ≡ length image₀)) × (image ≡ clearBelow s (λ k. getD marks k false) image₀)
+Inv-loop image₀ n marks s₀ image s = ((s ≤ n) × (length image ≡ length image₀)) × (image ≡ clearBelow s (λ k. eqb (getD marks k 0) 1) image₀)
 
 abbrev μ-loop : tie.MeasureT-loop
 μ-loop image₀ n marks s₀ image s = n - s
@@ -19,8 +19,8 @@ abbrev μ-loop : tie.MeasureT-loop
 loop-holds : tie.Need-loop-holds Inv-loop μ-loop
 loop-holds c = (search needs, sym (clear-none _ _))
 
-shared-slice-read-clear-if : tie.Need-shared-slice-read-clear-if Inv-loop μ-loop
-shared-slice-read-clear-if c = search needs
+element-copy-out-clear-if : tie.Need-element-copy-out-clear-if Inv-loop μ-loop
+element-copy-out-clear-if c = search needs
 
 clear-if-requires : tie.Need-clear-if-requires Inv-loop μ-loop
 clear-if-requires c κs = search needs
@@ -39,7 +39,7 @@ same-length c = search needs
 
 returns : tie.Need-returns Inv-loop μ-loop
 returns c =
-    let e : c .before .loop .s ≡ c .before .before .before .before .args .n = omega arith in
+    let e : c .before .loop .s ≡ c .before .before .before .args .n = omega arith in
     cc
 
 pub clear-marked-spec : {M : Type 1} → statement M
@@ -49,7 +49,7 @@ clear-marked-spec =
     Inv-loop
     μ-loop
     loop-holds
-    shared-slice-read-clear-if
+    element-copy-out-clear-if
     clear-if-requires
     add-s
     loop-less

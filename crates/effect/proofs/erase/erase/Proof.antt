@@ -1,4 +1,5 @@
 -- `erase::erase`: marked on the image as it came, cleared, then what is current.
+use Rattle.subtree.proofs.Marks.{settled-none}
 use Rattle.effect.proofs.Writes.{deleted-marked}
 use borrow.Author.Needs.{needs}
 use Rattle.effect.proofs.erase.erase.Statement.{statement}
@@ -13,11 +14,8 @@ current-ef-requires c κs = search needs
 ef-left-requires : tie.Need-ef-left-requires
 ef-left-requires c κs = search needs
 
-marks-of-requires : tie.Need-marks-of-requires
-marks-of-requires c κs = search needs
-
-slice-aggregate-clear-marked : tie.Need-slice-aggregate-clear-marked
-slice-aggregate-clear-marked c = search needs
+settle-all-requires : tie.Need-settle-all-requires
+settle-all-requires c κs = (search needs, (search needs, search settled-none))
 
 clear-marked-requires : tie.Need-clear-marked-requires
 clear-marked-requires c κs = search needs
@@ -32,15 +30,7 @@ same-length : tie.Need-same-length
 same-length c = search needs
 
 returns : tie.Need-returns
-returns c =
-    deleted-marked _ _ _ _ _ _ _ _ _
-    (c .before .before .before .before .before .before .before .before .before .before .before .before .before .before .before .before .before .pre .1 .0)
-    (c .before .before .before .before .before .before .before .before .before .before .before .before .before .before .current-df .ensures .0)
-    (c .before .before .before .before .before .before .before .before .before .before .before .before .current-ef .ensures .0)
-    (c .before .before .before .before .before .before .before .before .before .before .before .ef-left .ensures)
-    (c .before .before .before .before .before .before .before .before .before .marks-of .ensures .1)
-    (c .before .before .before .before .before .before .clear-marked .ensures)
-    (c .before .before .set-current .ensures)
+returns c = search deleted-marked
 
 pub erase-spec : {M : Type 1} → statement M
 erase-spec =
@@ -49,8 +39,7 @@ erase-spec =
     current-df-requires
     current-ef-requires
     ef-left-requires
-    marks-of-requires
-    slice-aggregate-clear-marked
+    settle-all-requires
     clear-marked-requires
     cast-set-current
     set-current-requires

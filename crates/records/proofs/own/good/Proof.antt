@@ -10,8 +10,8 @@ use Rattle.records.proofs.own.good.Tie as tie
 shared-slice-read-if1 : tie.Need-shared-slice-read-if1
 shared-slice-read-if1 c = search needs
 
-zeros-requires : tie.Need-zeros-requires
-zeros-requires c κs = search needs
+record-requires : tie.Need-record-requires
+record-requires c κs = search needs
 
 returns : tie.Need-returns
 unfolding ownb kindOf either
@@ -29,7 +29,7 @@ good-spec =
     tie.close
     (tie.spec
     shared-slice-read-if1
-    zeros-requires
+    record-requires
     returns
     used-requires
     returns-2)

@@ -1,34 +1,42 @@
--- `own::measured`: size, then record length.
-use Rattle.records.proofs.Bytes.{measured-not, measured-is}
+-- `own::measured`: a file with records, or both numbers against zero.
+use Rattle.records.proofs.Bytes.{measured-records, measured-length, measured-size}
 use borrow.Author.Needs.{needs}
 use Rattle.records.proofs.own.measured.Statement.{statement}
 use Rattle.records.proofs.own.measured.Tie as tie
 
-u32-at-requires : tie.Need-u32-at-requires
-u32-at-requires c κs = search needs
+shared-slice-read-has-records : tie.Need-shared-slice-read-has-records
+shared-slice-read-has-records c = search needs
+
+has-records-requires : tie.Need-has-records-requires
+has-records-requires c κs = search needs
+
+recorded-requires : tie.Need-recorded-requires
+recorded-requires c κs = search needs
 
 returns : tie.Need-returns
-returns c = search measured-not
-
-shared-slice-read-good-length : tie.Need-shared-slice-read-good-length
-shared-slice-read-good-length c = search needs
+returns c = search measured-records
 
 u16-at-requires : tie.Need-u16-at-requires
 u16-at-requires c κs = search needs
 
-good-length-requires : tie.Need-good-length-requires
-good-length-requires c κs = search needs
-
 returns-2 : tie.Need-returns-2
-returns-2 c = search measured-is
+returns-2 c = search measured-length
+
+u32-at-requires : tie.Need-u32-at-requires
+u32-at-requires c κs = search needs
+
+returns-3 : tie.Need-returns-3
+returns-3 c = search measured-size
 
 pub measured-spec : {M : Type 1} → statement M
 measured-spec =
     tie.close
     (tie.spec
-    u32-at-requires
+    shared-slice-read-has-records
+    has-records-requires
+    recorded-requires
     returns
-    shared-slice-read-good-length
     u16-at-requires
-    good-length-requires
-    returns-2)
+    returns-2
+    u32-at-requires
+    returns-3)

@@ -1,41 +1,50 @@
--- `own::named`: the name is padded, and an EF has none.
-use Rattle.laws.proofs.Chains.{calls, ands}
-use Rattle.laws.proofs.Branches.{tests}
-use Rattle.image.specs.Layout.{kindOf}
-use Rattle.sound.specs.Own.{namedb}
-use Rattle.laws.specs.Tests.{implies}
+-- `own::named`: no name; or a DF has one, with zeros after it.
+use Rattle.records.proofs.Bytes.{named-none, named-long, named-ef, named-df}
 use borrow.Author.Needs.{needs}
 use Rattle.records.proofs.own.named.Statement.{statement}
 use Rattle.records.proofs.own.named.Tie as tie
 
-padded-requires : tie.Need-padded-requires
-padded-requires c κs = search needs
+name-requires : tie.Need-name-requires
+name-requires c κs = search needs
 
 returns : tie.Need-returns
-unfolding namedb kindOf implies
-returns c = search (calls, tests, ands) depth 30
+returns c = search named-none
 
-shared-slice-read-if2 : tie.Need-shared-slice-read-if2
-shared-slice-read-if2 c = search needs
+shared-slice-read-wide : tie.Need-shared-slice-read-wide
+shared-slice-read-wide c = search needs
 
-shared-slice-read-result : tie.Need-shared-slice-read-result
-shared-slice-read-result c = search needs
+wide-requires : tie.Need-wide-requires
+wide-requires c κs = search needs
+
+cast-n : tie.Need-cast-n
+cast-n c = search needs
 
 returns-2 : tie.Need-returns-2
-unfolding namedb kindOf implies
-returns-2 c = search (calls, tests, ands) depth 30
+returns-2 c = search named-long
+
+shared-slice-read-if3 : tie.Need-shared-slice-read-if3
+shared-slice-read-if3 c = search needs
 
 returns-3 : tie.Need-returns-3
-unfolding namedb kindOf implies
-returns-3 c = search (calls, tests, ands) depth 30
+returns-3 c = search named-ef
+
+after-name-requires : tie.Need-after-name-requires
+after-name-requires c κs = search needs
+
+returns-4 : tie.Need-returns-4
+returns-4 c = search named-df
 
 pub named-spec : {M : Type 1} → statement M
 named-spec =
     tie.close
     (tie.spec
-    padded-requires
+    name-requires
     returns
-    shared-slice-read-if2
-    shared-slice-read-result
+    shared-slice-read-wide
+    wide-requires
+    cast-n
     returns-2
-    returns-3)
+    shared-slice-read-if3
+    returns-3
+    after-name-requires
+    returns-4)

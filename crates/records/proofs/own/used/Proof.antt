@@ -1,4 +1,4 @@
--- `own::used`: the five parts of a used record, in that order.
+-- `own::used`: the parts of a used record, in that order.
 use mathlib.Core.Path.{refl}
 use Rattle.laws.proofs.Chains.{calls}
 use Rattle.sound.specs.Own.{usedb}
@@ -34,13 +34,6 @@ returns-4 : tie.Need-returns-4
 unfolding usedb
 returns-4 c = search (calls, refl) depth 30
 
-zeros-requires : tie.Need-zeros-requires
-zeros-requires c κs = search needs
-
-returns-5 : tie.Need-returns-5
-unfolding usedb
-returns-5 c = search (calls, refl) depth 30
-
 pub used-spec : {M : Type 1} → statement M
 used-spec =
     tie.close
@@ -52,6 +45,4 @@ used-spec =
     named-requires
     returns-3
     ruled-requires
-    returns-4
-    zeros-requires
-    returns-5)
+    returns-4)
