@@ -54,8 +54,8 @@ fn time<T>(image: &mut [u8], start: &[u8], work: &mut impl FnMut(&mut [u8]) -> T
 
 /// One copy of an image of so many bytes.
 pub fn measure_copy(length: usize, budget: Duration) -> Times {
-    let start = vec![0xA5; length];
-    let mut image = vec![0; length];
+    let start = vec![0xA5_u8; length];
+    let mut image = vec![0_u8; length];
     let seconds = repeat(budget, || {
         let before = Instant::now();
         for _ in 0..COPIES_AT_ONCE {
