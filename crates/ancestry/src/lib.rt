@@ -8,14 +8,14 @@ ghost use mathlib.Core.Bool.{true};
 ghost use Prim.Native.Nat.{_+_, _<_};
 ghost use Rattle.image.specs.Layout.{Sized, Within};
 ghost use Rattle.sound.specs.Table.{viewAt};
-ghost use Rattle.sound.specs.Kin.{rootb, placedb, aboveAt, aboveb};
+ghost use Rattle.sound.specs.Kin.{rootb, placedb, aboveAt};
 ghost use Rattle.ancestry.specs.Directories.{Noted, shares};
 use image::fields;
 use kinship::climb;
 use kinship::search;
 
 // Notes the identifier of the directory in slot s: it was there already, or it is new.
-fn note(once: &mut [u64; 1024], twice: &mut [u64; 1024], image: &[u8], s: usize)
+pub fn note(once: &mut [u64; 1024], twice: &mut [u64; 1024], image: &[u8], s: usize)
     requires { ⌜ Within (now image) s ⌝ }
     requires { ⌜ Noted (viewAt (now image)) s (now once) (now twice) ⌝ }
     ensures { λ _. ⌜ Noted (viewAt (now (image .entry))) (s + 1) (now (once .exit)) (now (twice .exit)) ⌝ }
@@ -31,19 +31,6 @@ fn note(once: &mut [u64; 1024], twice: &mut [u64; 1024], image: &[u8], s: usize)
     keys::put(once, x);
 }
 
-// Notes the identifiers of all directories.
-fn note_all(once: &mut [u64; 1024], twice: &mut [u64; 1024], image: &[u8], n: usize)
-    requires { ⌜ Sized (now image) n ⌝ }
-    requires { ⌜ Noted (viewAt (now image)) 0 (now once) (now twice) ⌝ }
-    ensures { λ _. ⌜ Noted (viewAt (now (image .entry))) n (now (once .exit)) (now (twice .exit)) ⌝ }
-{
-    let mut s = 0;
-    while s < n {
-        note(once, twice, image, s);
-        s += 1;
-    }
-}
-
 // Whether s may have the identifier of a directory other than itself.
 fn may_share(once: &[u64; 1024], twice: &[u64; 1024], image: &[u8], s: usize) -> bool
     requires { ⌜ Within (now image) s ⌝ }
@@ -57,7 +44,7 @@ fn may_share(once: &[u64; 1024], twice: &[u64; 1024], image: &[u8], s: usize) ->
 }
 
 // Whether s differs from the directories above it; only one that may share its identifier walks up.
-fn above_at(once: &[u64; 1024], twice: &[u64; 1024], image: &[u8], n: usize, s: usize) -> bool
+pub fn above_at(once: &[u64; 1024], twice: &[u64; 1024], image: &[u8], n: usize, s: usize) -> bool
     requires { ⌜ Sized (now image) n × (s < n) ⌝ }
     requires { ⌜ (rootb n (viewAt (now image)) ≡ true) × (placedb n (viewAt (now image)) ≡ true) ⌝ }
     requires { ⌜ Noted (viewAt (now image)) n (now once) (now twice) ⌝ }
@@ -72,23 +59,4 @@ fn above_at(once: &[u64; 1024], twice: &[u64; 1024], image: &[u8], n: usize, s: 
     let x = fields::identifier(image, s);
     let d = fields::parent(image, s);
     !climb::named_up(image, n, x, d)
-}
-
-// Whether each identifier differs from those of every directory above.
-pub fn apart(image: &[u8], n: usize) -> bool
-    requires { ⌜ Sized (now image) n ⌝ }
-    requires { ⌜ (rootb n (viewAt (now image)) ≡ true) × (placedb n (viewAt (now image)) ≡ true) ⌝ }
-    ensures { λ r. ⌜ r ≡ aboveb n (viewAt (now (image .entry))) ⌝ }
-{
-    let mut once = [0u64; 1024];
-    let mut twice = [0u64; 1024];
-    note_all(&mut once, &mut twice, image, n);
-    let mut s = 0;
-    while s < n {
-        if !above_at(&once, &twice, image, n, s) {
-            return false;
-        }
-        s += 1;
-    }
-    true
 }

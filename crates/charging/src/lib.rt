@@ -1,18 +1,18 @@
 // Charges: what its direct children cost a directory, each its size and 64, is at most its total (01 "Image"). It
 // may use laws, image, sound and kinship.
 //
-// One walk over the records adds what each file costs to its directory's sum, a second compares sums and totals.
-// The sums are the caller's array: one that is returned would be copied.
+// A walk over the records adds what each file costs to its directory's sum; when it is over, sums and totals are
+// compared. The sums are the caller's array: one that is returned would be copied.
 ghost use mathlib.Core.Path.{_≡_};
 ghost use Prim.Native.Nat.{_+_, _<_};
 ghost use Rattle.image.specs.Layout.{Sized, Within};
 ghost use Rattle.sound.specs.Table.{viewAt, charged};
-ghost use Rattle.sound.specs.Kin.{chargesAt, chargesb};
+ghost use Rattle.sound.specs.Kin.{chargesAt};
 ghost use Rattle.charging.specs.Summing.{Summed};
 use image::fields;
 
 // Adds what the file in slot s costs to the sum of its directory.
-fn add_cost(sums: &mut [u64; 1023], image: &[u8], s: usize)
+pub fn add_cost(sums: &mut [u64; 1023], image: &[u8], s: usize)
     requires { ⌜ Within (now image) s ⌝ }
     requires { ⌜ Summed (viewAt (now image)) s (now sums) ⌝ }
     ensures { λ _. ⌜ Summed (viewAt (now (image .entry))) (s + 1) (now (sums .exit)) ⌝ }
@@ -27,21 +27,8 @@ fn add_cost(sums: &mut [u64; 1023], image: &[u8], s: usize)
     }
 }
 
-// What its children cost each directory.
-fn add_costs(sums: &mut [u64; 1023], image: &[u8], n: usize)
-    requires { ⌜ Sized (now image) n ⌝ }
-    requires { ⌜ Summed (viewAt (now image)) 0 (now sums) ⌝ }
-    ensures { λ _. ⌜ Summed (viewAt (now (image .entry))) n (now (sums .exit)) ⌝ }
-{
-    let mut s = 0;
-    while s < n {
-        add_cost(sums, image, s);
-        s += 1;
-    }
-}
-
 // Whether what its children cost d is within its total.
-fn covered_at(image: &[u8], n: usize, d: usize, sum: u64) -> bool
+pub fn covered_at(image: &[u8], n: usize, d: usize, sum: u64) -> bool
     requires { ⌜ Sized (now image) n × (d < n) ⌝ }
     requires { ⌜ sum ≡ charged n (viewAt (now image)) d ⌝ }
     ensures { λ r. ⌜ r ≡ chargesAt n (viewAt (now (image .entry))) d ⌝ }
@@ -50,21 +37,4 @@ fn covered_at(image: &[u8], n: usize, d: usize, sum: u64) -> bool
         return true;
     }
     sum <= fields::size(image, d)
-}
-
-// Whether each directory's total covers its children.
-pub fn covered(image: &[u8], n: usize) -> bool
-    requires { ⌜ Sized (now image) n ⌝ }
-    ensures { λ r. ⌜ r ≡ chargesb n (viewAt (now (image .entry))) ⌝ }
-{
-    let mut sums = [0u64; 1023];
-    add_costs(&mut sums, image, n);
-    let mut d = 0;
-    while d < n {
-        if !covered_at(image, n, d, sums[d]) {
-            return false;
-        }
-        d += 1;
-    }
-    true
 }

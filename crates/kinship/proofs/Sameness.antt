@@ -3,7 +3,7 @@
 use mathlib.Core.Path.{_≡_, refl, sym, _∙_, ap}
 use mathlib.Core.Bool.{Bool, true, false, not}
 use mathlib.Core.List.{List, [], _∷_}
-use Prim.Native.Nat.{ℕ, suc, _+_, _<_, _≤_}
+use Prim.Native.Nat.{ℕ, suc, _+_, _<_, _≤_, _-_}
 use native.Mathlib.Omega.{arith}
 use lib.Dec.{eqb}
 use lib.ListN.{length, getD}
@@ -38,9 +38,16 @@ module _ (a b : List ℕ) where
   unfolding sameList
   same-other h = ne-and (length a) (length b) _ h refl
 
+  pub same-none : length a ≡ length b → length a ≡ 0 → true ≡ sameList a b
+  unfolding sameList
+  same-none e z = eq-and (length a) (length b) _ e (all-end _ (length a) 0 (omega arith) (omega arith) (all-zero _))
+
   pub same-stop : (k : ℕ) → length a ≡ length b → k < length a → (getD a k 0 ≡ getD b k 0 → ⊥) → false ≡ sameList a b
   unfolding sameList
   same-stop k e l h = eq-and (length a) (length b) _ e (sym (all-fails _ (length a) k l (ne-eqb (getD a k 0) (getD b k 0) h)))
+
+  pub same-last : (k : ℕ) → length a ≡ length b → (length a ≡ 0 → ⊥) → k ≡ length a - 1 → (getD a k 0 ≡ getD b k 0 → ⊥) → false ≡ sameList a b
+  same-last k e z q h = same-stop k e (omega arith) h
 
   pub same-end : (k : ℕ) → length a ≡ length b → k ≤ length a → length a ≤ k → sameUpTo k ≡ true → true ≡ sameList a b
   unfolding sameList sameUpTo

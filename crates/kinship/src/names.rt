@@ -22,8 +22,8 @@ pub fn identifier_free(image: &[u8], n: usize, d: usize, x: u16) -> bool
     }
 }
 
-// Whether two stretches of bytes are the same.
-pub fn same(a: &[u8], b: &[u8]) -> bool
+// Whether two stretches of bytes are the same, byte by byte.
+fn alike(a: &[u8], b: &[u8]) -> bool
     ensures { λ r. ⌜ r ≡ sameList (now (a .entry)) (now (b .entry)) ⌝ }
 {
     if a.len() != b.len() {
@@ -37,6 +37,24 @@ pub fn same(a: &[u8], b: &[u8]) -> bool
         k += 1;
     }
     true
+}
+
+// Whether two stretches of bytes are the same. Names of one maker begin alike and end in a number, so the last byte is
+// asked first.
+pub fn same(a: &[u8], b: &[u8]) -> bool
+    ensures { λ r. ⌜ r ≡ sameList (now (a .entry)) (now (b .entry)) ⌝ }
+{
+    if a.len() != b.len() {
+        return false;
+    }
+    if a.len() == 0 {
+        return true;
+    }
+    let last = a.len() - 1;
+    if a[last] != b[last] {
+        return false;
+    }
+    alike(a, b)
 }
 
 // Whether no record has that name, if it is one.

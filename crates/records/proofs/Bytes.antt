@@ -10,10 +10,11 @@ use lib.Dec.{eqb, leb}
 use borrow.Author.Tests.{eqb-true, eq-eqb, ne-eqb, not-true, not-false, le-leb, lt-leb}
 use Rattle.laws.specs.Lists.{part}
 use Rattle.laws.specs.Tests.{implies, either}
+use Rattle.laws.proofs.Chains.{got-and, ungot-and}
 use Rattle.laws.proofs.Says.{and-says, implies-says}
 use Rattle.numbers.specs.Numbers.{u16At, u32At}
 use Rattle.rules.specs.Value.{goodIdentifier, wholeRecords, goodLength}
-use Rattle.rules.specs.Descriptor.{ef, hasRecords}
+use Rattle.rules.specs.Descriptor.{classOf, ef, Classes, hasRecords}
 use Rattle.rules.specs.Rule.{fitsRecord}
 use Rattle.image.specs.Layout.{recAt, countOf, versionOf, kindOf, descriptorOf, recordLengthOf, sizeOf, ruleOf, fieldAt}
 use Rattle.image.proofs.Places.{record-in}
@@ -23,6 +24,14 @@ use Rattle.records.proofs.Zeros.{agree, zeros-each, zeros-part, zeros-b
 
 pub identifier-last : (v w : ℕ) {b : Bool} → v ≡ w → b ≡ goodIdentifier v → b ≡ goodIdentifier w
 identifier-last v w e h = h ∙ ap goodIdentifier e
+
+-- kind and descriptor, by the table of classes: d is the descriptor
+module _ (r table : List ℕ) (t : Classes table) (d : ℕ) (e : d ≡ getD r 1 0) (l : d < 256) (q : Bool) {x : Bool} where
+  pub class-not : (getD table d 0 ≡ getD r 0 0 → ⊥) → x ≡ false → x ≡ (eqb (classOf (getD r 1 0)) (getD r 0 0) && q)
+  class-not n h = ungot-and (classOf (getD r 1 0)) (getD r 0 0) q (t .right d l ∙ ap classOf e) n h
+
+  pub class-and : getD table d 0 ≡ getD r 0 0 → x ≡ q → x ≡ (eqb (classOf (getD r 1 0)) (getD r 0 0) && q)
+  class-and n h = got-and (classOf (getD r 1 0)) (getD r 0 0) q (t .right d l ∙ ap classOf e) n h
 
 -- size and record length: z and l are those numbers, h says whether there are records
 module _ (r : List ℕ) (z : ℕ) (e : z ≡ u32At r 12) where

@@ -10,7 +10,7 @@ use native.Mathlib.Omega.{arith}
 use lib.ListN.{getD}
 use lib.Bits.{bitOr, or-add-and, and-le-l, and-le-r}
 use lib.Dec.{eqb, leb}
-use borrow.Author.Tests.{eqb-true, eqb-false, eq-eqb, ne-eqb, leb-true, leb-false, not-true, not-false}
+use borrow.Author.Tests.{eqb-true, eq-eqb, ne-eqb, leb-true, leb-false, not-true, not-false}
 use Rattle.laws.specs.Walks.{allBelow}
 use Rattle.laws.proofs.Says.{and-says}
 use Rattle.laws.proofs.Walks.{all-zero, all-more, all-fails, all-each, each-all}

@@ -2,7 +2,7 @@
 // name and of a rule, the end of a used record. Every command tests every record, and a way out for each byte
 // costs more than the bytes: long stretches are tested in words of eight bytes, which may overlap, or as a whole.
 ghost use mathlib.Core.Path.{_≡_};
-ghost use Prim.Native.Nat.{_+_, _*_, _-_, _≤_};
+ghost use Prim.Native.Nat.{_+_, _-_, _≤_};
 ghost use lib.ListN.{length};
 ghost use Rattle.sound.specs.Own.{zerosb};
 

@@ -1,9 +1,12 @@
 // Each record by itself, as a slice of 64 bytes: all zero, or kind, descriptor, life cycle, identifier, size,
-// record length, name, rule and zero bytes as they must be (01 "Image").
+// record length, name, rule and zero bytes as they must be (01 "Image"). The two tables are made once for all
+// records, and lent.
 ghost use mathlib.Core.Path.{_≡_};
 ghost use mathlib.Core.Bool.{_&&_};
 ghost use lib.Dec.{leb};
 ghost use lib.ListN.{length};
+ghost use Rattle.rules.specs.Descriptor.{Classes};
+ghost use Rattle.rules.specs.Group.{Lengths};
 ghost use Rattle.rules.specs.Value.{wholeRecords};
 ghost use Rattle.image.specs.Layout.{Sized, Within, recAt, recordLengthOf, sizeOf};
 ghost use Rattle.sound.specs.Own.{zerosb, markedb, measuredb, namedb, ruledb, usedb, ownb};
@@ -11,11 +14,13 @@ ghost use Rattle.sound.specs.Sound.{recordsb};
 use crate::blank;
 
 // Kind, descriptor, life cycle, zero byte, identifier.
-fn marked(r: &[u8]) -> bool
+fn marked(r: &[u8], classes: &[u8; 256]) -> bool
     requires { ⌜ length (now r) ≡ 64 ⌝ }
+    requires { ⌜ Classes (now classes) ⌝ }
     ensures { λ b. ⌜ b ≡ markedb (now (r .entry)) ⌝ }
 {
-    if !rules::descriptor::is_of_class(r[1], r[0]) {
+    let d = numbers::wide(r[1]) as usize;
+    if classes[d] != r[0] {
         return false;
     }
     if !rules::life_cycle::is_known(r[2]) {
@@ -72,8 +77,9 @@ fn named(r: &[u8]) -> bool
 }
 
 // The rule, and zeros after it to the end.
-fn ruled(r: &[u8]) -> bool
+fn ruled(r: &[u8], lengths: &[u8; 256]) -> bool
     requires { ⌜ length (now r) ≡ 64 ⌝ }
+    requires { ⌜ Lengths (now lengths) ⌝ }
     ensures { λ b. ⌜ b ≡ (ruledb (now (r .entry)) && zerosb (now (r .entry)) 50 14) ⌝ }
 {
     let n = numbers::wide(r[33]) as usize;
@@ -87,14 +93,15 @@ fn ruled(r: &[u8]) -> bool
         return false;
     }
     let to = 34 + n;
-    rules::rule::fits_record(&r[34..to])
+    rules::rule::fits_by(&r[34..to], lengths)
 }
 
-fn used(r: &[u8]) -> bool
+fn used(r: &[u8], classes: &[u8; 256], lengths: &[u8; 256]) -> bool
     requires { ⌜ length (now r) ≡ 64 ⌝ }
+    requires { ⌜ Classes (now classes) × Lengths (now lengths) ⌝ }
     ensures { λ b. ⌜ b ≡ usedb (now (r .entry)) ⌝ }
 {
-    if !marked(r) {
+    if !marked(r, classes) {
         return false;
     }
     if !measured(r) {
@@ -103,27 +110,29 @@ fn used(r: &[u8]) -> bool
     if !named(r) {
         return false;
     }
-    ruled(r)
+    ruled(r, lengths)
 }
 
 // Whether 64 bytes are a free record, or a used one that is good by itself.
-pub fn good(r: &[u8]) -> bool
+fn good(r: &[u8], classes: &[u8; 256], lengths: &[u8; 256]) -> bool
     requires { ⌜ length (now r) ≡ 64 ⌝ }
+    requires { ⌜ Classes (now classes) × Lengths (now lengths) ⌝ }
     ensures { λ b. ⌜ b ≡ ownb (now (r .entry)) ⌝ }
 {
     if r[0] == 0 {
         return blank::record(r);
     }
-    used(r)
+    used(r, classes, lengths)
 }
 
-fn good_at(image: &[u8], s: usize) -> bool
+fn good_at(image: &[u8], s: usize, classes: &[u8; 256], lengths: &[u8; 256]) -> bool
     requires { ⌜ Within (now image) s ⌝ }
+    requires { ⌜ Classes (now classes) × Lengths (now lengths) ⌝ }
     ensures { λ b. ⌜ b ≡ ownb (recAt (now (image .entry)) s) ⌝ }
 {
     let from = 16 + 64 * s;
     let to = from + 64;
-    good(&image[from..to])
+    good(&image[from..to], classes, lengths)
 }
 
 // Whether each record is good by itself.
@@ -131,9 +140,11 @@ pub fn records(image: &[u8], n: usize) -> bool
     requires { ⌜ Sized (now image) n ⌝ }
     ensures { λ b. ⌜ b ≡ recordsb (now (image .entry)) n ⌝ }
 {
+    let classes = rules::descriptor::classes();
+    let lengths = rules::group::lengths();
     let mut s = 0;
     while s < n {
-        if !good_at(image, s) {
+        if !good_at(image, s, &classes, &lengths) {
             return false;
         }
         s += 1;

@@ -1,7 +1,7 @@
 -- The walk over the groups of a rule: what is left of it at a place, how a loop's turn goes on and how it
 -- is left; once for any test of a group, then for the two that the crate makes.
 use mathlib.Core.Path.{_≡_, refl, sym, _∙_, ap, subst⁻¹}
-use mathlib.Core.Bool.{Bool, true, false, not, or-true}
+use mathlib.Core.Bool.{Bool, true, false, not, cond, or-true}
 use mathlib.Core.List.{List}
 use Prim.Native.Nat.{ℕ, zero, suc, _+_, _-_, _<_, _≤_}
 use native.Mathlib.Omega.{arith}
@@ -11,8 +11,8 @@ use borrow.Author.Tests.{lt-ltb, le-ltb, eqb-true, leb-true, le-leb}
 use Rattle.laws.proofs.Says.{and-says}
 use Rattle.rules.specs.declared.Sets.{Sets}
 use Rattle.rules.specs.Condition.{holdsOf}
-use Rattle.rules.specs.Group.{slotsOf, nextOf, someFrom, someGroup}
-use Rattle.rules.specs.Rule.{malformedAt, wellFormed, oneGroup, fitsRecord, holdsAt, allowsOf}
+use Rattle.rules.specs.Group.{b7, b6, b5, b4, b3, b2, b1, slotsOf, nextOf, groupLength, Lengths, someFrom, someGroup}
+use Rattle.rules.specs.Rule.{malformedAt, wellFormed, fitsRecord, holdsAt, allowsOf}
 
 pub further : (rule : List ℕ) (at : ℕ) → at < nextOf rule at
 unfolding nextOf
@@ -76,18 +76,26 @@ module _ {rule : List ℕ} {at : ℕ} (inv : Formed rule at) where
           left = left-next (inv .left) to h (rw (le-ltb 127 (getD rule at 0) a, le-ltb (length rule) (nextOf rule at) (rw e at n))) e;
         }
 
--- the last test, of a number that a callee gave
-pub eq-last : (a b c : ℕ) → a ≡ c → eqb a b ≡ eqb c b
-eq-last a b c e = ap (λ (x : ℕ). eqb x b) e
+-- a group of some length n has b8 of its AM byte clear
+short-group : (am n : ℕ) → 1 ≤ n → n ≡ groupLength am → (am ≤ 127) × (n ≡ 1 + b7 am + b6 am + b5 am + b4 am + b3 am + b2 am + b1 am)
+unfolding groupLength
+short-group am n a e = go (ltb am 128) refl e
+  where
+    go : (b : Bool) → ltb am 128 ≡ b → n ≡ cond b (1 + b7 am + b6 am + b5 am + b4 am + b3 am + b2 am + b1 am) 0
+        → (am ≤ 127) × (n ≡ 1 + b7 am + b6 am + b5 am + b4 am + b3 am + b2 am + b1 am)
+    go true p q = (omega (arith, leb-true (suc am) 128 p), q)
+    go false p q = absurd (omega arith)
 
--- r says whether the rule is one group
-pub one-formed : (rule : List ℕ) (r : Bool) → 1 ≤ length rule → length rule ≤ 16 → r ≡ oneGroup rule → r ≡ true → true ≡ fitsRecord rule
-unfolding fitsRecord oneGroup
-one-formed rule r a b e t =
-    let p = and-says (leb (getD rule 0 0) 127) (eqb (nextOf rule 0) (length rule)) .0 (sym e ∙ t) in
-    let q : nextOf rule 0 ≡ length rule = eqb-true (nextOf rule 0) (length rule) (p .1) in
+-- one group, by the table of lengths: i is the first AM byte, x what the table says of it
+pub one-formed : (rule table : List ℕ) (i x : ℕ) → Lengths table → 1 ≤ length rule → length rule ≤ 16 → i ≡ getD rule 0 0 → i < 256 → x ≡ getD table i 0
+    → x ≡ length rule → true ≡ fitsRecord rule
+unfolding fitsRecord nextOf
+one-formed rule table i x t a b q l e h =
     rw (le-leb 1 (length rule) a, le-leb (length rule) 16 b)
-    (formed-end (formed-next (formed-start rule) {to = nextOf rule 0} (omega arith) refl (leb-true (getD rule 0 0) 127 (p .0)) (omega arith)) (omega arith))
+    (formed-end (formed-next (formed-start rule) {to = length rule} (omega arith) (rw q at (fills .1)) (omega (arith, fills .0, q)) (omega arith)) (omega arith))
+  where
+    fills : (i ≤ 127) × (length rule ≡ 1 + b7 i + b6 i + b5 i + b4 i + b3 i + b2 i + b1 i)
+    fills = short-group i (length rule) a (sym h ∙ e ∙ t .right i l)
 
 pub ruleset formed = (formed-start, formed-end, formed-high, formed-past, formed-next)
 

@@ -1,6 +1,9 @@
 -- The file descriptor byte (01 "Descriptor and rules", Table 7): b8 is 0, b7 free, b6-b4 type, b3-b1 structure.
-use Prim.Native.Nat.{ℕ, _/_, _%_}
+use Prim.Native.Nat.{ℕ, _/_, _%_, _<_}
+use mathlib.Core.Path.{_≡_}
+use mathlib.Core.List.{List}
 use mathlib.Core.Bool.{Bool, cond, _&&_, _||_}
+use lib.ListN.{getD}
 use lib.Dec.{eqb}
 
 abbrev pub typeOf : ℕ → ℕ
@@ -32,6 +35,10 @@ ef = 2
 
 unfoldable pub classOf : ℕ → ℕ
 classOf d = cond (isDf d) df (cond (isEf d) ef neither)
+
+-- a table of the classes of all bytes
+pub record Classes (table : List ℕ) : Type 0 where
+  pub right : (d : ℕ) → d < 256 → getD table d 0 ≡ classOf d
 
 -- the structure is linear fixed (010) or cyclic (110)
 unfoldable pub hasRecords : ℕ → Bool

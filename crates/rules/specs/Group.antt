@@ -1,6 +1,7 @@
 -- One group of a compact rule: an AM byte and one SC byte per set bit of b7-b1, highest first. It unpacks
 -- into seven condition slots: slot 0 is b7, slot 6 is b1 (01 "Descriptor and rules").
-use Prim.Native.Nat.{ℕ, zero, suc, _/_, _%_, _+_}
+use Prim.Native.Nat.{ℕ, zero, suc, _/_, _%_, _+_, _<_}
+use mathlib.Core.Path.{_≡_}
 use mathlib.Core.Bool.{Bool, false, cond, _||_}
 use mathlib.Core.List.{List, [], _∷_}
 use lib.ListN.{length, getD}
@@ -50,6 +51,14 @@ unfoldable pub nextOf : List ℕ → ℕ → ℕ
 nextOf rule at =
     let am : ℕ = getD rule at 0 in
     at + 1 + b7 am + b6 am + b5 am + b4 am + b3 am + b2 am + b1 am
+
+-- how many bytes the group of an AM byte has; none where b8 is set
+unfoldable pub groupLength : ℕ → ℕ
+groupLength am = cond (ltb am 128) (1 + b7 am + b6 am + b5 am + b4 am + b3 am + b2 am + b1 am) 0
+
+-- a table of these lengths for all bytes
+pub record Lengths (table : List ℕ) : Type 0 where
+  pub right : (am : ℕ) → am < 256 → getD table am 0 ≡ groupLength am
 
 -- p holds of one of the groups from `at` on; the first number bounds them
 abbrev pub someFrom : ℕ → (ℕ → Bool) → List ℕ → ℕ → Bool

@@ -3,7 +3,7 @@ use Prim.Native.Nat.{ℕ}
 use mathlib.Core.Bool.{Bool, not, _&&_, _||_}
 use mathlib.Core.List.{List}
 use lib.ListN.{length, getD}
-use lib.Dec.{eqb, ltb, leb}
+use lib.Dec.{ltb, leb}
 use Rattle.rules.specs.declared.Right.{Right}
 use Rattle.rules.specs.declared.Right.the-variants.{DeleteSelf, Terminate, Activate, Deactivate, CreateDf, CreateEf, DeleteChild}
 use Rattle.rules.specs.declared.Sets.{Sets}
@@ -17,10 +17,6 @@ malformedAt rule at = ltb 127 (getD rule at 0) || ltb (length rule) (nextOf rule
 -- AM b8 set is malformed; groups fill the rule exactly
 unfoldable pub wellFormed : List ℕ → Bool
 wellFormed rule = not (someGroup (malformedAt rule) rule)
-
--- its first group is well formed and fills it: the common case
-unfoldable pub oneGroup : List ℕ → Bool
-oneGroup rule = leb (getD rule 0 0) 127 && eqb (nextOf rule 0) (length rule)
 
 -- 1-16 bytes, well formed
 unfoldable pub fitsRecord : List ℕ → Bool

@@ -2,8 +2,8 @@
 // is the only way anyone asks a rule.
 ghost use mathlib.Core.Path.{_≡_};
 ghost use Prim.Native.Nat.{_<_};
-ghost use lib.ListN.{length};
-ghost use Rattle.rules.specs.Rule.{wellFormed, oneGroup, fitsRecord, slotOf, grantedOf, allowsOf};
+ghost use Rattle.rules.specs.Group.{Lengths};
+ghost use Rattle.rules.specs.Rule.{wellFormed, fitsRecord, slotOf, grantedOf, allowsOf};
 use crate::Right;
 use crate::Sets;
 use crate::condition;
@@ -27,17 +27,6 @@ pub fn well_formed(rule: &[u8]) -> bool
     true
 }
 
-// Whether a rule is one group, as most are.
-fn is_one_group(rule: &[u8]) -> bool
-    requires { ⌜ 0 < length (now rule) ⌝ }
-    ensures { λ r. ⌜ r ≡ oneGroup (now (rule .entry)) ⌝ }
-{
-    if 127 < rule[0] {
-        return false;
-    }
-    group::next(rule, 0) == rule.len()
-}
-
 // Whether a rule may stand in a record: 1 to 16 bytes, well formed.
 pub fn fits_record(rule: &[u8]) -> bool
     ensures { λ r. ⌜ r ≡ fitsRecord (now (rule .entry)) ⌝ }
@@ -48,7 +37,29 @@ pub fn fits_record(rule: &[u8]) -> bool
     if 16 < rule.len() {
         return false;
     }
-    if is_one_group(rule) {
+    well_formed(rule)
+}
+
+// A byte as an index or a length, with its bound.
+fn wide(x: u8) -> usize
+    ensures { λ r. ⌜ (r ≡ x) × (r < 256) ⌝ }
+{
+    x as usize
+}
+
+// The same with the table of lengths: one group, as most rules are, is one look.
+pub fn fits_by(rule: &[u8], lengths: &[u8; 256]) -> bool
+    requires { ⌜ Lengths (now lengths) ⌝ }
+    ensures { λ r. ⌜ r ≡ fitsRecord (now (rule .entry)) ⌝ }
+{
+    if 1 > rule.len() {
+        return false;
+    }
+    if 16 < rule.len() {
+        return false;
+    }
+    let am = wide(rule[0]);
+    if wide(lengths[am]) == rule.len() {
         return true;
     }
     well_formed(rule)

@@ -1,7 +1,7 @@
 // Identifiers of siblings: each differs from those of its siblings (01 "Image"). It may use laws, keys, image,
 // sound and kinship.
 //
-// One walk over all records with a set of the keys seen: a file whose key is new can have no sibling like it
+// A walk over all records has a set of the keys seen: a file whose key is new can have no sibling like it
 // before it, and only one whose key was seen looks at them. Any key would be right; this one is spread so that
 // few files share one.
 ghost use mathlib.Core.Path.{_≡_};
@@ -9,7 +9,7 @@ ghost use Prim.Native.Nat.{_+_, _*_, _%_, _<_};
 ghost use Rattle.keys.specs.Marks.{Keyed};
 ghost use Rattle.image.specs.Layout.{Sized};
 ghost use Rattle.sound.specs.Table.{viewAt, isFile};
-ghost use Rattle.sound.specs.Kin.{siblingsAt, siblingsb};
+ghost use Rattle.sound.specs.Kin.{siblingsAt};
 ghost use Rattle.siblings.specs.Key.{siblingKey};
 use image::fields;
 use kinship::search;
@@ -43,7 +43,7 @@ fn key_of(parent: usize, identifier: u16) -> u16
 }
 
 // Whether s differs from its siblings before it; only one whose key was seen looks at them. Its key is put in.
-fn alone(seen: &mut [u64; 1024], image: &[u8], n: usize, s: usize) -> bool
+pub fn alone(seen: &mut [u64; 1024], image: &[u8], n: usize, s: usize) -> bool
     requires { ⌜ Sized (now image) n × (s < n) ⌝ }
     requires { ⌜ Keyed (isFile (viewAt (now image))) (siblingKey (viewAt (now image))) s (now seen) ⌝ }
     ensures { λ r. ⌜ (r ≡ siblingsAt (viewAt (now (image .entry))) s) × Keyed (isFile (viewAt (now (image .entry)))) (siblingKey (viewAt (now (image .entry)))) (s + 1) (now (seen .exit)) ⌝ }
@@ -56,21 +56,5 @@ fn alone(seen: &mut [u64; 1024], image: &[u8], n: usize, s: usize) -> bool
         return siblings_at(image, n, s);
     }
     keys::put(seen, key);
-    true
-}
-
-// Whether each identifier differs from those of its siblings.
-pub fn apart(image: &[u8], n: usize) -> bool
-    requires { ⌜ Sized (now image) n ⌝ }
-    ensures { λ r. ⌜ r ≡ siblingsb n (viewAt (now (image .entry))) ⌝ }
-{
-    let mut seen = [0u64; 1024];
-    let mut s = 0;
-    while s < n {
-        if !alone(&mut seen, image, n, s) {
-            return false;
-        }
-        s += 1;
-    }
     true
 }

@@ -1,4 +1,4 @@
--- What a test that passed tells: a good header the image's size, `soundb` the record `Sound`.
+-- What a test that passed tells: a good header the image's size, the parts `kinb`, `soundb` the record `Sound`.
 use mathlib.Core.Path.{_≡_, sym, _∙_}
 use mathlib.Core.Bool.{Bool, true, false, not}
 use mathlib.Core.List.{List}
@@ -7,14 +7,28 @@ use native.Mathlib.Omega.{arith}
 use lib.ListN.{length}
 use borrow.Author.Tests.{not-true, not-false}
 use Rattle.image.specs.Layout.{Sized, countOf, currentDfOf, currentEfOf}
-use Rattle.sound.specs.Table.{viewAt}
-use Rattle.sound.specs.Kin.{kinb}
+use Rattle.sound.specs.Table.{View, viewAt}
+use Rattle.sound.specs.Kin.{rootb, namesb, kinb}
 use Rattle.sound.specs.Sound.{Header, headerb, recordsb, currentb, Sound, soundb}
 use Rattle.sound.proofs.Says.{header-says, sound-says}
 use Rattle.kinship.proofs.Sound.{sized-by}
+use Rattle.linking.specs.Linked.{linkedb}
+use Rattle.linking.proofs.Linking.{linked-names}
 
 pub passed : (r b : Bool) → r ≡ b → not r ≡ false → b ≡ true
 passed r b e t = sym e ∙ not-false r t
+
+-- what holds between records: the root, the two walks, the names
+module _ (n : ℕ) (v : ℕ → View) (a : Bool) (e : a ≡ rootb n v) where
+  pub kin-root : not a ≡ true → false ≡ kinb n v
+  kin-root t = rw (linked-names n v, ← e, not-true a t)
+
+  module _ (t : not a ≡ false) (b : Bool) (f : b ≡ linkedb n v) where
+    pub kin-linked : not b ≡ true → false ≡ kinb n v
+    kin-linked u = rw (linked-names n v, ← e, not-false a t, ← f, not-true b u)
+
+    pub kin-last : not b ≡ false → (x : Bool) → x ≡ namesb n v → x ≡ kinb n v
+    kin-last u x g = rw (linked-names n v, ← e, not-false a t, ← f, not-false b u) g
 
 pub sound-passed : (img : List ℕ) (r : Bool) → r ≡ soundb img → not r ≡ false → Sound img
 sound-passed img r e t = sound-says img .0 (passed r (soundb img) e t)

@@ -1,10 +1,9 @@
-// The code that decides whether any bytes are a sound image (01 "Image"). It may use laws, numbers, rules,
-// image, sound, kinship and the crates of its parts.
+// The code that decides whether any bytes are a sound image (01 "Image"). It may use laws, image, sound, kinship and
+// the crates of its parts.
 //
-// A module or a crate for each part, with a contract of its own: the header and each record by itself (`records`),
-// parents and levels, identifiers (`siblings`, `ancestry`), names (`naming`), charges (`charging`), what is
-// current. Walking up is safe only once parents and levels are known good, and names are short only once each
-// record is.
+// A module or a crate for each part, with a contract of its own: the header and each record by itself (`records`), the
+// root, parents and levels, identifiers and charges (`linking`), names (`naming`), what is current. Walking up is safe
+// only once parents and levels are known good, and names are short only once each record is.
 ghost use mathlib.Core.Path.{_≡_};
 ghost use mathlib.Core.Bool.{true};
 ghost use Rattle.image.specs.Layout.{Sized};
@@ -24,19 +23,10 @@ fn kin(image: &[u8], n: usize) -> bool
     if !places::root(image, n) {
         return false;
     }
-    if !places::placed(image, n) {
+    if !linking::linked(image, n) {
         return false;
     }
-    if !siblings::apart(image, n) {
-        return false;
-    }
-    if !ancestry::apart(image, n) {
-        return false;
-    }
-    if !naming::distinct(image, n) {
-        return false;
-    }
-    charging::covered(image, n)
+    naming::distinct(image, n)
 }
 
 // Whether an image is sound, for any bytes of any length.

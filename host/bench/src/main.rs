@@ -22,7 +22,7 @@ use cases::worst;
 use clock::{measure, measure_copy, Times};
 use work::{Call, Task};
 
-const SIZES: [usize; 4] = [16, 64, 256, 1023];
+const SIZES: [usize; 4] = [16, 128, 256, 1023];
 const USAGE: &str = "usage: bench [--milliseconds M] [--shape WORD]";
 
 /// What was measured for one task on one card.

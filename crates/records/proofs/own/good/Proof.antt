@@ -26,10 +26,4 @@ returns-2 c = search tests depth 30
 
 pub good-spec : {M : Type 1} → statement M
 good-spec =
-    tie.close
-    (tie.spec
-    shared-slice-read-if1
-    record-requires
-    returns
-    used-requires
-    returns-2)
+    tie.close (tie.spec shared-slice-read-if1 record-requires returns used-requires returns-2)

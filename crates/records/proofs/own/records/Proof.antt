@@ -12,10 +12,16 @@ use Rattle.records.proofs.own.records.Statement.{statement}
 use Rattle.records.proofs.own.records.Tie as tie
 
 abbrev Inv-loop : tie.InvT-loop
-Inv-loop image n s₀ s = (s ≤ n) × (allBelow s (λ t. ownb (recAt image t)) ≡ true)
+Inv-loop image n classes lengths s₀ s = (s ≤ n) × (allBelow s (λ t. ownb (recAt image t)) ≡ true)
 
 abbrev μ-loop : tie.MeasureT-loop
-μ-loop image n s₀ s = n - s
+μ-loop image n classes lengths s₀ s = n - s
+
+classes-requires : tie.Need-classes-requires Inv-loop μ-loop
+classes-requires c κs = search needs
+
+lengths-requires : tie.Need-lengths-requires Inv-loop μ-loop
+lengths-requires c κs = search needs
 
 loop-holds : tie.Need-loop-holds Inv-loop μ-loop
 loop-holds c = (search needs, all-zero _)
@@ -34,7 +40,7 @@ loop-less : tie.Need-loop-less Inv-loop μ-loop
 loop-less c = search needs
 
 loop-again : tie.Need-loop-again Inv-loop μ-loop
-loop-again c = (search needs, all-turn (λ t. ownb (recAt _ t)) _ _ (c .before .before .before .loop .inv .1) (c .before .good-at .ensures) (c .if1 .left))
+loop-again c = (search needs, all-turn (λ t. ownb (recAt _ t)) _ _ (c .before .before .before .before .before .loop .inv .1) (c .before .good-at .ensures) (c .if1 .left))
 
 returns-2 : tie.Need-returns-2 Inv-loop μ-loop
 unfolding recordsb
@@ -46,6 +52,8 @@ records-spec =
     (tie.spec
     Inv-loop
     μ-loop
+    classes-requires
+    lengths-requires
     loop-holds
     good-at-requires
     returns

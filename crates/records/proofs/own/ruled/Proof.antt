@@ -28,17 +28,17 @@ returns-3 c = search ruled-tail
 add-to : tie.Need-add-to
 add-to c = search needs
 
-sub-fits-record : tie.Need-sub-fits-record
-sub-fits-record c = search needs
+sub-fits-by : tie.Need-sub-fits-by
+sub-fits-by c = search needs
 
-part-fits-record-start : tie.Need-part-fits-record-start
-part-fits-record-start c = search needs
+part-fits-by-start : tie.Need-part-fits-by-start
+part-fits-by-start c = search needs
 
-part-fits-record-end : tie.Need-part-fits-record-end
-part-fits-record-end c = search needs
+part-fits-by-end : tie.Need-part-fits-by-end
+part-fits-by-end c = search needs
 
-fits-record-requires : tie.Need-fits-record-requires
-fits-record-requires c κs = search needs
+fits-by-requires : tie.Need-fits-by-requires
+fits-by-requires c κs = search needs
 
 returns-4 : tie.Need-returns-4
 returns-4 c = search ruled-is
@@ -55,8 +55,8 @@ ruled-spec =
     after-rule-requires
     returns-3
     add-to
-    sub-fits-record
-    part-fits-record-start
-    part-fits-record-end
-    fits-record-requires
+    sub-fits-by
+    part-fits-by-start
+    part-fits-by-end
+    fits-by-requires
     returns-4)

@@ -1,7 +1,6 @@
 -- `rule::fits_record`: its early returns are the conditions of `fitsRecord`.
 use Rattle.laws.proofs.Chains.{ands}
 use Rattle.rules.specs.Rule.{fitsRecord}
-use Rattle.rules.proofs.Groups.{one-formed}
 use borrow.Author.Needs.{needs}
 use Rattle.rules.proofs.rule.fits_record.Statement.{statement}
 use Rattle.rules.proofs.rule.fits_record.Tie as tie
@@ -14,18 +13,12 @@ returns-2 : tie.Need-returns-2
 unfolding fitsRecord
 returns-2 c = search ands depth 30
 
-is-one-group-requires : tie.Need-is-one-group-requires
-is-one-group-requires c κs = search needs
-
-returns-3 : tie.Need-returns-3
-returns-3 c = search one-formed
-
 well-formed-requires : tie.Need-well-formed-requires
 well-formed-requires c κs = search needs
 
-returns-4 : tie.Need-returns-4
+returns-3 : tie.Need-returns-3
 unfolding fitsRecord
-returns-4 c = search ands depth 30
+returns-3 c = search ands depth 30
 
 pub fits-record-spec : {M : Type 1} → statement M
-fits-record-spec = tie.close (tie.spec returns returns-2 is-one-group-requires returns-3 well-formed-requires returns-4)
+fits-record-spec = tie.close (tie.spec returns returns-2 well-formed-requires returns-3)
