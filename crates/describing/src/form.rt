@@ -4,8 +4,8 @@ ghost use mathlib.Core.Path.{_≡_};
 ghost use Prim.Native.Nat.{_<_};
 ghost use Rattle.template.specs.Objects.{lengthIn};
 ghost use Rattle.template.specs.Form.{lacks, has, onePrivate, dfForm, firstForm, efForm};
-use template::Objects;
 use rules::descriptor;
+use template::Objects;
 
 // Whether object k is not there.
 pub fn is_absent(o: Objects, k: usize) -> bool

@@ -1,5 +1,5 @@
 // The new file that CREATE's data describe, or "bad" (01 "CREATE", data; 6A80), for any bytes. It may use laws,
-// numbers, rules and template.
+// rules and template.
 //
 // `judge` judges which objects were gathered and the bytes that they point at. Every value is handed on as a part
 // of the data, from the middle of it, and nothing is copied.

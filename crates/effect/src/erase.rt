@@ -13,6 +13,7 @@ ghost use Rattle.kinship.specs.Climb.{Rooted};
 use image::fields;
 use image::write;
 
+// Makes the record in slot s a free one, if it is marked.
 fn clear_if(image: &mut [u8], s: usize, marked: bool)
     requires { ⌜ Within (now image) s ⌝ }
     ensures { λ _. ⌜ now (image .exit) ≡ clearIf marked (now (image .entry)) s ⌝ }

@@ -1,5 +1,5 @@
 // The bytes of a command and the tests of the steps A to G, which all commands share (01 "The order in which a
-// command is judged"), and the parts of a command. It may use laws, numbers, rules, sound and verdict.
+// command is judged"), and the parts of a command. It may use laws, numbers and verdict.
 ghost use mathlib.Core.Path.{_≡_};
 ghost use Prim.Native.Nat.{_≤_};
 ghost use lib.ListN.{length};

@@ -46,8 +46,7 @@ module _ (st : Story) (k : Kept st) (x : Call) where
       let q = current-dir st k in
       let g : Dir (slots st) (tableAfter st x) (here st) = record { low = q .low; dir = ap (λ (y : View). y .kind) e ∙ q .dir } in
       let a = room-same (next st x .ledger) (slots st) (tableAfter st x) (agrees-after st k x) (here st) g in
-      let b = room-is st k (here st) q in
-      (
+      let b = room-is st k (here st) q in (
         omega (arith, a, ap (λ (y : View). y .size) e, kin-after st k x .charges (here st) (q .low) (g .dir)),
         omega (arith, b, k .sound .kin .charges (here st) (q .low) (q .dir)),
       )
@@ -70,7 +69,7 @@ module _ (st : Story) (k : Kept st) (x : Call) where
       let g = gone-here _ _ _ (k .sound .kin) i _ _ c (current-dir st k) in
       let r = rooms (g .0) in
       let f : fileIn (st .ledger) (here st) i .size ≡ table st (c .slot) .size =
-          ap (λ (y : Entry). y .size) (rw (c .parent, c .identifier) at (file-same (st .ledger) _ _ (k .agrees) (k .sound .kin) (omega (arith, k .sound .header .least)) (c .slot) (c .low) (c .file))) in
+      ap (λ (y : Entry). y .size) (rw (c .parent, c .identifier) at (file-same (st .ledger) _ _ (k .agrees) (k .sound .kin) (omega (arith, k .sound .header .least)) (c .slot) (c .low) (c .file))) in
       omega (arith, r .0, r .1, g .1, f)
 
   deleted-stays : (i : ℕ) → heard (st .image) x ≡ deletes i → here (next st x) ≡ here st

@@ -147,22 +147,34 @@ module _ (st : Story) (k : Kept st) where
         (heard (st .image) x) (here st) (currentDfOf (imageAfter (st .image) x)) (did st k x) s
         (lives-dir (next st x .ledger) (slots st) _ (agrees-after st k x) (kin-after st k x) (omega (arith, k .sound .header .least)) d l)
 
-  -- the room of a new directory is its total, whatever stood in its slot before
-  newborn : (x : Call) (d : ℕ) (m : Makes st x d) → room (next st x) d ≡ m .total
+  -- a new directory stands where none lived, and its room is its total
+  newborn : (x : Call) (d : ℕ) (m : Makes st x d) → (Lives st d → ⊥) × (Lives (next st x) d × (room (next st x) d ≡ m .total))
   unfolding roomFor totalFor next
   newborn x d m =
       let c = rw (m .makes) at (did st k x) in
       let e : d ≡ c .slot = sym (m .slot) ∙ c .own refl in
       let g : Dir (slots st) (tableAfter st x) d = rw e (record { low = c .low; dir = c .kind }) in
-      let z = made-none (slots st) (table st) (tableAfter st x) (k .sound .kin) _ _ true _ _ c (k .sound .current .df-dir) in
-      room-same (next st x .ledger) (slots st) (tableAfter st x) (agrees-after st k x) d g
-      ∙ rw e (omega (arith, z, c .size))
+      let z = made-none (slots st) (table st) (tableAfter st x) (k .sound .kin) _ _ true _ _ c (k .sound .current .df-dir) in (
+        λ l. omega (arith, dir d l .dir, c .free, ap (λ (y : ℕ). table st y .kind) e),
+        (
+          dir-lives (next st x .ledger) (slots st) (tableAfter st x) (agrees-after st k x) d g,
+          room-same (next st x .ledger) (slots st) (tableAfter st x) (agrees-after st k x) d g ∙ rw e (omega (arith, z, c .size)),
+        ),
+      )
 
   pub kept-demand : Demand3 st
   kept-demand = record {
+    everyone = λ d. (
+      (λ l. (dir d l .low, dir d l .dir)),
+      (λ h. dir-lives (st .ledger) (slots st) (table st) (k .agrees) d (record { low = h .0; dir = h .1 })),
+    );
     rooms = λ d l. room-is d (dir d l);
-    covered = λ d l. unfold totalFor in omega (arith, charged-same (st .ledger) (slots st) (table st) (k .agrees) d,
-        total-same (st .ledger) (slots st) (table st) (k .agrees) d (dir d l), k .sound .kin .charges d (dir d l .low) (dir d l .dir));
+    covered = λ d l. unfold totalFor in omega (
+      arith,
+      charged-same (st .ledger) (slots st) (table st) (k .agrees) d,
+      total-same (st .ledger) (slots st) (table st) (k .agrees) d (dir d l),
+      k .sound .kin .charges d (dir d l .low) (dir d l .dir),
+    );
     current = dir-lives (st .ledger) (slots st) (table st) (k .agrees) (here st) current-dir;
     full = λ x r. rw (word-says x r) (refuses (sizeSent x + 64) (room st (here st)));
     takes = λ x r. rw (word-says x r) (accepts (sizeSent x + 64) (room st (here st)));

@@ -1,11 +1,12 @@
--- Demand 3, and what follows from it, as statements about any history of commands on a fresh card. Each is proved in
--- proofs/Demand or proofs/Corollaries under the same name in small letters.
+-- Demand 3, and what follows from it, as statements about any history of commands on a fresh card (01 "What the
+-- statements must tie down"). Each is proved in proofs/Demand or proofs/Corollaries under the same name in small letters.
 use mathlib.Core.Path.{_≡_}
 use mathlib.Core.Bool.{Bool, true}
 use mathlib.Core.List.{List, [], _∷_}
 use mathlib.Core.Logic.{_↔_}
 use Prim.Native.Nat.{ℕ, _+_, _<_, _≤_}
 use Rattle.laws.specs.declared.Found.the-variants.{Nothing}
+use Rattle.rules.specs.Descriptor.{df}
 use Rattle.image.specs.Layout.{countOf, currentDfOf}
 use Rattle.sound.specs.Table.{viewAt}
 use Rattle.sound.specs.Kinship.{freeSlot, roomFor}
@@ -39,6 +40,8 @@ pub record Makes (st : Story) (x : Call) (d : ℕ) : Type 0 where
   pub slot : here (next st x) ≡ d
 
 pub record Demand3 (st : Story) : Type 0 where
+  -- every directory of the card lives in the ledger, and no other slot does
+  pub everyone : (d : ℕ) → Lives st d ↔ ((d < countOf (st .image)) × (viewAt (st .image) d .kind ≡ df))
   -- any directory that lives: its room by the ledger is what its records give, and the total is never exceeded
   pub rooms : (d : ℕ) → Lives st d → room st d ≡ roomFor (countOf (st .image)) (viewAt (st .image)) d
   pub covered : (d : ℕ) → Lives st d → chargedIn (st .ledger) d ≤ totalIn (st .ledger) d
@@ -47,9 +50,9 @@ pub record Demand3 (st : Story) : Type 0 where
   pub current : Lives st (here st)
   pub full : (x : Call) → Ready (st .image) x → (wordFor (st .image) x ≡ notEnoughMemory) ↔ (room st (here st) < sizeSent x + 64)
   pub takes : (x : Call) → Ready (st .image) x → (wordFor (st .image) x ≡ done) ↔ (sizeSent x + 64 ≤ room st (here st))
-  -- from its creation, with its announced total for its room, whatever stood in that slot before
+  -- from its creation, in a slot where none lived, with its announced total for its room
   pub begins : (x : Call) (d : ℕ) → (Lives st d → ⊥) → Lives (next st x) d → Makes st x d
-  pub newborn : (x : Call) (d : ℕ) (m : Makes st x d) → room (next st x) d ≡ m .total
+  pub newborn : (x : Call) (d : ℕ) (m : Makes st x d) → (Lives st d → ⊥) × (Lives (next st x) d × (room (next st x) d ≡ m .total))
   -- until it or one above it is deleted
   pub ends : (x : Call) (d : ℕ) → Lives st d → Strikes st x d → Lives (next st x) d → ⊥
   pub goes-on : (x : Call) (d : ℕ) → Lives st d → (Strikes st x d → ⊥) → Lives (next st x) d
@@ -93,7 +96,8 @@ abbrev pub GivesBack : Type 0
 GivesBack = (st : Story) → History st → (x : Call) (i : ℕ) → heard (st .image) x ≡ deletes i
     → room (next st x) (here st) ≡ room st (here st) + (fileIn (st .ledger) (here st) i .size + 64)
 
--- a deleted identifier that comes back is charged anew, by what is announced then
+-- a deleted identifier that comes back at once is charged anew, by what is announced then; one that comes back later is
+-- charged as any new file is (`ParentPaysAlone`)
 abbrev pub ChargedAnew : Type 0
 ChargedAnew = (st : Story) → History st → (x y : Call) (i size : ℕ) (isDf : Bool) → heard (st .image) x ≡ deletes i
     → heard (next st x .image) y ≡ makes i size isDf

@@ -1,5 +1,5 @@
 -- A history: the card's image and the ledger beside it, command by command; and when CREATE has passed every check
--- before memory.
+-- before memory (01 "What the statements must tie down").
 use mathlib.Core.Path.{_≡_}
 use mathlib.Core.Bool.{true, false, cond}
 use mathlib.Core.List.{List, [], _∷_}
@@ -80,7 +80,7 @@ pub record Ready (img : List ℕ) (x : Call) : Type 0 where
 abbrev pub sizeSent : Call → ℕ
 sizeSent x = newSize (dataOf (sentData (x .command)))
 
--- such CREATEs are just those answered 9000 or 6A84
+-- such CREATEs are just those answered 9000 or 6A84 (proofs/Memory, `ready-exactly`)
 abbrev pub ReadyExactly : Type 0
 ReadyExactly = (img : List ℕ) (x : Call) → Sound img → instruction (x .command) ≡ createFile
     → Ready img x ↔ ((wordFor img x ≡ done) ⊎ (wordFor img x ≡ notEnoughMemory))

@@ -2,7 +2,7 @@
 // above, sums over children). It may use laws, keys, image, sound, kinship, siblings, ancestry and charging.
 //
 // The first walk asks what needs nothing known, and gathers the identifiers of directories and what each directory's
-// children cost; the second asks what needs these. Each record is read twice instead of six times.
+// children cost; the second asks what needs these. Each record is asked twice.
 ghost use mathlib.Core.Path.{_≡_};
 ghost use mathlib.Core.Bool.{true};
 ghost use Prim.Native.Nat.{_+_, _<_};
@@ -35,7 +35,15 @@ fn placed_at(image: &[u8], n: usize, s: usize) -> bool
 }
 
 // The first walk at slot s.
-fn first_at(seen: &mut [u64; 1024], once: &mut [u64; 1024], twice: &mut [u64; 1024], sums: &mut [u64; 1023], image: &[u8], n: usize, s: usize) -> bool
+fn first_at(
+    seen: &mut [u64; 1024],
+    once: &mut [u64; 1024],
+    twice: &mut [u64; 1024],
+    sums: &mut [u64; 1023],
+    image: &[u8],
+    n: usize,
+    s: usize,
+) -> bool
     requires { ⌜ Sized (now image) n × (s < n) ⌝ }
     requires { ⌜ Keyed (isFile (viewAt (now image))) (siblingKey (viewAt (now image))) s (now seen) ⌝ }
     requires { ⌜ Noted (viewAt (now image)) s (now once) (now twice) ⌝ }
@@ -54,7 +62,14 @@ fn first_at(seen: &mut [u64; 1024], once: &mut [u64; 1024], twice: &mut [u64; 10
 }
 
 // The second walk at slot s, whose children cost `sum`.
-fn second_at(once: &[u64; 1024], twice: &[u64; 1024], image: &[u8], n: usize, s: usize, sum: u64) -> bool
+fn second_at(
+    once: &[u64; 1024],
+    twice: &[u64; 1024],
+    image: &[u8],
+    n: usize,
+    s: usize,
+    sum: u64,
+) -> bool
     requires { ⌜ Sized (now image) n × (s < n) ⌝ }
     requires { ⌜ (rootb n (viewAt (now image)) ≡ true) × (placedb n (viewAt (now image)) ≡ true) ⌝ }
     requires { ⌜ Noted (viewAt (now image)) n (now once) (now twice) ⌝ }
@@ -68,7 +83,13 @@ fn second_at(once: &[u64; 1024], twice: &[u64; 1024], image: &[u8], n: usize, s:
 }
 
 // The second walk.
-fn second(once: &[u64; 1024], twice: &[u64; 1024], sums: &[u64; 1023], image: &[u8], n: usize) -> bool
+fn second(
+    once: &[u64; 1024],
+    twice: &[u64; 1024],
+    sums: &[u64; 1023],
+    image: &[u8],
+    n: usize,
+) -> bool
     requires { ⌜ Sized (now image) n ⌝ }
     requires { ⌜ (rootb n (viewAt (now image)) ≡ true) × (placedb n (viewAt (now image)) ≡ true) ⌝ }
     requires { ⌜ Noted (viewAt (now image)) n (now once) (now twice) ⌝ }

@@ -10,6 +10,7 @@ ghost use Rattle.reader.specs.Places.{placeAfter};
 use template::Object;
 use template::gather;
 
+// A template and a place in it, where the next object stands.
 pub struct Reader<'a> {
     pub template: &'a [u8],
     pub place: usize,

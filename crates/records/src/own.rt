@@ -96,6 +96,7 @@ fn ruled(r: &[u8], lengths: &[u8; 256]) -> bool
     rules::rule::fits_by(&r[34..to], lengths)
 }
 
+// Whether a used record is good by itself.
 fn used(r: &[u8], classes: &[u8; 256], lengths: &[u8; 256]) -> bool
     requires { ⌜ length (now r) ≡ 64 ⌝ }
     requires { ⌜ Classes (now classes) × Lengths (now lengths) ⌝ }
@@ -125,6 +126,7 @@ fn good(r: &[u8], classes: &[u8; 256], lengths: &[u8; 256]) -> bool
     used(r, classes, lengths)
 }
 
+// Whether the record in slot s is.
 fn good_at(image: &[u8], s: usize, classes: &[u8; 256], lengths: &[u8; 256]) -> bool
     requires { ⌜ Within (now image) s ⌝ }
     requires { ⌜ Classes (now classes) × Lengths (now lengths) ⌝ }

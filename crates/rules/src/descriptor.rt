@@ -23,6 +23,7 @@ const CLASS: [u8; 256] = [
     0, 0, 0, 0, 0, 0, 0, 0, 0, 0, 0, 0, 0, 0, 0, 0, // F0
 ];
 
+// The class of a byte.
 pub fn class(d: u8) -> u8
     ensures { λ r. ⌜ r ≡ classOf d ⌝ }
 {

@@ -2,7 +2,7 @@
 // reporting": all files beneath). It may use laws, image, sound and kinship.
 //
 // A walk over the slots: each climbs to a record that is known, or that stands no deeper than the directory; then
-// all that it passed are known too. So no record is passed twice.
+// all that it passed are known too. So no record is passed by two climbs.
 ghost use mathlib.Core.Path.{_≡_};
 ghost use Prim.Native.Nat.{_+_, _<_};
 ghost use Rattle.image.specs.Layout.{Within};

@@ -1,6 +1,6 @@
 // What passes between judging and applying a command (judge, then apply): what the caller hands over,
-// and the verdict, a refusal with its word or one effect with its numbers. No code. It may use laws, numbers,
-// rules, image and sound. specs/ has the status words of 01 and what each verdict gives: its word, and every
+// and the verdict, a refusal with its word or one effect with its numbers. No code. It may use laws, rules,
+// image and sound. specs/ has the status words of 01 and what each verdict gives: its word, and every
 // byte of the image afterwards.
 
 // What the caller hands over beside the command: the sets of what has been authenticated, and the byte of

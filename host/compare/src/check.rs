@@ -1,5 +1,5 @@
-//! A case run by the card and by the model, and demand 3's ledger beside every
-//! history.
+//! A case run by the card and by the model, and demand 3's two ledgers beside
+//! every history.
 
 use std::fmt;
 
@@ -8,7 +8,7 @@ use model::ledger::{current_df_slot, Ledger};
 use model::lines::Case as Line;
 use model::words::Word;
 
-use crate::demand3::{word_fits, Given};
+use crate::demand3::{word_fits, Given, WATCHED};
 use crate::ledger::{heard, Ledger as Stated};
 use crate::outcome::{run, Outcome};
 use crate::rights::lines_of_rule;
@@ -170,10 +170,20 @@ impl Books {
         let complaint = (!fits)
             .then(|| format!("word {word:04X} against the room that it knows"))
             .or_else(|| given.complaint(image))
+            .or_else(|| differ(&self.model, &next))
             .or_else(|| report.and_then(|told| audit(&self.model, after, told)));
         self.stated = next;
         complaint
     }
+}
+
+/// What the two ledgers say differently of a directory.
+fn differ(model: &Ledger, stated: &Stated) -> Option<String> {
+    stated.directories().take(WATCHED).find_map(|d| {
+        let by_model = u16::try_from(d).ok().and_then(|slot| model.room(slot));
+        let room = stated.room_in(d);
+        (by_model != Some(room)).then(|| format!("room of slot {d}: {by_model:?} and {room}"))
+    })
 }
 
 /// Plays a history command by command; after each a report, and the ledgers.

@@ -9,7 +9,7 @@ use model::words::{Word, NOT_ENOUGH_MEMORY, SUCCESS};
 use crate::ledger::{Announced, Ledger};
 
 /// More directories than these are not all asked at each command.
-const WATCHED: usize = 24;
+pub const WATCHED: usize = 24;
 
 /// A command that was given, with the ledgers and the current DF slots around
 /// it.

@@ -1,10 +1,12 @@
 //! Demand 3's ledger as the theorem has it: `crates/history/specs/Ledger` and
-//! `Story` in Rust, definition by definition and under the same names. The
-//! model has another, written from the documents; both are kept beside every
-//! history, and must agree.
+//! `Story` in Rust, definition by definition and under the same names; walks
+//! over entries are iterators, and `payer`, being the directory itself, is left
+//! out. The model has another ledger, written from the documents; both are kept
+//! beside every history, and must agree.
 //!
 //! A definition here is as plain as its original: no index, nothing kept that
-//! can be computed. Numbers are unbounded there and wide enough here.
+//! can be computed. Numbers are unbounded there and wide enough here. What a
+//! CREATE announces is read as the model's ledger reads it.
 
 use model::ledger::announced as sent;
 use model::words::{Word, SUCCESS};

@@ -1,6 +1,6 @@
 //! The proved card against the model (01: "Other cases are run by program and
 //! compared with an independent one"): answer, word, numbers and every byte
-//! of the image, and demand 3's ledger beside every history.
+//! of the image, and demand 3's two ledgers beside every history.
 //!
 //! A disagreement is shrunk to the smallest case that still shows it, and
 //! told as a line of the vectors, which the program `compare` runs again.

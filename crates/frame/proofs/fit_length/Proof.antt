@@ -1,4 +1,4 @@
--- `shared::fit_length`: by the instruction.
+-- `fit_length`: by the instruction.
 use Rattle.laws.proofs.Branches.{branches}
 use Rattle.frame.specs.Frame.{fitLength}
 use borrow.Author.Needs.{needs}

@@ -1,4 +1,4 @@
--- `shared::fit_parameters`: P1 P2 against what is wanted.
+-- `fit_parameters`: P1 P2 against what is wanted.
 use Rattle.frame.specs.Frame.{fitParameters}
 use borrow.Author.Needs.{needs}
 use Rattle.frame.proofs.fit_parameters.Statement.{statement}

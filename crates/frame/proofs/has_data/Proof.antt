@@ -1,4 +1,4 @@
--- `shared::has_data`: length against Lc.
+-- `has_data`: length against Lc.
 use native.Mathlib.Omega.{arith}
 use mathlib.Core.Path.{ap}
 use Prim.Native.Nat.{ℕ, _+_}

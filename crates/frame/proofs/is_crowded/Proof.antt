@@ -1,4 +1,4 @@
--- `shared::is_crowded`: asked only where the command wants to be alone.
+-- `is_crowded`: asked only where the command wants to be alone.
 use Rattle.laws.proofs.Chains.{calls}
 use mathlib.Core.Path.{refl}
 use Rattle.frame.specs.Frame.{crowded}

@@ -1,4 +1,4 @@
--- `shared::is_known`: one of eight.
+-- `is_known`: one of eight.
 use Rattle.laws.proofs.Chains.{ors}
 use Rattle.frame.specs.Frame.{isKnown}
 use borrow.Author.Needs.{needs}

@@ -1,4 +1,4 @@
--- `shared::is_seven`: length, then Lc.
+-- `is_seven`: length, then Lc.
 use Rattle.laws.proofs.Chains.{ands}
 use Rattle.frame.specs.Frame.{isSeven}
 use borrow.Author.Needs.{needs}

@@ -1,4 +1,4 @@
--- `shared::is_terminate`: one of three.
+-- `is_terminate`: one of three.
 use Rattle.laws.proofs.Chains.{ors}
 use Rattle.frame.specs.Frame.{isTerminate}
 use Rattle.frame.proofs.is_terminate.Statement.{statement}

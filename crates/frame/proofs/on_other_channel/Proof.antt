@@ -1,4 +1,4 @@
--- `shared::on_other_channel`: 1 to 3.
+-- `on_other_channel`: 1 to 3.
 use Rattle.laws.proofs.Chains.{ands}
 use Rattle.frame.specs.Frame.{onOtherChannel}
 use Rattle.frame.proofs.on_other_channel.Statement.{statement}

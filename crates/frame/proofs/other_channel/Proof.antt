@@ -1,4 +1,4 @@
--- `shared::other_channel`: bits 1 to 3.
+-- `other_channel`: bits 1 to 3.
 use mathlib.Core.Path.{refl}
 use Rattle.frame.specs.Frame.{otherChannel}
 use Rattle.frame.proofs.other_channel.Statement.{statement}

@@ -1,4 +1,4 @@
--- `shared::sent_data`: the rest of the command, from its sixth byte on.
+-- `sent_data`: the rest of the command, from its sixth byte on.
 use lib.ListN.{drop, length}
 use Prim.Native.Nat.{_-_}
 use native.Mathlib.Omega.{arith}

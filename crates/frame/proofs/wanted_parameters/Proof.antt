@@ -1,4 +1,4 @@
--- `shared::wanted_parameters`: by whether it is SELECT.
+-- `wanted_parameters`: by whether it is SELECT.
 use Rattle.laws.proofs.Branches.{branches}
 use Rattle.frame.specs.Frame.{wantedParameters}
 use Rattle.frame.proofs.wanted_parameters.Statement.{statement}

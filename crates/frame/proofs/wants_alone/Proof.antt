@@ -1,4 +1,4 @@
--- `shared::wants_alone`: CREATE, DELETE or a TERMINATE.
+-- `wants_alone`: CREATE, DELETE or a TERMINATE.
 use Rattle.laws.proofs.Chains.{ors}
 use Rattle.frame.specs.Frame.{wantsAlone}
 use borrow.Author.Needs.{needs}
