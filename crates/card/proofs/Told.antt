@@ -20,7 +20,7 @@ use Rattle.rules.specs.declared.Right.the-variants.{CreateDf, CreateEf}
 use Rattle.laws.specs.Tests.{either}
 use Rattle.rules.specs.Descriptor.{classOf, isDf, isEf, hasRecords, df, ef}
 use Rattle.rules.specs.Life.{lifeOf, knownLife, newLife}
-use Rattle.rules.specs.Rule.{fitsRecord}
+use Rattle.rules.proofs.Groups.{fits-short}
 use Rattle.rules.specs.Value.{goodLength, wholeRecords}
 use Rattle.image.specs.declared.Head.{Head}
 use Rattle.image.specs.Layout.{countOf, currentDfOf, currentEfOf, none, recAt, descriptorOf}
@@ -81,10 +81,6 @@ some-size z h = omega arith
 known : (l : ℕ) → newLife l ≡ true → knownLife l ≡ true
 unfolding newLife
 known l e = (simp and-says at e) .0
-
-short-rule : (r : List ℕ) → fitsRecord r ≡ true → length r ≤ 16
-unfolding fitsRecord
-short-rule r e = leb-true (length r) 16 ((simp and-says at e) .1 .0)
 
 -- a part of CREATE's data is a part of the command
 field-sent : (c : List ℕ) (a b : ℕ) → 5 ≤ length c → a ≤ b → b ≤ length (sentData c) → b - a ≤ 16 → FieldSent c a b
@@ -185,7 +181,7 @@ module _ (img c : List ℕ) (sound : Sound img) where
     new-tells (Df k i l a b from to z) g h =
         let r = part-long (sentData c) from to (g .file .rule-low) (g .file .rule-high) in
         let m = part-long (sentData c) a b (g .name-low) (g .name-high) in
-        let w = short-rule _ (g .file .rule) in
+        let w = fits-short _ (g .file .rule) in
         (record {
           low = slot-low CreateDf i _ z sets h;
           name = field-sent c a b long (g .name-low) (g .name-high) (g .name-short);
@@ -213,7 +209,7 @@ module _ (img c : List ℕ) (sound : Sound img) where
         })
     new-tells (Ef k i l m from to z) g h =
         let r = part-long (sentData c) from to (g .file .rule-low) (g .file .rule-high) in
-        let w = short-rule _ (g .file .rule) in
+        let w = fits-short _ (g .file .rule) in
         (record {
           low = slot-low CreateEf i _ z sets h;
           name = field-sent c 0 0 long (omega arith) (omega arith) (omega arith);

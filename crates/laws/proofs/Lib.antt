@@ -6,3 +6,5 @@ pub mod Branches
 pub mod Chains
 pub mod Says
 pub mod Tables
+pub mod Settling
+pub mod Counting

@@ -2,6 +2,7 @@
 -- Each test or sum that 01 makes over records, slots or bytes is one of these five.
 use mathlib.Core.Path.{_≡_}
 use mathlib.Core.Bool.{Bool, true, false, cond, _&&_, _||_}
+use mathlib.Core.Logic.{_⊎_}
 use Prim.Native.Nat.{ℕ, zero, suc, _+_, _<_}
 use Rattle.laws.specs.declared.Found.{Found}
 use Rattle.laws.specs.declared.Found.the-variants.{At, Nothing}
@@ -49,3 +50,8 @@ pub record FirstAt (n : ℕ) (p : ℕ → Bool) (i : ℕ) : Type 0 where
 -- what its other answer says: none below n has p
 pub record NoneBelow (n : ℕ) (p : ℕ → Bool) : Type 0 where
   pub none : (k : ℕ) → k < n → p k ≡ false
+
+-- k of the indices below n have P, told one by one
+abbrev pub Counts : (ℕ → Type 0) → ℕ → ℕ → Type 0
+Counts P zero k = k ≡ 0
+Counts P (suc n) k = (P n × ((j : ℕ) × (k ≡ suc j) × Counts P n j)) ⊎ ((P n → ⊥) × Counts P n k)

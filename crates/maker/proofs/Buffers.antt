@@ -10,8 +10,10 @@ use lib.ListN.{length, replicate, length-append, length-replicate}
 use borrow.Author.Tests.{not-true, not-false, le-leb, lt-leb}
 use Rattle.laws.specs.Lists.{splice}
 use Rattle.laws.proofs.Says.{says}
+use Rattle.laws.proofs.Settling.{settled, both-are}
 use Rattle.laws.proofs.Splices.{splice-step, splice-all}
 use Rattle.rules.specs.Rule.{fitsRecord}
+use Rattle.rules.proofs.Groups.{fits-short}
 use Rattle.image.specs.Layout.{Sized, recordBytes, putRecord, countOf}
 use Rattle.image.proofs.Made.{length-made}
 use Rattle.sound.specs.Table.{View, viewAt}
@@ -21,7 +23,7 @@ use Rattle.sound.proofs.Kept.{gone}
 use Rattle.sound.proofs.Fresh.{count, view-root, view-rest, sound-fresh}
 use Rattle.maker.specs.declared.Made.{Made}
 use Rattle.maker.specs.declared.Made.the-variants.{Done, BadLength, BadTotal, BadRule}
-use Rattle.maker.specs.Making.{slotsIn, fitsLength, fitsTotal, madeOf, answerOf, leftBy}
+use Rattle.maker.specs.Making.{slotsIn, fitsLength, fitsTotal, madeOf, madeNumber, leftBy, MakerPromises, MadeOnce, SoundMade}
 
 pub slots-short : (long : ℕ) → long < 16 → 0 ≡ slotsIn long
 unfolding slotsIn
@@ -56,10 +58,6 @@ total-says : (n total : ℕ) → (fitsTotal n total ≡ true) ↔ ((1 ≤ total)
 unfolding fitsTotal
 total-says n total = simp says ((λ h. h), (λ h. h))
 
-rule-says : (rule : List ℕ) → fitsRecord rule ≡ true → length rule ≤ 16
-unfolding fitsRecord
-rule-says rule h = (simp says at h) .1 .0
-
 -- what the tests that passed tell
 pub length-sized : (img : List ℕ) (n : ℕ) (r : Bool) → r ≡ fitsLength (length img) → not r ≡ false → n ≡ slotsIn (length img) → Sized img n
 length-sized img n r e t f =
@@ -70,7 +68,7 @@ pub length-bounds : (long n : ℕ) (r : Bool) → r ≡ fitsLength long → not 
 length-bounds long n r e t f = let h = length-says long .0 (sym e ∙ not-false r t) in rw f (h .0, h .1 .0)
 
 pub rule-short : (rule : List ℕ) (r : Bool) → r ≡ fitsRecord rule → not r ≡ false → length rule ≤ 16
-rule-short rule r e t = rule-says rule (sym e ∙ not-false r t)
+rule-short rule r e t = fits-short rule (sym e ∙ not-false r t)
 
 -- header, root and free records are the whole buffer
 pub fresh-written : (img a b z : List ℕ) (n total : ℕ) (rule : List ℕ) → Sized img n → length rule ≤ 16 → a ≡ splice img 0 (freshHeader n)
@@ -95,38 +93,49 @@ fresh-written img a b z n total rule sized short e f g =
         rw (length-append (freshHeader n ++ recordBytes (rootHead total) [] rule), h, length-replicate {A = ℕ} (64 * (n - 1)) 0)
         (omega (arith, sized .long, sized .least))
 
-pub left-done : (img z : List ℕ) (n total : ℕ) (rule : List ℕ) → n ≡ slotsIn (length img) → z ≡ fresh n total rule → z ≡ leftBy Done img total rule
-left-done img z n total rule e h = h ∙ ap (λ (k : ℕ). fresh k total rule) e
-
 -- a refusal is not `Done`
 rule-done : BadRule ≡ Done → ⊥
-rule-done e = let z : _≡_ {A = ℕ} 4 0 = ap answerOf e in absurd (omega arith)
+rule-done e = let z : _≡_ {A = ℕ} 4 0 = ap madeNumber e in absurd (omega arith)
 
 total-done : BadTotal ≡ Done → ⊥
-total-done e = let z : _≡_ {A = ℕ} 3 0 = ap answerOf e in absurd (omega arith)
+total-done e = let z : _≡_ {A = ℕ} 3 0 = ap madeNumber e in absurd (omega arith)
 
 length-done : BadLength ≡ Done → ⊥
-length-done e = let z : _≡_ {A = ℕ} 2 0 = ap answerOf e in absurd (omega arith)
+length-done e = let z : _≡_ {A = ℕ} 2 0 = ap madeNumber e in absurd (omega arith)
+
+-- an answer that is the one given has 01's number
+promised : (img : List ℕ) (total : ℕ) (rule : List ℕ) (r : Made) (left : List ℕ) → r ≡ madeOf img total rule → left ≡ leftBy r img total rule
+    → MakerPromises img total rule r left
+unfolding madeOf
+promised img total rule r left e f = (e, f, ap madeNumber e ∙ go (fitsLength (length img)) (fitsTotal (slotsIn (length img)) total) (fitsRecord rule))
+  where
+    go : (a b c : Bool) → madeNumber (cond a (cond b (cond c Done BadRule) BadTotal) BadLength) ≡ cond a (cond b (cond c 0 4) 3) 2
+    go true true true = refl
+    go true true false = refl
+    go true false c = refl
+    go false b c = refl
 
 -- the maker's ways out: a, b, c are what its three tests answered, n the slots
 module _ (img : List ℕ) (total : ℕ) (rule : List ℕ) (a : Bool) (e : a ≡ fitsLength (length img)) where
-  pub made-length : not a ≡ true → BadLength ≡ madeOf img total rule
+  pub made-length : not a ≡ true → MakerPromises img total rule BadLength img
   unfolding madeOf
-  made-length t = rw (sym e ∙ not-true a t)
+  made-length t = promised img total rule BadLength img (rw (sym e ∙ not-true a t)) refl
 
   module _ (t : not a ≡ false) (n : ℕ) (f : n ≡ slotsIn (length img)) (b : Bool) (g : b ≡ fitsTotal n total) where
-    pub made-total : not b ≡ true → BadTotal ≡ madeOf img total rule
+    pub made-total : not b ≡ true → MakerPromises img total rule BadTotal img
     unfolding madeOf
-    made-total u = rw (sym e ∙ not-false a t, ← f, sym g ∙ not-true b u)
+    made-total u = promised img total rule BadTotal img (rw (sym e ∙ not-false a t, ← f, sym g ∙ not-true b u)) refl
 
     module _ (u : not b ≡ false) (c : Bool) (h : c ≡ fitsRecord rule) where
-      pub made-rule : not c ≡ true → BadRule ≡ madeOf img total rule
+      pub made-rule : not c ≡ true → MakerPromises img total rule BadRule img
       unfolding madeOf
-      made-rule w = rw (sym e ∙ not-false a t, ← f, sym g ∙ not-false b u, sym h ∙ not-true c w)
+      made-rule w = promised img total rule BadRule img (rw (sym e ∙ not-false a t, ← f, sym g ∙ not-false b u, sym h ∙ not-true c w)) refl
 
-      pub made-done : not c ≡ false → Done ≡ madeOf img total rule
+      pub made-done : not c ≡ false → (left : List ℕ) → left ≡ fresh n total rule → MakerPromises img total rule Done left
       unfolding madeOf
-      made-done w = rw (sym e ∙ not-false a t, ← f, sym g ∙ not-false b u, sym h ∙ not-false c w)
+      made-done w left q =
+          promised img total rule Done left (rw (sym e ∙ not-false a t, ← f, sym g ∙ not-false b u, sym h ∙ not-false c w))
+          (q ∙ ap (λ (k : ℕ). fresh k total rule) f)
 
 -- an image holds the root alone, with that total
 pub record Alone (made : List ℕ) (total : ℕ) : Type 0 where
@@ -148,11 +157,11 @@ module _ (img : List ℕ) (total : ℕ) (rule : List ℕ) where
       go false b c p q r f = absurd (length-done f)
 
   -- what it makes is sound
-  pub sound-made : madeOf img total rule ≡ Done → Sound (leftBy Done img total rule)
-  sound-made = done-tested (Sound (leftBy Done img total rule)) (λ a b c.
+  made-sound : madeOf img total rule ≡ Done → Sound (leftBy Done img total rule)
+  made-sound = done-tested (Sound (leftBy Done img total rule)) (λ a b c.
       let h = length-says (length img) .0 a in
       let t = total-says (slotsIn (length img)) total .0 b in
-      sound-fresh (slotsIn (length img)) total rule (h .0) (h .1 .0) (t .0) (t .1) (rule-says rule c) c)
+      sound-fresh (slotsIn (length img)) total rule (h .0) (h .1 .0) (t .0) (t .1) c)
 
   -- and holds the root alone
   pub alone-made : madeOf img total rule ≡ Done → Alone (leftBy Done img total rule) total
@@ -160,15 +169,16 @@ module _ (img : List ℕ) (total : ℕ) (rule : List ℕ) where
       let n = slotsIn (length img) in
       let h = length-says (length img) .0 a in
       let t = total-says n total .0 b in
-      let k = count n total rule (h .0) (h .1 .0) (t .0) (t .1) (rule-says rule c) c in
+      let k = count n total rule (h .0) (h .1 .0) (t .0) (t .1) (fits-short rule c) c in
       record {
-        root = ap (λ (x : View). x .size) (view-root n total rule (h .0) (h .1 .0) (t .0) (t .1) (rule-says rule c) c);
-        rest = λ s l z. view-rest n total rule (h .0) (h .1 .0) (t .0) (t .1) (rule-says rule c) c s (rw k at l) z;
+        root = ap (λ (x : View). x .size) (view-root n total rule (h .0) (h .1 .0) (t .0) (t .1) (fits-short rule c) c);
+        rest = λ s l z. view-rest n total rule (h .0) (h .1 .0) (t .0) (t .1) (fits-short rule c) c s (rw k at l) z;
       })
 
+pub sound-made : SoundMade
+sound-made = made-sound
+
 -- the maker's statement settles answer and buffer
-pub made-once : (img : List ℕ) (total : ℕ) (rule : List ℕ) (r q : Made) (x y : List ℕ)
-    → (r ≡ madeOf img total rule) × (x ≡ leftBy r img total rule) → (q ≡ madeOf img total rule) × (y ≡ leftBy q img total rule) → (r ≡ q) × (x ≡ y)
-made-once img total rule r q x y a b =
-    let e : r ≡ q = a .0 ∙ sym (b .0) in
-    (e, a .1 ∙ ap (λ (m : Made). leftBy m img total rule) e ∙ sym (b .1))
+pub made-once : MadeOnce
+made-once img total rule = settled (λ p. MakerPromises img total rule (p .0) (p .1)) (madeOf img total rule, leftBy (madeOf img total rule) img total rule)
+    (λ p k. both-are _ _ p (k .0) (k .1 ∙ ap (λ (m : Made). leftBy m img total rule) (k .0)))

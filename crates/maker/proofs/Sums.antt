@@ -1,23 +1,27 @@
 -- The report's numbers: what a sound image says of its current DF.
-use mathlib.Core.Path.{_≡_, sym, _∙_}
+use mathlib.Core.Path.{_≡_, refl, sym, _∙_}
 use mathlib.Core.Bool.{Bool, true, false, not}
 use mathlib.Core.List.{List}
+use mathlib.Core.Logic.{_↔_}
 use Prim.Native.Nat.{ℕ, _+_, _-_, _<_, _≤_}
 use native.Mathlib.Omega.{arith}
 use lib.ListN.{length}
 use borrow.Author.Tests.{not-true, not-false}
 use Rattle.image.specs.Layout.{Sized, recAt, sizeOf, countOf, currentDfOf}
-use Rattle.laws.specs.Walks.{sumBelow}
-use Rattle.sound.specs.Table.{viewAt, chargeOf, charged}
+use Rattle.laws.proofs.Says.{says}
+use Rattle.laws.proofs.Settling.{settled}
+use Rattle.laws.proofs.Counting.{counts}
+use Rattle.sound.specs.Table.{View, File, viewAt, charged}
 use Rattle.sound.specs.Sound.{Sound, soundb}
-use Rattle.sound.specs.Kinship.{totalFor, roomFor, childrenOf, filesBeneath}
+use Rattle.sound.specs.Kinship.{isChild, beneath, totalFor, roomFor, childrenOf, filesBeneath}
 use Rattle.sound.proofs.Says.{sound-says}
+use Rattle.sound.proofs.Beneath.{lies-says}
 use Rattle.kinship.specs.Climb.{Rooted, Paid}
 use Rattle.kinship.proofs.Sound.{sized, rooted, paid}
 use Rattle.soundness.proofs.Passed.{sound-passed}
 use Rattle.maker.specs.declared.Figures.{Figures}
 use Rattle.maker.specs.declared.Told.the-variants.{Numbers, Unsound}
-use Rattle.maker.specs.Reporting.{figuresOf, toldOf}
+use Rattle.maker.specs.Reporting.{figuresOf, toldOf, ReportPromises, ToldOnce, ReportAddsUp}
 
 -- the current DF of a sound image, whose slot d was read
 module _ (img : List ℕ) (n d : ℕ) (sound : Sound img) (e : n ≡ countOf img) (f : d ≡ currentDfOf img) where
@@ -36,9 +40,9 @@ module _ (img : List ℕ) (n d : ℕ) (sound : Sound img) (e : n ≡ countOf img
   figures-are a b c g p q r s = rw (p, q, r, s, e, f)
 
 module _ (img : List ℕ) (r : Bool) (e : r ≡ soundb img) where
-  pub told-unsound : not r ≡ true → Unsound ≡ toldOf img
+  pub told-unsound : not r ≡ true → ReportPromises img Unsound
   unfolding toldOf
-  told-unsound t = rw (sym e ∙ not-true r t)
+  told-unsound t = rw (sym e ∙ not-true r t) (refl, refl, refl)
 
   module _ (t : not r ≡ false) where
     pub is-sound : Sound img
@@ -50,19 +54,27 @@ module _ (img : List ℕ) (r : Bool) (e : r ≡ soundb img) where
     pub is-sized : (n : ℕ) → n ≡ countOf img → Sized img n
     is-sized n q = rw q (sized img is-sound)
 
-    pub told-numbers : (x : Figures) → x ≡ figuresOf img → Numbers x ≡ toldOf img
+    pub told-numbers : (x : Figures) → x ≡ figuresOf img → ReportPromises img (Numbers x)
     unfolding toldOf
-    told-numbers x h = rw (sym e ∙ not-false r t, h)
+    told-numbers x h = rw (sym e ∙ not-false r t, h) (refl, refl, refl)
 
--- a sound image is told by its figures, and its room and what its records charge are its total
-pub report-numbers : (img : List ℕ) → Sound img → toldOf img ≡ Numbers (figuresOf img)
-unfolding toldOf
-report-numbers img sound = rw (sound-says img .1 sound)
+pub told-once : ToldOnce
+told-once img = settled (ReportPromises img) (toldOf img) (λ r k. k .0)
 
-pub report-adds-up : (img : List ℕ) → Sound img
-    → figuresOf img .room + sumBelow (countOf img) (λ s. chargeOf (currentDfOf img) s (viewAt img s)) ≡ sizeOf (recAt img (currentDfOf img))
-unfolding figuresOf roomFor totalFor charged
+-- a sound image is told by its figures, which are the sums and counts over its records
+child-says : (v : ℕ → View) (d s : ℕ) → (isChild v d s ≡ true) ↔ (File v s × (v s .parent ≡ d))
+unfolding isChild
+child-says v d s = simp says ((λ h. h), (λ h. h))
+
+pub report-adds-up : ReportAddsUp
+unfolding toldOf figuresOf roomFor totalFor charged childrenOf filesBeneath
 report-adds-up img sound =
     let c : charged (countOf img) (viewAt img) (currentDfOf img) ≤ sizeOf (recAt img (currentDfOf img)) =
     sound .kin .charges (currentDfOf img) (sound .current .df-low) (sound .current .df-dir) in
-    omega (arith, c)
+    (rw (sound-says img .1 sound),
+    record {
+      total = refl;
+      room = omega (arith, c);
+      children = counts _ (isChild (viewAt img) (currentDfOf img)) (countOf img) (λ s l. child-says (viewAt img) (currentDfOf img) s);
+      beneath = counts _ (beneath (viewAt img) (currentDfOf img)) (countOf img) (lies-says (countOf img) (viewAt img) (sound .kin) (currentDfOf img));
+    })

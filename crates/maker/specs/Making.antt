@@ -1,10 +1,13 @@
 -- The maker (01 "Making and reporting"): its answers in 01's order, and what it leaves of the buffer.
+use mathlib.Core.Path.{_≡_}
 use mathlib.Core.Bool.{Bool, cond, _&&_}
 use mathlib.Core.List.{List}
 use Prim.Native.Nat.{ℕ, _+_, _*_, _-_, _/_}
 use lib.Dec.{eqb, leb}
 use lib.ListN.{length}
+use Rattle.laws.specs.Settled.{Settles}
 use Rattle.rules.specs.Rule.{fitsRecord}
+use Rattle.sound.specs.Sound.{Sound}
 use Rattle.sound.specs.Effects.{fresh}
 use Rattle.maker.specs.declared.Made.{Made}
 use Rattle.maker.specs.declared.Made.the-variants.{Done, BadLength, BadTotal, BadRule}
@@ -31,11 +34,11 @@ madeOf img total rule =
     BadLength
 
 -- 01's number for each answer
-abbrev pub answerOf : Made → ℕ
-answerOf Done = 0
-answerOf BadLength = 2
-answerOf BadTotal = 3
-answerOf BadRule = 4
+abbrev pub madeNumber : Made → ℕ
+madeNumber Done = 0
+madeNumber BadLength = 2
+madeNumber BadTotal = 3
+madeNumber BadRule = 4
 
 -- the whole buffer afterwards: a fresh image, or the buffer as it came
 abbrev pub leftBy : Made → List ℕ → ℕ → List ℕ → List ℕ
@@ -43,3 +46,18 @@ leftBy Done img total rule = fresh (slotsIn (length img)) total rule
 leftBy BadLength img total rule = img
 leftBy BadTotal img total rule = img
 leftBy BadRule img total rule = img
+
+-- WHAT THE MAKER PROMISES: its answer, which is 01's number, and the whole buffer afterwards
+abbrev pub MakerPromises : List ℕ → ℕ → List ℕ → Made → List ℕ → Type 0
+MakerPromises img total rule r left =
+    (r ≡ madeOf img total rule)
+    × (left ≡ leftBy r img total rule)
+    × (madeNumber r ≡ cond (fitsLength (length img)) (cond (fitsTotal (slotsIn (length img)) total) (cond (fitsRecord rule) 0 4) 3) 2)
+
+-- that settles answer and buffer (proofs/Buffers, `made-once`)
+abbrev pub MadeOnce : Type 0
+MadeOnce = (img : List ℕ) (total : ℕ) (rule : List ℕ) → Settles (Made × List ℕ) (λ p. MakerPromises img total rule (p .0) (p .1))
+
+-- and what it makes is sound (`sound-made`)
+abbrev pub SoundMade : Type 0
+SoundMade = (img : List ℕ) (total : ℕ) (rule : List ℕ) → madeOf img total rule ≡ Done → Sound (leftBy Done img total rule)

@@ -1,12 +1,15 @@
 -- The report (01 "Making and reporting"): answer 0 with four numbers, which are the sums over the records, or
 -- answer 1 with zeros.
+use mathlib.Core.Path.{_≡_}
 use mathlib.Core.Bool.{cond}
 use mathlib.Core.List.{List, [], _∷_}
-use Prim.Native.Nat.{ℕ}
-use Rattle.image.specs.Layout.{countOf, currentDfOf}
-use Rattle.sound.specs.Table.{viewAt}
-use Rattle.sound.specs.Sound.{soundb}
-use Rattle.sound.specs.Kinship.{totalFor, roomFor, childrenOf, filesBeneath}
+use Prim.Native.Nat.{ℕ, _+_}
+use Rattle.laws.specs.Settled.{Settles}
+use Rattle.laws.specs.Walks.{sumBelow, Counts}
+use Rattle.image.specs.Layout.{recAt, sizeOf, countOf, currentDfOf}
+use Rattle.sound.specs.Table.{File, viewAt, chargeOf}
+use Rattle.sound.specs.Sound.{Sound, soundb}
+use Rattle.sound.specs.Kinship.{totalFor, roomFor, childrenOf, filesBeneath, StepsUp}
 use Rattle.maker.specs.declared.Figures.{Figures}
 use Rattle.maker.specs.declared.Told.{Told}
 use Rattle.maker.specs.declared.Told.the-variants.{Numbers, Unsound}
@@ -24,10 +27,33 @@ unfoldable pub toldOf : List ℕ → Told
 toldOf img = cond (soundb img) (Numbers (figuresOf img)) Unsound
 
 -- 01's number for each answer, and the numbers that go with it
-abbrev pub answerOf : Told → ℕ
-answerOf (Numbers f) = 0
-answerOf Unsound = 1
+abbrev pub toldNumber : Told → ℕ
+toldNumber (Numbers f) = 0
+toldNumber Unsound = 1
 
 abbrev pub numbersOf : Told → List ℕ
 numbersOf (Numbers f) = f .total ∷ f .room ∷ f .children ∷ f .beneath ∷ []
 numbersOf Unsound = 0 ∷ 0 ∷ 0 ∷ 0 ∷ []
+
+-- WHAT THE REPORT PROMISES: its answer, which is 01's number, and the four numbers
+abbrev pub ReportPromises : List ℕ → Told → Type 0
+ReportPromises img r =
+    (r ≡ toldOf img)
+    × (toldNumber r ≡ cond (soundb img) 0 1)
+    × (numbersOf r ≡ cond (soundb img) (numbersOf (Numbers (figuresOf img))) (0 ∷ 0 ∷ 0 ∷ 0 ∷ []))
+
+-- that settles it (proofs/Sums, `told-once`)
+abbrev pub ToldOnce : Type 0
+ToldOnce = (img : List ℕ) → Settles Told (ReportPromises img)
+
+-- the numbers of a sound image are the sums and counts over its records: the current DF's total; its room, which with what
+-- its direct children cost is the total; its direct children; all files that it stands above
+pub record AddsUp (img : List ℕ) (f : Figures) : Type 0 where
+  pub total : f .total ≡ sizeOf (recAt img (currentDfOf img))
+  pub room : f .room + sumBelow (countOf img) (λ s. chargeOf (currentDfOf img) s (viewAt img s)) ≡ f .total
+  pub children : Counts (λ s. File (viewAt img) s × (viewAt img s .parent ≡ currentDfOf img)) (countOf img) (f .children)
+  pub beneath : Counts (λ s. (viewAt img s .kind ≡ 0 → ⊥) × StepsUp (viewAt img) (currentDfOf img) s) (countOf img) (f .beneath)
+
+-- (proofs/Sums, `report-adds-up`)
+abbrev pub ReportAddsUp : Type 0
+ReportAddsUp = (img : List ℕ) → Sound img → (toldOf img ≡ Numbers (figuresOf img)) × AddsUp img (figuresOf img)

@@ -6,7 +6,7 @@ ghost use lib.ListN.{length};
 ghost use Rattle.laws.specs.Lists.{splice};
 ghost use Rattle.image.specs.Layout.{Sized};
 ghost use Rattle.sound.specs.Effects.{freshHeader, fresh};
-ghost use Rattle.maker.specs.Making.{slotsIn, fitsLength, fitsTotal, madeOf, leftBy};
+ghost use Rattle.maker.specs.Making.{slotsIn, fitsLength, fitsTotal, MakerPromises};
 use crate::Made;
 use image::Head;
 
@@ -84,7 +84,7 @@ fn put_fresh(image: &mut [u8], n: usize, total: u32, rule: &[u8])
 
 // Makes a fresh image of a buffer, with a root of that total and rule.
 pub fn make(image: &mut [u8], total: u32, rule: &[u8]) -> Made
-    ensures { λ r. ⌜ (r ≡ madeOf (now (image .entry)) total (now (rule .entry))) × (now (image .exit) ≡ leftBy r (now (image .entry)) total (now (rule .entry))) ⌝ }
+    ensures { λ r. ⌜ MakerPromises (now (image .entry)) total (now (rule .entry)) r (now (image .exit)) ⌝ }
 {
     let long = image.len();
     if !fits_length(long) {

@@ -2,7 +2,7 @@
 ghost use mathlib.Core.Path.{_≡_};
 ghost use Rattle.image.specs.Layout.{Sized, countOf};
 ghost use Rattle.sound.specs.Sound.{Sound};
-ghost use Rattle.maker.specs.Reporting.{figuresOf, toldOf};
+ghost use Rattle.maker.specs.Reporting.{figuresOf, ReportPromises};
 use crate::Figures;
 use crate::Told;
 
@@ -27,7 +27,7 @@ fn figures(image: &[u8], n: usize) -> Figures
 
 // Reports on any bytes: the numbers of a sound image, or that it is not one.
 pub fn report(image: &[u8]) -> Told
-    ensures { λ r. ⌜ r ≡ toldOf (now (image .entry)) ⌝ }
+    ensures { λ r. ⌜ ReportPromises (now (image .entry)) r ⌝ }
 {
     if !soundness::sound(image) {
         return Told::Unsound;

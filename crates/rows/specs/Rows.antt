@@ -1,28 +1,18 @@
 -- Both sides of each line (01): what the definitions give, beside what 01 says; one table, one theorem.
--- The sets of the caller are any sets, so that "exactly" and "never" are said of all of them.
+-- The sets of the caller are any sets, so that "exactly" and "never" are said of all of them; W2 and W3 are also said
+-- with numbers, so that they do not rest on our own reading of a bit. W7 and W10 are whole calls on cards that can exist.
 use Prim.Native.Nat.{ℕ}
-use mathlib.Core.Path.{_≡_, refl}
-use mathlib.Core.Bool.{Bool, true, false, cond, _&&_, _||_}
+use mathlib.Core.Path.{_≡_}
+use mathlib.Core.Bool.{Bool, true, false, _&&_, _||_}
 use mathlib.Core.List.{List, [], _∷_}
-use lib.Dec.{eqb}
-use Rattle.laws.specs.Walks.{ifSo, sumBelow}
-use Rattle.laws.specs.Tests.{either}
+use Rattle.laws.specs.Walks.{ifSo}
 use Rattle.rules.specs.declared.Sets.{Sets}
 use Rattle.rules.specs.declared.Right.the-variants.{CreateDf, CreateEf}
-use Rattle.rules.specs.Descriptor.{classOf, structureOf, hasRecords, df, ef, neither}
-use Rattle.rules.specs.Life.{lifeOf, canActivate}
-use Rattle.rules.specs.Value.{goodLength, wholeRecords}
-use Rattle.rules.specs.Condition.{bit, holdsOf, met, fulfilled, allOf, oneOf}
-use Rattle.rules.specs.Group.{slotsOf, scAt, nextOf, someGroup}
-use Rattle.rules.specs.Rule.{grantedOf, allowsOf, holdsAt}
-use Rattle.sound.specs.Table.{View, charged, chargeOf}
-use Rattle.sound.specs.Kinship.{roomFor, totalFor, fitsRoom}
-use Rattle.verdict.specs.declared.Verdict.{Verdict}
-use Rattle.verdict.specs.declared.Verdict.the-variants.{Refuse, Select, Create, Delete, Live}
-use Rattle.verdict.specs.Words.{notEnoughMemory, conditionsNotSatisfied}
-use Rattle.verdict.specs.Applied.{wordOf}
-use Rattle.deciding.specs.Steps.{judged, step}
-use Rattle.commands.specs.Commands.{activate}
+use Rattle.rules.specs.Descriptor.{classOf, structureOf, df, ef, neither}
+use Rattle.rules.specs.Value.{goodLength}
+use Rattle.rules.specs.Condition.{bit, holdsOf}
+use Rattle.rules.specs.Rule.{grantedOf}
+use Rattle.rows.specs.Calls.{word, left, room, life, card, createEf, activateFile, rootIn, efIn}
 
 -- a row: the number of its line, what the definitions give, what 01 says
 pub record Row : Type 0 where
@@ -36,30 +26,15 @@ number w a b = record { line = w; gives = a; says = b }
 abbrev pub test : ℕ → Bool → Bool → Row
 test w a b = number w (ifSo a 1) (ifSo b 1)
 
+-- the sets of secure messaging, external and user authentication
+abbrev pub sets : ℕ → ℕ → ℕ → Sets
+sets m e u = record { messaging = m; external = e; user = u }
+
 abbrev pub empty : Sets
-empty = record { messaging = 0; external = 0; user = 0 }
+empty = sets 0x0000 0x0000 0x0000
 
 abbrev pub full : Sets
-full = record { messaging = 0xFFFF; external = 0xFFFF; user = 0xFFFF }
-
--- a card of two slots: a root of some total, and a child EF of some size in the other
-abbrev pub rootAlone : ℕ → ℕ → View
-rootAlone total s = record { kind = cond (eqb s 0) df 0; identifier = 0x3F00; parent = 0; level = 0; size = total; name = [] }
-
-abbrev pub withChild : ℕ → (ℕ → View) → ℕ → View
-withChild size v s =
-    cond (eqb s 1) (record { kind = ef; identifier = 0x6F07; parent = 0; level = 1; size = size; name = [] }) (v s)
-
--- the word that one step gives; the life cycle that an effect writes
-abbrev pub wordOfStep : Bool → ℕ → ℕ
-wordOfStep holds word = wordOf (judged (step holds word ∷ []) (Live 0 0))
-
-abbrev pub lifeIn : Verdict → ℕ
-lifeIn (Live s life) = life
-lifeIn (Refuse w) = 0
-lifeIn (Select d e w) = 0
-lifeIn (Create s h a b from to) = 0
-lifeIn (Delete s) = 0
+full = sets 0xFFFF 0xFFFF 0xFFFF
 
 -- the structures of W8
 abbrev pub transparent : ℕ
@@ -78,9 +53,17 @@ rows x =
     ∷ test 1 (holdsOf 0xFF full) false
     -- W2: SC 11 holds exactly with user bit 1
     ∷ test 2 (holdsOf 0x11 x) (bit (x .user) 1)
+    ∷ test 2 (holdsOf 0x11 (sets 0x0000 0x0000 0x0002)) true
+    ∷ test 2 (holdsOf 0x11 (sets 0xFFFF 0xFFFF 0xFFFD)) false
     -- W3: SC B2 needs external and user bit 2, SC 32 either
     ∷ test 3 (holdsOf 0xB2 x) (bit (x .external) 2 && bit (x .user) 2)
+    ∷ test 3 (holdsOf 0xB2 (sets 0x0000 0x0004 0x0004)) true
+    ∷ test 3 (holdsOf 0xB2 (sets 0xFFFF 0xFFFB 0xFFFF)) false
+    ∷ test 3 (holdsOf 0xB2 (sets 0xFFFF 0xFFFF 0xFFFB)) false
     ∷ test 3 (holdsOf 0x32 x) (bit (x .external) 2 || bit (x .user) 2)
+    ∷ test 3 (holdsOf 0x32 (sets 0x0000 0x0004 0x0000)) true
+    ∷ test 3 (holdsOf 0x32 (sets 0x0000 0x0000 0x0004)) true
+    ∷ test 3 (holdsOf 0x32 (sets 0xFFFF 0xFFFB 0xFFFB)) false
     -- W4: SC 80 and 1F never hold
     ∷ test 4 (holdsOf 0x80 x) false
     ∷ test 4 (holdsOf 0x1F x) false
@@ -90,10 +73,10 @@ rows x =
     -- W6: 02 FF 02 00: EF creation yes
     ∷ test 6 (grantedOf (0x02 ∷ 0xFF ∷ 0x02 ∷ 0x00 ∷ []) CreateEf x) true
     -- W7: room 256: size 192 fits and leaves 0, 193 gives 6A84
-    ∷ number 7 (roomFor 2 (rootAlone 256) 0) 256
-    ∷ test 7 (fitsRoom 2 (rootAlone 256) 0 192) true
-    ∷ number 7 (roomFor 2 (withChild 192 (rootAlone 256)) 0) 0
-    ∷ number 7 (wordOfStep (fitsRoom 2 (rootAlone 256) 0 193) notEnoughMemory) 0x6A84
+    ∷ number 7 (room (card 5 256)) 256
+    ∷ number 7 (word x (card 5 256) (createEf 192)) 0x9000
+    ∷ number 7 (room (left x (card 5 256) (createEf 192))) 0
+    ∷ number 7 (word x (card 5 256) (createEf 193)) 0x6A84
     -- W8: 78 DF, 41 transparent, 42 linear, 46 cyclic, 79 and 21 neither
     ∷ number 8 (classOf 0x78) df
     ∷ number 8 (classOf 0x41) ef ∷ number 8 (structureOf 0x41) transparent
@@ -107,9 +90,12 @@ rows x =
     ∷ test 9 (goodLength 0x42 1 254) true
     ∷ test 9 (goodLength 0x42 1 255) false
     -- W10: 04 activates to 05, 0C answers 6985
-    ∷ test 10 (canActivate 0x04) true
-    ∷ number 10 (lifeIn (activate [] 0 x .effect)) 0x05
-    ∷ number 10 (wordOfStep (canActivate 0x0C) conditionsNotSatisfied) 0x6985
+    ∷ number 10 (word x (rootIn 0x04) activateFile) 0x9000
+    ∷ number 10 (life (left x (rootIn 0x04) activateFile) 0) 0x05
+    ∷ number 10 (word x (rootIn 0x0C) activateFile) 0x6985
+    ∷ number 10 (word x (efIn x 0x04) activateFile) 0x9000
+    ∷ number 10 (life (left x (efIn x 0x04) activateFile) 1) 0x05
+    ∷ number 10 (word x (efIn x 0x0C) activateFile) 0x6985
     ∷ []
 
 abbrev pub allGive : List Row → List ℕ
@@ -120,7 +106,6 @@ abbrev pub allSay : List Row → List ℕ
 allSay [] = []
 allSay (r ∷ rs) = r .says ∷ allSay rs
 
--- in every row the definitions give what 01 says
-pub both-sides : (x : Sets) → allGive (rows x) ≡ allSay (rows x)
-unfolding holdsOf met fulfilled allOf oneOf grantedOf allowsOf holdsAt slotsOf scAt nextOf someGroup classOf roomFor totalFor charged chargeOf sumBelow fitsRoom goodLength wholeRecords either hasRecords canActivate lifeOf
-both-sides x = refl
+-- in every row the definitions give what 01 says (proofs/Computed, `both-sides`)
+abbrev pub BothSides : Type 0
+BothSides = (x : Sets) → allGive (rows x) ≡ allSay (rows x)

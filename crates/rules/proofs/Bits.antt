@@ -5,7 +5,7 @@ use mathlib.Core.Bool.{true}
 use mathlib.Core.List.{List}
 use Prim.Native.Nat.{ℕ, _+_, _*_, _/_, _%_, _<_}
 use lib.Bits.{bitAnd}
-use lib.ListN.{length}
+use lib.ListN.{length, getD}
 use lib.Dec.{T, eqb}
 use borrow.Author.Tests.{eqb-true}
 use Rattle.laws.specs.Walks.{allBelow}
@@ -32,6 +32,10 @@ count-bits am h =
 -- the two tables
 pub classes-by : (xs : List ℕ) → length xs ≡ 256 → T (everyEntry (entryOf classOf) 0 xs) → Classes xs
 classes-by xs e t = record { right = λ d l. entry-is classOf 256 d xs e t l }
+
+-- the entry of a byte
+pub class-in : (xs : List ℕ) (d : ℕ) → d < 256 → Classes xs → getD xs d 0 ≡ classOf d
+class-in xs d l table = table .right d l
 
 pub lengths-by : (xs : List ℕ) → length xs ≡ 256 → T (everyEntry (entryOf groupLength) 0 xs) → Lengths xs
 lengths-by xs e t = record { right = λ am l. entry-is groupLength 256 am xs e t l }

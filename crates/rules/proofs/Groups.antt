@@ -126,3 +126,8 @@ module _ {rule : List ℕ} {k : ℕ} {x : Sets} {at : ℕ} (inv : Allowing rule 
     allowing-next {to} t e = record { left = left-next (inv .left) to h (holds-is rule k x at el er t) e }
 
 pub ruleset allowing = (allowing-start, allowing-end, allowing-yes, allowing-next)
+
+-- a rule that fits a record has at most 16 bytes
+pub fits-short : (rule : List ℕ) → fitsRecord rule ≡ true → length rule ≤ 16
+unfolding fitsRecord
+fits-short rule e = leb-true (length rule) 16 ((simp and-says at e) .1 .0)

@@ -23,19 +23,21 @@ const CLASS: [u8; 256] = [
     0, 0, 0, 0, 0, 0, 0, 0, 0, 0, 0, 0, 0, 0, 0, 0, // F0
 ];
 
-// The class of a byte.
-pub fn class(d: u8) -> u8
-    ensures { λ r. ⌜ r ≡ classOf d ⌝ }
-{
-    let i = d as usize;
-    CLASS[i]
-}
-
-// The table, for a caller that asks often and lends it: it is built again at each use.
+// The table, right at each of its entries by one test; for a caller that asks often and lends it, since it is built again
+// at each use.
 pub fn classes() -> [u8; 256]
     ensures { λ r. ⌜ Classes r ⌝ }
 {
     CLASS
+}
+
+// The class of a byte.
+pub fn class(d: u8) -> u8
+    ensures { λ r. ⌜ r ≡ classOf d ⌝ }
+{
+    let table = classes();
+    let i = d as usize;
+    table[i]
 }
 
 // Whether the structure is linear fixed or cyclic.

@@ -7,16 +7,9 @@ use native.Mathlib.Omega.{arith}
 use Rattle.laws.proofs.Says.{says}
 use Rattle.sound.specs.Table.{View, up}
 use Rattle.sound.specs.Kin.{Kin}
-use Rattle.sound.specs.Kinship.{beneath}
+use Rattle.sound.specs.Kinship.{beneath, StepsUp}
 use Rattle.sound.proofs.Says.{AtOrBeneath, beneath-says}
 use Rattle.sound.proofs.Climbing.{reached, up-none}
-
--- so many steps up from s, one or more, stands d
-pub record StepsUp (v : ℕ → View) (d s : ℕ) : Type 0 where
-  pub steps : ℕ
-  pub some : 0 < steps
-  pub most : steps ≤ v s .level
-  pub over : up v steps s ≡ d
 
 strictly-says : (v : ℕ → View) (d s : ℕ) → (beneath v d s ≡ true) ↔ (AtOrBeneath v d s × (s ≡ d → ⊥))
 unfolding beneath
@@ -44,3 +37,10 @@ module _ (n : ℕ) (v : ℕ → View) (kin : Kin n v) (d s : ℕ) (low : s < n) 
           more : (k : ℕ) → up v k s ≡ d → 0 < k
           more zero e = absurd (z (sym (up-none v s) ∙ e))
           more (suc k) e = omega arith
+
+-- a used record of which d stands above
+pub lies-says : (n : ℕ) (v : ℕ → View) → Kin n v → (d s : ℕ) → s < n → (beneath v d s ≡ true) ↔ ((v s .kind ≡ 0 → ⊥) × StepsUp v d s)
+lies-says n v kin d s low = (
+  (λ h. let used = strictly-says v d s .0 h .0 .used in (used, steps-by n v kin d s low used h)),
+  (λ h. beneath-by n v kin d s low (h .0) (h .1)),
+)

@@ -11,11 +11,7 @@ use Rattle.laws.proofs.Walks.{split-lt}
 use Rattle.image.specs.Layout.{Within, Sized, recAt, freeBytes, clearRecord}
 use Rattle.image.proofs.Records.{record-same, record-other}
 use Rattle.image.proofs.Headers.{SameHeader, header-put}
-use Rattle.sound.specs.Effects.{clearBelow}
-
--- the record is cleared where b holds
-unfoldable pub clearIf : Bool → List ℕ → ℕ → List ℕ
-clearIf b img s = cond b (clearRecord img s) img
+use Rattle.sound.specs.Effects.{clearIf, clearBelow}
 
 pub clear-none : (p : ℕ → Bool) (img : List ℕ) → clearBelow 0 p img ≡ img
 unfolding clearBelow

@@ -16,6 +16,7 @@ use Rattle.rules.specs.Descriptor.{classOf, hasRecords}
 use Rattle.rules.specs.Life.{lifeOf, knownLife}
 use Rattle.rules.specs.Value.{goodIdentifier, goodLength}
 use Rattle.rules.specs.Rule.{fitsRecord}
+use Rattle.rules.proofs.Groups.{fits-short}
 use Rattle.image.specs.Layout.{base, recAt, recordBytes, freeBytes, countOf, versionOf, currentDfOf, currentEfOf, none}
 use Rattle.image.proofs.Made.{length-made}
 use Rattle.image.proofs.Places.{byte-in, length-record}
@@ -27,6 +28,7 @@ use Rattle.sound.specs.Effects.{Good, rootHead, freshHeader, fresh}
 use Rattle.sound.proofs.Kept.{gone}
 use Rattle.sound.proofs.Charges.{charge-free, charge-stranger}
 use Rattle.sound.proofs.Good.{viewMade, view-made, own-made, view-free, own-free}
+use Rattle.sound.specs.Theorems.{SoundFresh}
 
 -- a table whose only file is the root
 pub kin-alone : (n : ℕ) (v : ℕ → View) → v 0 .kind ≡ 1 → v 0 .identifier ≡ 0x3F00 → v 0 .parent ≡ 0 → v 0 .level ≡ 0 → v 0 .size ≤ 64 * (n - 1) → v 0 .name ≡ []
@@ -156,10 +158,13 @@ module _ (n total : ℕ) (rule : List ℕ) (least : 2 ≤ n) (most : n ≤ 1023)
   unfolding fresh freshHeader currentEfOf u16At
   ef = refl
 
-  pub sound-fresh : Sound (fresh n total rule)
-  sound-fresh = record {
+  fresh-sound : Sound (fresh n total rule)
+  fresh-sound = record {
     header = header;
     records = rw count (λ s l. own s l (same-or s 0));
     kin = rw count kin;
     current = rw (count, df, ef) (record { df-low = omega arith; df-dir = ap (λ (x : View). x .kind) view-root; ef-low = λ z. absurd (z refl); ef-file = λ z. absurd (z refl); ef-child = λ z. absurd (z refl) });
   }
+
+pub sound-fresh : SoundFresh
+sound-fresh n total rule least most some within formed = fresh-sound n total rule least most some within (fits-short rule formed) formed

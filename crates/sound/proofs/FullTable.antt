@@ -21,6 +21,7 @@ use Rattle.sound.specs.Sound.{Sound}
 use Rattle.sound.specs.Kinship.{freeSlot, totalFor, roomFor}
 use Rattle.sound.proofs.Climbing.{Reached, reached, not-root}
 use Rattle.sound.proofs.Charges.{charge-child, charged-none}
+use Rattle.sound.specs.Theorems.{SlotExists}
 
 -- what a file costs whoever pays for it; the root costs nobody
 weight : (ℕ → View) → ℕ → ℕ
@@ -112,7 +113,6 @@ module _ (n : ℕ) (v : ℕ → View) (kin : Kin n v) (some : 0 < n) where
   full-table d size low dir room e = free-found d low dir (omega arith) e
 
 -- in a sound image, if a directory's room is at least a size and 64, a free slot exists
-pub slot-exists : (img : List ℕ) (d size : ℕ) → Sound img → d < countOf img → viewAt img d .kind ≡ 1
-    → size + 64 ≤ roomFor (countOf img) (viewAt img) d → freeSlot (countOf img) (viewAt img) ≡ Nothing → ⊥
+pub slot-exists : SlotExists
 slot-exists img d size sound low dir room e =
     full-table (countOf img) (viewAt img) (sound .kin) (omega (arith, sound .header .least)) d size low dir room e

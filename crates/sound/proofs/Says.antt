@@ -11,6 +11,7 @@ use Rattle.sound.specs.Own.{zerosb, Padded, paddedb, Used, usedb, marked
 use Rattle.sound.specs.Kin.{Kin, kinb, rootb, placedb, placedAt, siblingsb, siblingsAt, apartAt, aboveb, aboveAt, otherUp, namesb, namesAt, sameName, chargesb, chargesAt}
 use Rattle.sound.specs.Sound.{Header, headerb, Current, currentb, recordsb, Sound, soundb}
 use Rattle.sound.specs.Kinship.{atOrBeneath, isChild, isChildNamed}
+use Rattle.sound.specs.Theorems.{SoundSays}
 
 pub padded-says : (r : List ℕ) (n : ℕ) → (paddedb r n ≡ true) ↔ Padded r n
 unfolding paddedb zerosb
@@ -90,7 +91,7 @@ current-says n v d e = simp says (
 )
 
 -- an image is sound by the test exactly when each sentence holds
-pub sound-says : (img : List ℕ) → (soundb img ≡ true) ↔ Sound img
+pub sound-says : SoundSays
 unfolding soundb recordsb
 sound-says img = simp (says, header-says, own-says, kin-says, current-says) (
   (λ h. record { header = h .0; records = h .1 .0; kin = h .1 .1 .0; current = h .1 .1 .1 }),

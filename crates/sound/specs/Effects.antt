@@ -47,10 +47,13 @@ pub record Creates (img : List ℕ) (s : ℕ) (h : Head) (name rule : List ℕ) 
   pub room : fitsRoom (countOf img) (viewAt img) (currentDfOf img) (h .size) ≡ true
   pub slot : freeSlot (countOf img) (viewAt img) ≡ At s
 
--- a free record in each slot below n of which p holds
+-- a free record in slot s, where the test holds; in each slot below n of which p holds
+unfoldable pub clearIf : Bool → List ℕ → ℕ → List ℕ
+clearIf b img s = cond b (clearRecord img s) img
+
 unfoldable pub clearBelow : ℕ → (ℕ → Bool) → List ℕ → List ℕ
 clearBelow zero p img = img
-clearBelow (suc k) p img = cond (p k) (clearRecord (clearBelow k p img) k) (clearBelow k p img)
+clearBelow (suc k) p img = clearIf (p k) (clearBelow k p img) k
 
 -- DELETE: d and all beneath it, as the image had them, become zero records; a deleted current EF becomes none
 unfoldable pub deleted : List ℕ → ℕ → List ℕ

@@ -3,7 +3,7 @@
 use mathlib.Core.Path.{_≡_}
 use mathlib.Core.List.{List, []}
 use mathlib.Core.Bool.{Bool, not, _&&_}
-use Prim.Native.Nat.{ℕ, suc, _+_, _-_}
+use Prim.Native.Nat.{ℕ, suc, _+_, _-_, _<_, _≤_}
 use lib.Dec.{eqb, leb}
 use Rattle.laws.specs.declared.Found.{Found}
 use Rattle.laws.specs.Walks.{allBelow, anyBelow, firstBelow, countBelow}
@@ -36,6 +36,13 @@ atOrBeneath v d s = not (eqb (v s .kind) 0) && (leb (v d .level) (v s .level) &&
 -- slot s holds a file beneath d
 unfoldable pub beneath : (ℕ → View) → ℕ → ℕ → Bool
 beneath v d s = atOrBeneath v d s && not (eqb s d)
+
+-- .. which is to say: so many steps up from s, one or more, stands d
+pub record StepsUp (v : ℕ → View) (d s : ℕ) : Type 0 where
+  pub steps : ℕ
+  pub some : 0 < steps
+  pub most : steps ≤ v s .level
+  pub over : up v steps s ≡ d
 
 -- how many direct children d has; how many files lie beneath it
 unfoldable pub childrenOf : ℕ → (ℕ → View) → ℕ → ℕ

@@ -4,3 +4,4 @@ pub mod Kin
 pub mod Sound
 pub mod Kinship
 pub mod Effects
+pub mod Theorems

@@ -1,5 +1,5 @@
 -- `erase::clear_if` clears the record or leaves the image.
-use Rattle.sound.proofs.Cleared.{clearIf}
+use Rattle.sound.specs.Effects.{clearIf}
 use borrow.Author.Needs.{needs}
 use Rattle.effect.proofs.erase.clear_if.Statement.{statement}
 use Rattle.effect.proofs.erase.clear_if.Tie as tie

@@ -1,0 +1,49 @@
+-- Whole calls on cards that can exist, for the rows of 01 that are about commands: what is sent, the word that comes, and
+-- what the image holds afterwards.
+use Prim.Native.Nat.{ℕ}
+use mathlib.Core.List.{List, [], _∷_}
+use Rattle.rules.specs.declared.Sets.{Sets}
+use Rattle.image.specs.Layout.{recAt, lifeCycleOf, countOf, currentDfOf, setLife}
+use Rattle.sound.specs.Table.{viewAt}
+use Rattle.sound.specs.Kinship.{roomFor}
+use Rattle.sound.specs.Effects.{fresh}
+use Rattle.verdict.specs.declared.State.{State}
+use Rattle.card.specs.Command.{answerWord, replyOf, imageOf}
+
+-- no other channel is open
+abbrev pub with : Sets → State
+with x = record { sets = x; channels = 0 }
+
+-- the word that a command gets, and the image that it leaves
+abbrev pub word : Sets → List ℕ → List ℕ → ℕ
+word x img c = answerWord (replyOf img c (with x))
+
+abbrev pub left : Sets → List ℕ → List ℕ → List ℕ
+left x img c = imageOf img c (with x)
+
+-- the room of the current directory, and the life cycle of the file in slot s
+abbrev pub room : List ℕ → ℕ
+room img = roomFor (countOf img) (viewAt img) (currentDfOf img)
+
+abbrev pub life : List ℕ → ℕ → ℕ
+life img s = lifeCycleOf (recAt img s)
+
+-- a fresh card of n slots whose root allows everything
+abbrev pub card : ℕ → ℕ → List ℕ
+card n total = fresh n total (0x7F ∷ 0 ∷ 0 ∷ 0 ∷ 0 ∷ 0 ∷ 0 ∷ 0 ∷ [])
+
+-- CREATE FILE of the transparent EF 6F07 with a size under 256, which anybody may activate
+abbrev pub createEf : ℕ → List ℕ
+createEf size =
+    0x00 ∷ 0xE0 ∷ 0x00 ∷ 0x00 ∷ 0x15 ∷ 0x62 ∷ 0x13 ∷ 0x82 ∷ 0x02 ∷ 0x41 ∷ 0x21 ∷ 0x83 ∷ 0x02 ∷ 0x6F ∷ 0x07 ∷ 0x8A ∷ 0x01 ∷ 0x05
+    ∷ 0x8C ∷ 0x02 ∷ 0x10 ∷ 0x00 ∷ 0x80 ∷ 0x02 ∷ 0x00 ∷ size ∷ []
+
+abbrev pub activateFile : List ℕ
+activateFile = 0x00 ∷ 0x44 ∷ 0x00 ∷ 0x00 ∷ []
+
+-- a card of two slots whose one file, the root, has a life cycle; one of three whose EF, in slot 1, has it
+abbrev pub rootIn : ℕ → List ℕ
+rootIn l = setLife (card 2 64) 0 l
+
+abbrev pub efIn : Sets → ℕ → List ℕ
+efIn x l = setLife (left x (card 3 128) (createEf 64)) 1 l

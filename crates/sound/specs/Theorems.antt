@@ -1,0 +1,29 @@
+-- What is proved of sound images and worth reading; each is proved under the same name in small letters (proofs/Says,
+-- proofs/Fresh, proofs/FullTable).
+use mathlib.Core.Path.{_≡_}
+use mathlib.Core.Bool.{true}
+use mathlib.Core.List.{List}
+use mathlib.Core.Logic.{_↔_}
+use Prim.Native.Nat.{ℕ, _+_, _*_, _-_, _<_, _≤_}
+use Rattle.laws.specs.declared.Found.the-variants.{Nothing}
+use Rattle.rules.specs.Descriptor.{df}
+use Rattle.rules.specs.Rule.{fitsRecord}
+use Rattle.image.specs.Layout.{countOf}
+use Rattle.sound.specs.Table.{viewAt}
+use Rattle.sound.specs.Sound.{Sound, soundb}
+use Rattle.sound.specs.Kinship.{freeSlot, roomFor}
+use Rattle.sound.specs.Effects.{fresh}
+
+-- the test that is computed for any bytes is true exactly where every sentence of 01 "Image" holds
+abbrev pub SoundSays : Type 0
+SoundSays = (img : List ℕ) → (soundb img ≡ true) ↔ Sound img
+
+-- a fresh card is sound: N 2 to 1,023, a total of 1 to 64(N-1), a rule of 1 to 16 bytes that is well formed
+abbrev pub SoundFresh : Type 0
+SoundFresh = (n total : ℕ) (rule : List ℕ) → 2 ≤ n → n ≤ 1023 → 1 ≤ total → total ≤ 64 * (n - 1) → fitsRecord rule ≡ true
+    → Sound (fresh n total rule)
+
+-- a full table never refuses: where some directory has room for a size and 64, a record is free
+abbrev pub SlotExists : Type 0
+SlotExists = (img : List ℕ) (d size : ℕ) → Sound img → d < countOf img → viewAt img d .kind ≡ df
+    → size + 64 ≤ roomFor (countOf img) (viewAt img) d → freeSlot (countOf img) (viewAt img) ≡ Nothing → ⊥
