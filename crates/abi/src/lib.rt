@@ -1,12 +1,7 @@
 // The calls as C sees them (include/hullplaiter.h): each wraps one public call and gives 01's numbers for its answer. It
 // may use every crate below. No call asks anything of its caller, and none keeps anything from call to call.
-ghost use mathlib.Core.Path.{_≡_};
-ghost use mathlib.Core.Bool.{cond};
-ghost use Rattle.sound.specs.Sound.{soundb};
-ghost use Rattle.maker.specs.Making.{answerOf as madeNumber, madeOf, leftBy};
-ghost use Rattle.maker.specs.Reporting.{answerOf as toldNumber, numbersOf, toldOf};
-ghost use Rattle.card.specs.Command.{replyOf, imageOf};
-ghost use Rattle.abi.specs.Numbers.{packed, stateOf};
+ghost use Rattle.abi.specs.Numbers.{stateOf};
+ghost use Rattle.abi.specs.Promises.{HullMake, HullCommand, HullReport, HullSound};
 use card::Reply;
 use maker::Made;
 use maker::Told;
@@ -16,7 +11,7 @@ use verdict::State;
 // Makes a fresh image of a buffer: 0, or 2, 3, 4 with the buffer as it came.
 #[no_mangle]
 pub extern "C" fn hull_make(image: &mut [u8], total: u32, rule: &[u8]) -> u32
-    ensures { λ r. ⌜ (r ≡ madeNumber (madeOf (now (image .entry)) total (now (rule .entry)))) × (now (image .exit) ≡ leftBy (madeOf (now (image .entry)) total (now (rule .entry))) (now (image .entry)) total (now (rule .entry))) ⌝ }
+    ensures { λ r. ⌜ HullMake (now (image .entry)) total (now (rule .entry)) r (now (image .exit)) ⌝ }
 {
     let made = maker::fresh::make(image, total, rule);
     match made {
@@ -37,7 +32,7 @@ pub extern "C" fn hull_command(
     user: u16,
     channels: u8,
 ) -> u32
-    ensures { λ r. ⌜ (r ≡ packed (replyOf (now (image .entry)) (now (command .entry)) (stateOf messaging external user channels))) × (now (image .exit) ≡ imageOf (now (image .entry)) (now (command .entry)) (stateOf messaging external user channels)) ⌝ }
+    ensures { λ r. ⌜ HullCommand (now (image .entry)) (now (command .entry)) (stateOf messaging external user channels) r (now (image .exit)) ⌝ }
 {
     let sets = Sets {
         messaging: messaging,
@@ -58,7 +53,7 @@ pub extern "C" fn hull_command(
 // The report: its answer, and its four numbers in the lent array.
 #[no_mangle]
 pub extern "C" fn hull_report(image: &[u8], numbers: &mut [u32; 4]) -> u32
-    ensures { λ r. ⌜ (r ≡ toldNumber (toldOf (now (image .entry)))) × (now (numbers .exit) ≡ numbersOf (toldOf (now (image .entry)))) ⌝ }
+    ensures { λ r. ⌜ HullReport (now (image .entry)) r (now (numbers .exit)) ⌝ }
 {
     let told = maker::report::report(image);
     match told {
@@ -76,7 +71,7 @@ pub extern "C" fn hull_report(image: &[u8], numbers: &mut [u32; 4]) -> u32
 // Whether an image is sound: 1 or 0.
 #[no_mangle]
 pub extern "C" fn hull_sound(image: &[u8]) -> u32
-    ensures { λ r. ⌜ r ≡ cond (soundb (now (image .entry))) 1 0 ⌝ }
+    ensures { λ r. ⌜ HullSound (now (image .entry)) r ⌝ }
 {
     if soundness::sound(image) {
         return 1;

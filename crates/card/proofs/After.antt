@@ -6,17 +6,18 @@ use mathlib.Core.Logic.{_⊎_, ⊎-elim}
 use Prim.Native.Nat.{ℕ, _+_, _-_, _<_, _≤_}
 use native.Mathlib.Omega.{arith}
 use lib.Dec.{eqb}
-use lib.ListN.{length}
+use lib.ListN.{length, getD}
 use borrow.Author.Tests.{eq-eqb, ne-eqb}
 use Rattle.laws.specs.Lists.{part}
 use Rattle.laws.proofs.Says.{same-or}
+use Rattle.laws.proofs.Splices.{getD-part}
 use Rattle.rules.specs.Descriptor.{df}
 use Rattle.image.specs.declared.Head.{Head}
 use Rattle.image.specs.Layout.{base, Within, Sized, recAt, recordBytes, putRecord, setLife, setCurrent, countOf, currentDfOf, currentEfOf, none}
 use Rattle.image.proofs.Records.{record-same, record-other}
 use Rattle.image.proofs.Made.{length-made}
 use Rattle.image.proofs.Lives.{life-same, life-other}
-use Rattle.image.proofs.Headers.{SameFront, SameHeader, same-front, same-df, same-ef, front-refl, front-trans, header-put, header-life, front-current, df-current, ef-current, record-current}
+use Rattle.image.proofs.Headers.{SameFront, SameHeader, same-front, same-df, same-ef, front-refl, front-trans, header-put, header-life, front-current, current-byte, df-current, ef-current, record-current}
 use Rattle.sound.specs.Table.{viewAt}
 use Rattle.sound.specs.Sound.{Sound}
 use Rattle.sound.specs.Kinship.{atOrBeneath, freeSlot}
@@ -26,7 +27,7 @@ use Rattle.sound.proofs.Cleared.{header-clear, record-clear}
 use Rattle.verdict.specs.declared.Verdict.{Verdict}
 use Rattle.verdict.specs.declared.Verdict.the-variants.{Refuse, Select, Create, Delete, Live}
 use Rattle.verdict.specs.Applied.{sentData, appliedOf}
-use Rattle.card.specs.After.{recordAfter, dfAfter, efAfter}
+use Rattle.card.specs.After.{recordAfter, currentAfter, dfAfter, efAfter}
 use Rattle.card.proofs.Tells.{Tells}
 
 module _ (img c : List ℕ) (sound : Sound img) where
@@ -99,6 +100,15 @@ module _ (img c : List ℕ) (sound : Sound img) where
   front-after (Create s h a b from to) k = created-front s h _ _ (k .0 .low) (k .1)
   front-after (Delete s) k = deleted-front s
   front-after (Live s life) k = same-front img _ (header-life img s life (within s (k .0 .low)))
+
+  -- the four bytes that tell what is current
+  pub current-after : (v : Verdict) → Tells img c v → (k : ℕ) → k < 4 → getD (appliedOf img c v) (7 + k) 0 ≡ getD (currentAfter img v) k 0
+  unfolding created deleted
+  current-after (Refuse w) t k l = sym (getD-part img 7 4 k l)
+  current-after (Select d e w) t k l = current-byte img d e header-long k l
+  current-after (Create s h a b from to) t k l = current-byte _ _ _ (put-long s h _ _ (t .0 .low) (t .1)) k l
+  current-after (Delete s) t k l = current-byte _ _ _ (cleared-long s) k l
+  current-after (Live s life) t k l = header-life img s life (within s (t .0 .low)) .bytes (7 + k) (omega arith) ∙ sym (getD-part img 7 4 k l)
 
   -- the current DF and the current EF
   pub df-after : (v : Verdict) → Tells img c v → currentDfOf (appliedOf img c v) ≡ dfAfter img v

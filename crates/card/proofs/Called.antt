@@ -15,14 +15,14 @@ use Rattle.verdict.specs.Applied.{wordOf, appliedOf}
 use Rattle.judging.specs.Judge.{judgeOf}
 use Rattle.effect.specs.Fit.{Applies}
 use Rattle.card.specs.declared.Reply.the-variants.{Word, Damaged}
-use Rattle.card.specs.Command.{replyOf, imageOf}
+use Rattle.card.specs.Command.{replyOf, imageOf, CommandPromises}
 use Rattle.card.proofs.Tells.{applies}
 use Rattle.card.proofs.Told.{judge-tells}
 
 module _ (img c : List ℕ) (st : State) {r : Bool} (e : r ≡ soundb img) where
-  pub call-damaged : not r ≡ true → (Damaged ≡ replyOf img c st) × (img ≡ imageOf img c st)
+  pub call-damaged : not r ≡ true → CommandPromises img c st Damaged img
   unfolding replyOf imageOf
-  call-damaged t = rw (sym e ∙ not-true r t) (refl, refl)
+  call-damaged t = rw (sym e ∙ not-true r t) (refl, refl, refl, refl)
 
   module _ (t : not r ≡ false) where
     pub call-sound : Sound img
@@ -37,6 +37,6 @@ module _ (img c : List ℕ) (st : State) {r : Bool} (e : r ≡ soundb img) where
       call-applies g = rw (f, g) (applies img c (judgeOf img c st) call-sound (judge-tells img c call-sound st))
 
       pub call-done : {w : ℕ} {after : List ℕ} → w ≡ wordOf v → after ≡ appliedOf img c v
-          → (Word w ≡ replyOf img c st) × (after ≡ imageOf img c st)
+          → CommandPromises img c st (Word w) after
       unfolding replyOf imageOf
-      call-done a b = rw (sym e ∙ not-false r t, ← f) (ap Word a, b)
+      call-done a b = rw (sym e ∙ not-false r t, ← f) (ap Word a, b, refl, a)

@@ -9,6 +9,7 @@ use lib.Dec.{eqb}
 use lib.ListN.{length}
 use borrow.Author.Tests.{eqb-true, ne-eqb}
 use Rattle.laws.proofs.Says.{and-says}
+use Rattle.laws.proofs.Settling.{settled, both-are}
 use Rattle.laws.proofs.Firsts.{first-is}
 use Rattle.rules.specs.Life.{isTerminated}
 use Rattle.image.specs.declared.Head.{Head}
@@ -24,23 +25,30 @@ use Rattle.verdict.specs.declared.Verdict.{Verdict}
 use Rattle.verdict.specs.declared.Verdict.the-variants.{Refuse, Select, Create, Delete, Live}
 use Rattle.verdict.specs.Applied.{wordOf, appliedOf}
 use Rattle.deciding.specs.Steps.{Step, allHold, followed}
+use Rattle.frame.specs.Frame.{instruction}
 use Rattle.judging.specs.Shared.{sharedSteps}
 use Rattle.judging.specs.Judge.{planFor, judgeFor, judgeOf}
 use Rattle.card.specs.declared.Reply.the-variants.{Word, Damaged}
-use Rattle.card.specs.Command.{answerWord, replyOf, imageOf}
-use Rattle.card.specs.Conditions.{stepsOf, effectOf}
+use Rattle.card.specs.Command.{answerWord, replyOf, imageOf, CommandPromises}
+use Rattle.card.specs.Steps.{stepsOf, effectOf, firstFailing}
 use Rattle.card.specs.After.{recordAfter}
-use Rattle.card.specs.Demands.{DamagedRefused, Succeeds, OtherWordsLeave, StaysSound, LengthStays, JudgedInOrder, SucceedsExactly, EffectAndNoOther, TerminatedStays, Call, after, DeletedIn, TerminatedForGood, OneResult}
+use Rattle.card.specs.Demands.{DamagedRefused, SoundAnswered, Succeeds, OtherWordsLeave, OnlyTheseWords, WarnsInSelect, StaysSound, LengthStays, RepliesInOrder, SucceedsExactly, EffectAndNoOther, Deleting, TerminatedStays, TerminatedForGood, OneResult}
 use Rattle.card.proofs.Steps.{judged-append, judged-all, judged-first}
 use Rattle.card.proofs.Tells.{Tells, sound-applied}
 use Rattle.card.proofs.Told.{judge-tells}
 use Rattle.card.proofs.Speaks.{Spoken, judge-speaks, Acts, plan-acts, succeeds}
-use Rattle.card.proofs.After.{records-after, front-after, df-after, ef-after}
+use Rattle.card.proofs.After.{records-after, front-after, current-after, df-after, ef-after}
 use Rattle.card.proofs.Alive.{Alive, judge-alive}
+use Rattle.card.proofs.Words.{judge-worded, judge-warns}
+use Rattle.card.proofs.Erasing.{Erases, Names, judge-names}
 
 pub damaged-refused : DamagedRefused
 unfolding replyOf imageOf
-damaged-refused img c st e = rw e (refl, refl)
+damaged-refused img c st e = rw e (refl, refl, refl)
+
+pub sound-answered : SoundAnswered
+unfolding replyOf
+sound-answered img c st e = rw e
 
 -- on a sound image: the word and the image of the verdict
 module _ (img c : List ℕ) (st : State) (sound : Sound img) where
@@ -48,9 +56,12 @@ module _ (img c : List ℕ) (st : State) (sound : Sound img) where
   unfolding imageOf
   image-is = rw (sound-says img .1 sound)
 
-  pub word-is : answerWord (replyOf img c st) ≡ wordOf (judgeOf img c st)
+  pub reply-is : replyOf img c st ≡ Word (wordOf (judgeOf img c st))
   unfolding replyOf
-  word-is = rw (sound-says img .1 sound)
+  reply-is = rw (sound-says img .1 sound)
+
+  pub word-is : answerWord (replyOf img c st) ≡ wordOf (judgeOf img c st)
+  word-is = ap answerWord reply-is
 
   told : Tells img c (judgeOf img c st)
   told = judge-tells img c sound st
@@ -82,11 +93,22 @@ length-stays img c st = go (soundb img) refl
     go true q = let sound = sound-says img .0 q in front-after img c sound (judgeOf img c st) (told img c st sound) .long
     go false q = refl
 
-pub judged-in-order : JudgedInOrder
+-- the verdict: the effect where all steps hold, else a refusal with the word of the first that fails
+pub judged-in-order : (img c : List ℕ) (st : State)
+    → (allHold (stepsOf img c st) ≡ true → judgeOf img c st ≡ effectOf img c st)
+    × (allHold (stepsOf img c st) ≡ false → judgeOf img c st ≡ Refuse (firstFailing (stepsOf img c st)))
 unfolding judgeOf judgeFor followed
 judged-in-order img c st =
     let e = judged-append (sharedSteps img c st) (planFor img (countOf img) (currentDfOf img) c st .steps) (effectOf img c st) in
     (λ h. sym e ∙ judged-all (stepsOf img c st) (effectOf img c st) h, λ h. sym e ∙ judged-first (stepsOf img c st) (effectOf img c st) h)
+
+pub replies-in-order : RepliesInOrder
+replies-in-order img c st sound = (
+  (λ h. let e = judged-in-order img c st .0 h in
+  (reply-is img c st sound ∙ ap (λ (v : Verdict). Word (wordOf v)) e, image-is img c st sound ∙ ap (appliedOf img c) e)),
+  (λ h. let e = judged-in-order img c st .1 h in
+  (reply-is img c st sound ∙ ap (λ (v : Verdict). Word (wordOf v)) e, image-is img c st sound ∙ ap (appliedOf img c) e)),
+)
 
 -- the later of two lists holds where both do
 later : (xs ys : List Step) → allHold (xs ++ ys) ≡ true → allHold ys ≡ true
@@ -126,42 +148,76 @@ pub effect-and-no-other : EffectAndNoOther
 effect-and-no-other img c st sound =
     let v = judgeOf img c st in
     let k = told img c st sound in
-    rw (image-is img c st sound)
-    (records-after img c sound v k, (same-count img _ (front-after img c sound v k), (df-after img c sound v k, ef-after img c sound v k)))
+    let f = front-after img c sound v k in
+    rw (image-is img c st sound) (record {
+      long = f .long;
+      start = f .start;
+      current = current-after img c sound v k;
+      tail = f .tail;
+      records = records-after img c sound v k;
+      count = same-count img _ f;
+      df = df-after img c sound v k;
+      ef = ef-after img c sound v k;
+    })
 
 -- a terminated file under one verdict
 module _ (img c : List ℕ) (s : ℕ) (used : kindOf (recAt img s) ≡ 0 → ⊥) (dead : terminatedAt img s ≡ true) where
-  Stays : List ℕ → Type 0
-  Stays r = (r ≡ freeBytes) ⊎ (r ≡ recAt img s)
+  Stays : Verdict → List ℕ → Type 0
+  Stays v r = (Erases img s v × (r ≡ freeBytes)) ⊎ (r ≡ recAt img s)
 
-  verdict-stays : (v : Verdict) → Tells img c v → Alive img v → Stays (recordAfter img c v s)
+  verdict-stays : (v : Verdict) → Tells img c v → Alive img v → Stays v (recordAfter img c v s)
   unfolding Stays
   verdict-stays (Refuse w) k a = inr refl
   verdict-stays (Select d e w) k a = inr refl
   verdict-stays (Create x h p q from to) k a = inr (rw (ne-eqb s x (λ e. used (ap (λ (i : ℕ). kindOf (recAt img i)) e ∙ new-free img x h _ _ (k .1)))))
-  verdict-stays (Delete x) k a = go (atOrBeneath (viewAt img) x s)
+  verdict-stays (Delete x) k a = go (atOrBeneath (viewAt img) x s) refl
     where
-      go : (b : Bool) → (cond b freeBytes (recAt img s) ≡ freeBytes) ⊎ (cond b freeBytes (recAt img s) ≡ recAt img s)
-      go true = inl refl
-      go false = inr refl
+      go : (b : Bool) → atOrBeneath (viewAt img) x s ≡ b
+          → ((atOrBeneath (viewAt img) x s ≡ true) × (cond b freeBytes (recAt img s) ≡ freeBytes)) ⊎ (cond b freeBytes (recAt img s) ≡ recAt img s)
+      go true e = inl (e, refl)
+      go false e = inr refl
   verdict-stays (Live x life) k a = inr (rw (ne-eqb s x (λ e. a (rw e at dead))))
 
+-- only a DELETE that was carried out erases
+deleting : (img c : List ℕ) (st : State) (s : ℕ) → Sound img → (v : Verdict) → judgeOf img c st ≡ v → Erases img s v → Names img c v → Deleting img c st s
+deleting img c st s sound (Refuse w) e k n = absurd k
+deleting img c st s sound (Select d f w) e k n = absurd k
+deleting img c st s sound (Create x h a b from to) e k n = absurd k
+deleting img c st s sound (Delete x) e k n =
+    record { delete = n .0; answered = word-is img c st sound ∙ ap wordOf e; top = x; child = n .1; over = k }
+deleting img c st s sound (Live x life) e k n = absurd k
+
 pub terminated-stays : TerminatedStays
-unfolding terminatedAt Stays
+unfolding Stays
 terminated-stays img c st s sound low used dead =
-    let e = effect-and-no-other img c st sound .0 s low in
-    ⊎-elim (λ f. inl (e ∙ f)) (λ f. inr ((λ z. used (ap kindOf (sym (e ∙ f)) ∙ z)), ap (λ (r : List ℕ). isTerminated (lifeCycleOf r)) (e ∙ f) ∙ dead))
+    let e = effect-and-no-other img c st sound .records s low in
+    ⊎-elim (λ f. inl (deleting img c st s sound (judgeOf img c st) refl (f .0) (judge-names img c st), e ∙ f .1)) (λ f. inr (e ∙ f))
     (verdict-stays img c s used dead (judgeOf img c st) (told img c st sound) (judge-alive img c st))
 
 pub terminated-for-good : TerminatedForGood
-terminated-for-good [] img s sound low used dead = inr dead
+unfolding terminatedAt
+terminated-for-good [] img s sound low used dead = inr refl
 terminated-for-good (x ∷ rest) img s sound low used dead =
     let next = imageOf img (x .command) (x .state) in
-    ⊎-elim (λ f. inl (inl f))
-    (λ f. ⊎-elim (λ g. inl (inr g)) (λ g. inr g)
+    ⊎-elim (λ f. inl (inl (f .0)))
+    (λ f. ⊎-elim (λ g. inl (inr g)) (λ g. inr (g ∙ f))
     (terminated-for-good rest next s (stays-sound img (x .command) (x .state) sound)
-    (rw (effect-and-no-other img (x .command) (x .state) sound .1 .0) low) (f .0) (f .1)))
+    (rw (effect-and-no-other img (x .command) (x .state) sound .count) low) (λ z. used (ap kindOf (sym f) ∙ z))
+    (ap (λ (r : List ℕ). isTerminated (lifeCycleOf r)) f ∙ dead)))
     (terminated-stays img (x .command) (x .state) s sound low used dead)
 
+-- the words, and which of them warn
+pub only-these-words : OnlyTheseWords
+only-these-words img c st e = rw (word-is img c st (sound-says img .0 e)) (judge-worded img c st)
+
+pub warns-in-select : WarnsInSelect
+unfolding replyOf
+warns-in-select img c st w = go (soundb img) w
+  where
+    go : (b : Bool) → (answerWord (cond b (Word (wordOf (judgeOf img c st))) Damaged) ≡ 0x6283) ⊎ (answerWord (cond b (Word (wordOf (judgeOf img c st))) Damaged) ≡ 0x6285)
+        → instruction c ≡ 0xA4
+    go true h = judge-warns img c st h
+    go false h = ⊎-elim (λ q. absurd (omega arith)) (λ q. absurd (omega arith)) h
+
 pub one-result : OneResult
-one-result img c st r q x y a b = (a .0 ∙ sym (b .0), a .1 ∙ sym (b .1))
+one-result img c st = settled (λ p. CommandPromises img c st (p .0) (p .1)) (replyOf img c st, imageOf img c st) (λ p k. both-are _ _ p (k .0) (k .1))

@@ -1,9 +1,13 @@
 pub mod Steps
+pub mod Matching
+pub mod Asked
 pub mod Tells
 pub mod Told
 pub mod Called
 pub mod Speaks
+pub mod Words
+pub mod Erasing
 pub mod After
 pub mod Alive
 pub mod Demands
-pub mod Exactly
+pub mod Obeyed

@@ -9,7 +9,7 @@ use Rattle.laws.proofs.Says.{and-says}
 use Rattle.verdict.specs.declared.Verdict.{Verdict}
 use Rattle.verdict.specs.declared.Verdict.the-variants.{Refuse}
 use Rattle.deciding.specs.Steps.{Step, judged, allHold, Plan, followed}
-use Rattle.card.specs.Demands.{firstFailing}
+use Rattle.card.specs.Steps.{firstFailing}
 
 -- what holds of both branches holds of the choice
 pub cond-by : {A : Type 0} (P : A → Type 0) (b : Bool) (x y : A) → (b ≡ true → P x) → (b ≡ false → P y) → P (cond b x y)

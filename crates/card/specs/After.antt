@@ -2,9 +2,10 @@
 -- record that isn't named here is as it was.
 use Prim.Native.Nat.{ℕ, _-_}
 use mathlib.Core.Bool.{cond}
-use mathlib.Core.List.{List}
+use mathlib.Core.List.{List, _++_}
 use lib.Dec.{eqb}
 use Rattle.laws.specs.Lists.{part}
+use Rattle.numbers.specs.Numbers.{be16}
 use Rattle.rules.specs.Descriptor.{df}
 use Rattle.image.specs.Layout.{recAt, withLife, recordBytes, freeBytes, currentDfOf, currentEfOf, none}
 use Rattle.sound.specs.Table.{viewAt}
@@ -39,3 +40,11 @@ efAfter img (Select d e word) = e
 efAfter img (Create s h a b from to) = cond (eqb (h .kind) df) none s
 efAfter img (Delete s) = cond (eqb (currentEfOf img) s) none (currentEfOf img)
 efAfter img (Live s life) = currentEfOf img
+
+-- the four header bytes that tell what is current
+abbrev pub currentAfter : List ℕ → Verdict → List ℕ
+currentAfter img (Refuse word) = part img 7 4
+currentAfter img (Select d e word) = be16 d ++ be16 e
+currentAfter img (Create s h a b from to) = be16 (cond (eqb (h .kind) df) s (currentDfOf img)) ++ be16 (cond (eqb (h .kind) df) none s)
+currentAfter img (Delete s) = be16 (currentDfOf img) ++ be16 (cond (eqb (currentEfOf img) s) none (currentEfOf img))
+currentAfter img (Live s life) = part img 7 4

@@ -1,5 +1,6 @@
 -- What one call gives, for any image, command and state: the reply, and every byte of the image afterwards.
 use Prim.Native.Nat.{ℕ}
+use mathlib.Core.Path.{_≡_}
 use mathlib.Core.Bool.{cond}
 use mathlib.Core.List.{List}
 use Rattle.sound.specs.Sound.{soundb}
@@ -25,10 +26,10 @@ replyOf img c st = cond (soundb img) (Word (wordOf (judgeOf img c st))) Damaged
 unfoldable pub imageOf : List ℕ → List ℕ → State → List ℕ
 imageOf img c st = cond (soundb img) (appliedOf img c (judgeOf img c st)) img
 
--- both together
-pub record Outcome : Type 0 where
-  pub reply : Reply
-  pub image : List ℕ
-
-abbrev pub commandOf : List ℕ → List ℕ → State → Outcome
-commandOf img c st = record { reply = replyOf img c st; image = imageOf img c st }
+-- WHAT A CALL PROMISES: the reply, with 01's number and word for it, and every byte of the image afterwards
+abbrev pub CommandPromises : List ℕ → List ℕ → State → Reply → List ℕ → Type 0
+CommandPromises img c st r left =
+    (r ≡ replyOf img c st)
+    × (left ≡ imageOf img c st)
+    × (answerNumber r ≡ cond (soundb img) 0 1)
+    × (answerWord r ≡ cond (soundb img) (wordOf (judgeOf img c st)) 0x0000)

@@ -1,81 +1,167 @@
--- What each command asks, condition by condition, as records (01 "The order in which a command is judged" and
--- the commands' paragraphs). proofs/Exactly shows that all steps of a command hold exactly where its record does.
+-- What each command asks, in 01's order, each condition beside the word of its failure (01 "The order in which a command is
+-- judged" and the commands' paragraphs). The words, instructions and lengths are 01's own numbers, and a condition is a
+-- sentence about the bytes of the command and the records of the image: nothing here rests on the tests that judging makes.
 use mathlib.Core.Path.{_≡_}
 use mathlib.Core.Bool.{Bool, true}
-use mathlib.Core.List.{List, _++_}
-use Prim.Native.Nat.{ℕ, _≤_}
-use lib.ListN.{length}
+use mathlib.Core.List.{List, [], _∷_}
+use mathlib.Core.Logic.{_⊎_}
+use Prim.Native.Nat.{ℕ, _+_, _/_, _%_, _<_, _≤_}
+use lib.ListN.{length, getD}
 use Rattle.rules.specs.declared.Sets.{Sets}
-use Rattle.rules.specs.declared.Right.the-variants.{Terminate, Activate, Deactivate}
-use Rattle.rules.specs.Life.{lifeOf, activated, canActivate}
+use Rattle.rules.specs.declared.Right.the-variants.{DeleteSelf, Terminate, Activate, Deactivate, DeleteChild}
+use Rattle.rules.specs.Life.{lifeOf, creation, initialisation, activated, deactivated, terminated}
 use Rattle.image.specs.Layout.{countOf, currentDfOf, currentEfOf, none}
-use Rattle.sound.specs.Table.{viewAt}
-use Rattle.sound.specs.Kinship.{terminatedAt, terminatedUp, childNamed, identifierFree, nameFree, fitsRoom}
+use Rattle.sound.specs.Table.{File, viewAt, up}
+use Rattle.sound.specs.Kinship.{childNamed, roomFor}
 use Rattle.template.specs.Data.{dataOf}
 use Rattle.verdict.specs.declared.State.{State}
-use Rattle.verdict.specs.declared.Verdict.{Verdict}
 use Rattle.verdict.specs.Applied.{sentData}
-use Rattle.deciding.specs.Steps.{Step}
-use Rattle.frame.specs.Frame.{classByte, instruction, sentIdentifier, onOtherChannel, isKnown, crowded, fitParameters, fitLength}
-use Rattle.judging.specs.Shared.{sharedSteps}
-use Rattle.deciding.specs.Target.{currentFile, lifeAt, allowedAt, isFound, slotIn, selected, isFile, creation, newIdentifier, newName, newSize}
-use Rattle.creation.specs.Creation.{takesFiles}
-use Rattle.commands.specs.Commands.{mayDelete}
-use Rattle.judging.specs.Judge.{planFor}
+use Rattle.deciding.specs.Target.{currentFile, lifeAt, allowedAt, isFound, slotIn, selected, isFile, creation as rightFor, newIdentifier, newName, newSize}
+use Rattle.frame.specs.Frame.{classByte, instruction, lc, sentIdentifier}
 
--- all steps of a command, A to L in order, and the effect that it has where all hold
-abbrev pub stepsOf : List ℕ → List ℕ → State → List Step
-stepsOf img c st = sharedSteps img c st ++ planFor img (countOf img) (currentDfOf img) c st .steps
+pub record Ask : Type 1 where
+  pub condition : Type 0
+  pub word : ℕ
 
-abbrev pub effectOf : List ℕ → List ℕ → State → Verdict
-effectOf img c st = planFor img (countOf img) (currentDfOf img) c st .effect
+abbrev pub ask : Type 0 → ℕ → Ask
+ask condition word = record { condition = condition; word = word }
 
--- A to G, of every command
-pub record Shared (img c : List ℕ) (st : State) : Type 0 where
-  pub four-bytes : 4 ≤ length c
-  pub basic-channel : onOtherChannel (classByte c) ≡ true → ⊥
-  pub class : classByte c ≡ 0x00
-  pub known : isKnown (instruction c) ≡ true
-  pub card-alive : terminatedAt img 0 ≡ true → ⊥
-  pub alone : crowded (instruction c) st ≡ true → ⊥
-  pub parameters : fitParameters c ≡ true
-  pub lengths : fitLength c ≡ true
+-- every condition holds
+abbrev pub Met : List Ask → Type 0
+Met [] = Unit {0}
+Met (a ∷ rest) = a .condition × Met rest
 
-pub record Selects (img : List ℕ) (x : ℕ) : Type 0 where
-  pub found : isFound (selected img (countOf img) (currentDfOf img) x) ≡ true
+-- w is the word of the first that fails
+abbrev pub Refused : List Ask → ℕ → Type 0
+Refused [] w = ⊥
+Refused (a ∷ rest) w = ((a .condition → ⊥) × (w ≡ a .word)) ⊎ (a .condition × Refused rest w)
 
--- s is the data that are sent
-pub record CreatesFile (img s : List ℕ) (x : Sets) : Type 0 where
-  pub good-data : isFile (dataOf s) ≡ true
-  pub right : allowedAt img (currentDfOf img) (creation (dataOf s)) x ≡ true
-  pub life-cycle : takesFiles img (currentDfOf img) ≡ true
-  pub identifier : identifierFree (countOf img) (viewAt img) (currentDfOf img) (newIdentifier (dataOf s)) ≡ true
-  pub name : nameFree (countOf img) (viewAt img) (newName s (dataOf s)) ≡ true
-  pub memory : fitsRoom (countOf img) (viewAt img) (currentDfOf img) (newSize (dataOf s)) ≡ true
+-- neither the file in slot s nor a directory above it is terminated
+abbrev pub NoneTerminated : List ℕ → ℕ → Type 0
+NoneTerminated img s = (k : ℕ) → k ≤ viewAt img s .level → lifeOf (lifeAt img (up (viewAt img) k s)) ≡ terminated → ⊥
 
-pub record DeletesFile (img : List ℕ) (i : ℕ) (x : Sets) : Type 0 where
-  pub found : isFound (childNamed (countOf img) (viewAt img) (currentDfOf img) i) ≡ true
-  pub right : mayDelete img (currentDfOf img) (slotIn (childNamed (countOf img) (viewAt img) (currentDfOf img) i)) x ≡ true
+-- A to D, for an instruction of 01's list; C is for every other
+abbrev pub knownAsks : List ℕ → List ℕ → List Ask → List Ask
+knownAsks img c rest =
+    ask (4 ≤ length c) 0x6700                                                                        -- A
+    ∷ ask ((1 ≤ classByte c) × (classByte c ≤ 3) → ⊥) 0x6985                                         -- B
+    ∷ ask (classByte c ≡ 0x00) 0x6E00
+    ∷ ask (lifeOf (lifeAt img 0) ≡ terminated → ⊥) 0x6985                                            -- D
+    ∷ rest
 
-pub record ActivatesFile (img : List ℕ) (x : Sets) : Type 0 where
-  pub right : allowedAt img (currentFile img) Activate x ≡ true
-  pub alive : terminatedUp img (currentFile img) ≡ true → ⊥
-  pub life-cycle : canActivate (lifeAt img (currentFile img)) ≡ true
+abbrev pub unknownAsks : List ℕ → List Ask
+unknownAsks c =
+    ask (4 ≤ length c) 0x6700                                                                        -- A
+    ∷ ask ((1 ≤ classByte c) × (classByte c ≤ 3) → ⊥) 0x6985                                         -- B
+    ∷ ask (classByte c ≡ 0x00) 0x6E00
+    ∷ ask ⊥ 0x6D00                                                                                   -- C
+    ∷ []
 
-pub record DeactivatesFile (img : List ℕ) (x : Sets) : Type 0 where
-  pub right : allowedAt img (currentFile img) Deactivate x ≡ true
-  pub alive : terminatedUp img (currentFile img) ≡ true → ⊥
-  pub life-cycle : lifeOf (lifeAt img (currentFile img)) ≡ activated
+-- E: no other channel is open, by bits 1-3; F: P1 P2; G: the length of a command that has no data
+abbrev pub alone : State → Ask
+alone st = ask (st .channels / 2 % 8 ≡ 0) 0x6985
 
-pub record TerminatesEf (img : List ℕ) (x : Sets) : Type 0 where
-  pub some : currentEfOf img ≡ none → ⊥
-  pub right : allowedAt img (currentEfOf img) Terminate x ≡ true
-  pub alive : terminatedUp img (currentEfOf img) ≡ true → ⊥
+abbrev pub parametersAre : List ℕ → ℕ → ℕ → Ask
+parametersAre c p1 p2 = ask ((getD c 2 0 ≡ p1) × (getD c 3 0 ≡ p2)) 0x6B00
 
-pub record TerminatesDf (img : List ℕ) (x : Sets) : Type 0 where
-  pub right : allowedAt img (currentDfOf img) Terminate x ≡ true
-  pub not-root : currentDfOf img ≡ 0 → ⊥
-  pub alive : terminatedUp img (currentDfOf img) ≡ true → ⊥
+abbrev pub fourBytes : List ℕ → Ask
+fourBytes c = ask (length c ≡ 4) 0x6700
 
-pub record TerminatesCard (img : List ℕ) (x : Sets) : Type 0 where
-  pub right : allowedAt img 0 Terminate x ≡ true
+abbrev pub selectAsks : List ℕ → List ℕ → List Ask
+selectAsks img c =
+    knownAsks img c
+    (parametersAre c 0x00 0x0C                                                                       -- F
+    ∷ ask ((length c ≡ 7) × (lc c ≡ 2)) 0x6700                                                       -- G
+    ∷ ask (isFound (selected img (countOf img) (currentDfOf img) (sentIdentifier c)) ≡ true) 0x6A82  -- I
+    ∷ [])
+
+-- no file of directory d has identifier i, nor has d, nor a directory above it
+abbrev pub FreeIdentifier : List ℕ → ℕ → ℕ → Type 0
+FreeIdentifier img d i =
+    ((s : ℕ) → s < countOf img → File (viewAt img) s → viewAt img s .parent ≡ d → viewAt img s .identifier ≡ i → ⊥)
+    × ((k : ℕ) → k ≤ viewAt img d .level → viewAt img (up (viewAt img) k d) .identifier ≡ i → ⊥)
+
+-- no file of the card has that name, if it is one
+abbrev pub FreeName : List ℕ → List ℕ → Type 0
+FreeName img name = (name ≡ [] → ⊥) → (s : ℕ) → s < countOf img → viewAt img s .name ≡ name → ⊥
+
+abbrev pub createAsks : List ℕ → List ℕ → State → List Ask
+createAsks img c st =
+    knownAsks img c
+    (alone st                                                                                        -- E
+    ∷ parametersAre c 0x00 0x00                                                                      -- F
+    ∷ ask ((1 ≤ lc c) × (length c ≡ 5 + lc c)) 0x6700                                                -- G
+    ∷ ask (isFile (dataOf (sentData c)) ≡ true) 0x6A80                                               -- H
+    ∷ ask (allowedAt img (currentDfOf img) (rightFor (dataOf (sentData c))) (st .sets) ≡ true) 0x6982           -- J
+    ∷ ask ((lifeOf (lifeAt img (currentDfOf img)) ≡ deactivated → ⊥) × NoneTerminated img (currentDfOf img)) 0x6985   -- K
+    ∷ ask (FreeIdentifier img (currentDfOf img) (newIdentifier (dataOf (sentData c)))) 0x6A89        -- L
+    ∷ ask (FreeName img (newName (sentData c) (dataOf (sentData c)))) 0x6A8A
+    ∷ ask (newSize (dataOf (sentData c)) + 64 ≤ roomFor (countOf img) (viewAt img) (currentDfOf img)) 0x6A84
+    ∷ [])
+
+-- the child of the current DF that DELETE names
+abbrev pub namedChild : List ℕ → List ℕ → ℕ
+namedChild img c = slotIn (childNamed (countOf img) (viewAt img) (currentDfOf img) (sentIdentifier c))
+
+abbrev pub deleteAsks : List ℕ → List ℕ → State → List Ask
+deleteAsks img c st =
+    knownAsks img c
+    (alone st                                                                                        -- E
+    ∷ parametersAre c 0x00 0x00                                                                      -- F
+    ∷ ask ((length c ≡ 7) × (lc c ≡ 2)) 0x6700                                                       -- G
+    ∷ ask (isFound (childNamed (countOf img) (viewAt img) (currentDfOf img) (sentIdentifier c)) ≡ true) 0x6A82   -- I
+    ∷ ask ((allowedAt img (namedChild img c) DeleteSelf (st .sets) ≡ true)
+      ⊎ (allowedAt img (currentDfOf img) DeleteChild (st .sets) ≡ true)) 0x6982                      -- J
+    ∷ [])
+
+abbrev pub activateAsks : List ℕ → List ℕ → State → List Ask
+activateAsks img c st =
+    knownAsks img c
+    (parametersAre c 0x00 0x00                                                                       -- F
+    ∷ fourBytes c                                                                                    -- G
+    ∷ ask (allowedAt img (currentFile img) Activate (st .sets) ≡ true) 0x6982                        -- J
+    ∷ ask (NoneTerminated img (currentFile img)) 0x6985                                              -- K
+    ∷ ask ((lifeOf (lifeAt img (currentFile img)) ≡ creation)
+      ⊎ ((lifeOf (lifeAt img (currentFile img)) ≡ initialisation) ⊎ (lifeOf (lifeAt img (currentFile img)) ≡ deactivated))) 0x6985
+    ∷ [])
+
+abbrev pub deactivateAsks : List ℕ → List ℕ → State → List Ask
+deactivateAsks img c st =
+    knownAsks img c
+    (parametersAre c 0x00 0x00                                                                       -- F
+    ∷ fourBytes c                                                                                    -- G
+    ∷ ask (allowedAt img (currentFile img) Deactivate (st .sets) ≡ true) 0x6982                      -- J
+    ∷ ask (NoneTerminated img (currentFile img)) 0x6985                                              -- K
+    ∷ ask (lifeOf (lifeAt img (currentFile img)) ≡ activated) 0x6985
+    ∷ [])
+
+abbrev pub terminateEfAsks : List ℕ → List ℕ → State → List Ask
+terminateEfAsks img c st =
+    knownAsks img c
+    (alone st                                                                                        -- E
+    ∷ parametersAre c 0x00 0x00                                                                      -- F
+    ∷ fourBytes c                                                                                    -- G
+    ∷ ask (currentEfOf img ≡ none → ⊥) 0x6986                                                        -- I
+    ∷ ask (allowedAt img (currentEfOf img) Terminate (st .sets) ≡ true) 0x6982                       -- J
+    ∷ ask (NoneTerminated img (currentEfOf img)) 0x6985                                              -- K
+    ∷ [])
+
+abbrev pub terminateDfAsks : List ℕ → List ℕ → State → List Ask
+terminateDfAsks img c st =
+    knownAsks img c
+    (alone st                                                                                        -- E
+    ∷ parametersAre c 0x00 0x00                                                                      -- F
+    ∷ fourBytes c                                                                                    -- G
+    ∷ ask (allowedAt img (currentDfOf img) Terminate (st .sets) ≡ true) 0x6982                       -- J
+    ∷ ask (currentDfOf img ≡ 0 → ⊥) 0x6985                                                           -- K
+    ∷ ask (NoneTerminated img (currentDfOf img)) 0x6985
+    ∷ [])
+
+abbrev pub terminateCardAsks : List ℕ → List ℕ → State → List Ask
+terminateCardAsks img c st =
+    knownAsks img c
+    (alone st                                                                                        -- E
+    ∷ parametersAre c 0x00 0x00                                                                      -- F
+    ∷ fourBytes c                                                                                    -- G
+    ∷ ask (allowedAt img 0 Terminate (st .sets) ≡ true) 0x6982                                       -- J
+    ∷ [])

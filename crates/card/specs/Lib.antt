@@ -1,4 +1,6 @@
 pub mod Command
+pub mod Steps
 pub mod Conditions
+pub mod Obeyed
 pub mod After
 pub mod Demands

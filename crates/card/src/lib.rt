@@ -1,8 +1,7 @@
 // The card: one command per call on an image in a lent buffer (01). Soundness first, then judging, then the
 // one effect that is due. It may use every crate below. It answers demands 1 and 2: specs/Command says what a
 // call gives, proofs/Demands that this is what the demands ask for.
-ghost use mathlib.Core.Path.{_≡_};
-ghost use Rattle.card.specs.Command.{replyOf, imageOf};
+ghost use Rattle.card.specs.Command.{CommandPromises};
 use verdict::State;
 
 // What a call answers: the word of a command on a sound image, or that the image is damaged.
@@ -13,7 +12,7 @@ pub enum Reply {
 
 // One command on any image, whatever its bytes, the command and the state.
 pub fn command(image: &mut [u8], command: &[u8], state: State) -> Reply
-    ensures { λ r. ⌜ (r ≡ replyOf (now (image .entry)) (now (command .entry)) state) × (now (image .exit) ≡ imageOf (now (image .entry)) (now (command .entry)) state) ⌝ }
+    ensures { λ r. ⌜ CommandPromises (now (image .entry)) (now (command .entry)) state r (now (image .exit)) ⌝ }
 {
     if !soundness::sound(image) {
         return Reply::Damaged;

@@ -70,7 +70,7 @@ module _ (st : Story) (k : Kept st) (x : Call) where
   some = omega (arith, k .sound .header .least)
 
   count-stays : countOf (imageAfter (st .image) x) ≡ slots st
-  count-stays = effect-and-no-other (st .image) (x .command) (x .state) (k .sound) .1 .0
+  count-stays = effect-and-no-other (st .image) (x .command) (x .state) (k .sound) .count
 
   pub did : Did (slots st) (table st) (tableAfter st x) (heard (st .image) x) (currentDfOf (st .image)) (currentDfOf (imageAfter (st .image) x))
   did = call-did (st .image) x (k .sound)

@@ -112,4 +112,4 @@ call-did img x sound =
     let e = effect-and-no-other img c (x .state) sound in
     rw (word-is img c (x .state) sound)
     (did img c sound (viewAt (imageAfter img x)) v (judge-tells img c sound (x .state)) (judge-announces img c (x .state)) (judge-speaks img c (x .state))
-    (currentDfOf (imageAfter img x)) (e .1 .1 .0) (λ t l. ap viewOf (e .0 t l)))
+    (currentDfOf (imageAfter img x)) (e .df) (λ t l. ap viewOf (e .records t l)))

@@ -24,8 +24,8 @@ use Rattle.creation.specs.Creation.{takesFiles, create}
 use Rattle.frame.specs.Frame.{instruction, createFile}
 use Rattle.judging.specs.Shared.{sharedSteps}
 use Rattle.judging.specs.Judge.{planFor, judgeOf}
-use Rattle.card.specs.Conditions.{stepsOf, effectOf}
-use Rattle.card.specs.Demands.{Call, firstFailing}
+use Rattle.card.specs.Steps.{stepsOf, effectOf, firstFailing}
+use Rattle.card.specs.Demands.{Call}
 use Rattle.card.proofs.Steps.{allWords}
 use Rattle.card.proofs.Demands.{word-is, judged-in-order}
 use Rattle.history.specs.Story.{wordFor, butLast, Ready, ReadyExactly, sizeSent}

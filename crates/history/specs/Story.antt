@@ -17,7 +17,7 @@ use Rattle.deciding.specs.Steps.{Step, allHold}
 use Rattle.deciding.specs.Target.{newSize}
 use Rattle.frame.specs.Frame.{instruction, sentIdentifier, createFile, deleteFile}
 use Rattle.card.specs.Command.{answerWord, replyOf, imageOf}
-use Rattle.card.specs.Conditions.{stepsOf}
+use Rattle.card.specs.Steps.{stepsOf}
 use Rattle.card.specs.Demands.{Call}
 use Rattle.history.specs.Ledger.{Ledger, Announced, makes, deletes, neither, noted, opened}
 

@@ -77,17 +77,17 @@ module _ (img : List ℕ) (df ef : ℕ) (fits : 16 ≤ length img) where
     tail = λ k l. getD-splice-above img 7 (be16 df ++ be16 ef) (omega arith) (11 + k) (omega arith);
   }
 
-  byte : (k : ℕ) → k < 4 → getD (setCurrent img df ef) (7 + k) 0 ≡ getD (be16 df ++ be16 ef) k 0
+  pub current-byte : (k : ℕ) → k < 4 → getD (setCurrent img df ef) (7 + k) 0 ≡ getD (be16 df ++ be16 ef) k 0
   unfolding setCurrent
-  byte k l = getD-splice-in img 7 (be16 df ++ be16 ef) (omega arith) k l
+  current-byte k l = getD-splice-in img 7 (be16 df ++ be16 ef) (omega arith) k l
 
   pub df-current : currentDfOf (setCurrent img df ef) ≡ df
   unfolding currentDfOf u16At
-  df-current = omega (arith, byte 0 (omega arith), byte 1 (omega arith))
+  df-current = omega (arith, current-byte 0 (omega arith), current-byte 1 (omega arith))
 
   pub ef-current : currentEfOf (setCurrent img df ef) ≡ ef
   unfolding currentEfOf u16At
-  ef-current = omega (arith, byte 2 (omega arith), byte 3 (omega arith))
+  ef-current = omega (arith, current-byte 2 (omega arith), current-byte 3 (omega arith))
 
   pub record-current : (s : ℕ) → base s + 64 ≤ length img → recAt (setCurrent img df ef) s ≡ recAt img s
   unfolding setCurrent recAt

@@ -5,13 +5,14 @@ use mathlib.Core.List.{List, []}
 use mathlib.Core.Logic.{_↔_}
 use Prim.Native.Nat.{ℕ, suc, _<_, _≤_, _+_, _-_}
 use borrow.Author.Tests.{not-false}
+use Rattle.laws.proofs.Settling.{settled}
 use Rattle.laws.proofs.Says.{says}
 use Rattle.sound.specs.Table.{View, File, up}
 use Rattle.sound.specs.Own.{zerosb, Padded, paddedb, Used, usedb, markedb, measuredb, namedb, ruledb, Own, ownb}
 use Rattle.sound.specs.Kin.{Kin, kinb, rootb, placedb, placedAt, siblingsb, siblingsAt, apartAt, aboveb, aboveAt, otherUp, namesb, namesAt, sameName, chargesb, chargesAt}
 use Rattle.sound.specs.Sound.{Header, headerb, Current, currentb, recordsb, Sound, soundb}
 use Rattle.sound.specs.Kinship.{atOrBeneath, isChild, isChildNamed}
-use Rattle.sound.specs.Theorems.{SoundSays}
+use Rattle.sound.specs.Theorems.{SoundSays, SoundOnce}
 
 pub padded-says : (r : List ℕ) (n : ℕ) → (paddedb r n ≡ true) ↔ Padded r n
 unfolding paddedb zerosb
@@ -97,6 +98,9 @@ sound-says img = simp (says, header-says, own-says, kin-says, current-says) (
   (λ h. record { header = h .0; records = h .1 .0; kin = h .1 .1 .0; current = h .1 .1 .1 }),
   (λ h. (h .header, (h .records, (h .kin, h .current)))),
 )
+
+pub sound-once : SoundOnce
+sound-once img = settled (λ r. r ≡ soundb img) (soundb img) (λ r e. e)
 
 -- the same of d itself or a file beneath it
 pub record AtOrBeneath (v : ℕ → View) (d s : ℕ) : Type 0 where

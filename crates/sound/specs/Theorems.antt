@@ -1,11 +1,12 @@
 -- What is proved of sound images and worth reading; each is proved under the same name in small letters (proofs/Says,
 -- proofs/Fresh, proofs/FullTable).
 use mathlib.Core.Path.{_≡_}
-use mathlib.Core.Bool.{true}
+use mathlib.Core.Bool.{Bool, true}
 use mathlib.Core.List.{List}
 use mathlib.Core.Logic.{_↔_}
 use Prim.Native.Nat.{ℕ, _+_, _*_, _-_, _<_, _≤_}
 use Rattle.laws.specs.declared.Found.the-variants.{Nothing}
+use Rattle.laws.specs.Settled.{Settles}
 use Rattle.rules.specs.Descriptor.{df}
 use Rattle.rules.specs.Rule.{fitsRecord}
 use Rattle.image.specs.Layout.{countOf}
@@ -17,6 +18,10 @@ use Rattle.sound.specs.Effects.{fresh}
 -- the test that is computed for any bytes is true exactly where every sentence of 01 "Image" holds
 abbrev pub SoundSays : Type 0
 SoundSays = (img : List ℕ) → (soundb img ≡ true) ↔ Sound img
+
+-- and any two answers of `soundness::sound`, which promises that test, are equal
+abbrev pub SoundOnce : Type 0
+SoundOnce = (img : List ℕ) → Settles Bool (λ r. r ≡ soundb img)
 
 -- a fresh card is sound: N 2 to 1,023, a total of 1 to 64(N-1), a rule of 1 to 16 bytes that is well formed
 abbrev pub SoundFresh : Type 0

@@ -13,7 +13,7 @@ use Rattle.laws.proofs.Says.{and-says}
 use Rattle.numbers.specs.Numbers.{u16At, u32At}
 use Rattle.maker.specs.declared.Made.{Made}
 use Rattle.maker.specs.declared.Made.the-variants.{Done, BadLength, BadTotal, BadRule}
-use Rattle.maker.specs.Making.{slotsIn, fitsLength, madeOf, answerOf, leftBy}
+use Rattle.maker.specs.Making.{slotsIn, fitsLength, madeOf, madeNumber, leftBy}
 use Rattle.sound.specs.Effects.{fresh}
 use Rattle.text.specs.Written.{Wrote, big}
 use Rattle.text.proofs.Written.{from-start}
@@ -22,11 +22,11 @@ use Rattle.stream.specs.Replay.{rootRule, runOf, goodHeader, performOf, 
 
 -- what is written, by the maker's answer
 by-made : List ℕ → List ℕ → Made → List ℕ
-by-made s img m = cond (eqb (answerOf m) 0) (runOf (length s) s 11 (leftBy m img (u32At s 7) rootRule)) bad
+by-made s img m = cond (eqb (madeNumber m) 0) (runOf (length s) s 11 (leftBy m img (u32At s 7) rootRule)) bad
 
 perform-made : (s img : List ℕ) (m : Made) → madeOf img (u32At s 7) rootRule ≡ m → by-made s img m ≡ performOf s img
 unfolding performOf by-made
-perform-made s img m e = ap (λ (t : Made). cond (eqb (answerOf t) 0) (runOf (length s) s 11 (leftBy t img (u32At s 7) rootRule)) bad) (sym e)
+perform-made s img m e = ap (λ (t : Made). cond (eqb (madeNumber t) 0) (runOf (length s) s 11 (leftBy t img (u32At s 7) rootRule)) bad) (sym e)
 
 module _ (s img : List ℕ) (total : ℕ) (r : Made) (et : total ≡ u32At s 7) (er : r ≡ madeOf img total rootRule) where
   made-is : (m : Made) → r ≡ m → madeOf img (u32At s 7) rootRule ≡ m

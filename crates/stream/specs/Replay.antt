@@ -8,7 +8,7 @@ use lib.ListN.{length, getD, replicate}
 use Rattle.laws.specs.Lists.{part}
 use Rattle.numbers.specs.Numbers.{u16At, u32At}
 use Rattle.verdict.specs.declared.State.{State}
-use Rattle.maker.specs.Making.{madeOf, answerOf, leftBy}
+use Rattle.maker.specs.Making.{madeOf, madeNumber, leftBy}
 use Rattle.card.specs.Command.{replyOf, imageOf, answerWord}
 use Rattle.text.specs.Written.{big}
 use Rattle.stream.specs.Text.{lineOf, bad, cut}
@@ -62,7 +62,7 @@ goodHeader s =
 -- a fresh card made in the buffer img, and the commands on it; or the maker refuses
 unfoldable pub performOf : List ℕ → List ℕ → List ℕ
 performOf s img =
-    cond (eqb (answerOf (madeOf img (u32At s 7) rootRule)) 0)
+    cond (eqb (madeNumber (madeOf img (u32At s 7) rootRule)) 0)
     (runOf (length s) s 11 (leftBy (madeOf img (u32At s 7) rootRule) img (u32At s 7) rootRule))
     bad
 

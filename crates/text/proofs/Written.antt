@@ -1,6 +1,6 @@
 -- Texts written one behind the other, and a text that is lent on.
 use native.Mathlib.Omega.{arith}
-use native.Mathlib.Nat.{add-zero}
+use native.Mathlib.Nat.{add-zero, zero-add}
 use mathlib.Core.Path.{_≡_, sym, _∙_, ap, subst}
 use mathlib.Core.List.{List, [], _++_}
 use Prim.Native.Nat.{ℕ, _+_, _≤_}
@@ -8,7 +8,8 @@ use lib.ListN.{length, length-append}
 use lib.Seq.{length-take-le}
 use Rattle.laws.specs.Lists.{splice}
 use Rattle.laws.proofs.Splices.{splice-nil, splice-step, length-splice}
-use Rattle.text.specs.Written.{WroteAt, Wrote, Counted}
+use Rattle.laws.proofs.Settling.{settled, both-are}
+use Rattle.text.specs.Written.{WroteAt, Wrote, Counted, WroteOnce}
 
 pub nothing-written : (at : ℕ) (o : List ℕ) → at ≤ length o → WroteAt at at o o []
 nothing-written at o h = record {
@@ -48,3 +49,7 @@ pub counted : {r : ℕ} {o y : List ℕ} (t : List ℕ) → Wrote r o y t → Co
 counted {r} {o} {y} t w =
     let f : r ≤ length y = omega (arith, w .fits, same-room t w) in
     (f, sym (length-take-le r y f))
+
+pub wrote-once : WroteOnce
+wrote-once before text =
+    settled (λ p. Wrote (p .0) before (p .1) text) (length text, splice before 0 text) (λ p w. both-are _ _ p (w .long ∙ zero-add _) (w .bytes))

@@ -1,0 +1,132 @@
+-- The tests that judging makes, each beside the sentence that it stands for (specs/Conditions).
+use mathlib.Core.Path.{_≡_, refl, sym, ap, _∙_}
+use mathlib.Core.Bool.{Bool, true, false, not, cond, _&&_, _||_, false≢true}
+use mathlib.Core.List.{List, []}
+use mathlib.Core.Logic.{_↔_, _⊎_, inl, inr, ⊎-elim}
+use Prim.Native.Nat.{ℕ, suc, _+_, _*_, _/_, _%_, _<_, _≤_}
+use native.Mathlib.Omega.{arith}
+use lib.Dec.{eqb, leb}
+use lib.ListN.{length, getD}
+use Rattle.laws.proofs.Walks.{all-not}
+use Rattle.laws.proofs.Says.{says, and-says, or-says, eq-says, le-says, all-says, not-says}
+use Rattle.numbers.specs.Numbers.{u16At}
+use Rattle.rules.specs.declared.Sets.{Sets}
+use Rattle.rules.specs.declared.Right.the-variants.{DeleteSelf, DeleteChild}
+use Rattle.rules.specs.Life.{lifeOf, terminated, isTerminated, deactivated, isDeactivated, creation, initialisation, canActivate}
+use Rattle.image.specs.Layout.{lifeCycleOf, recAt, countOf}
+use Rattle.sound.specs.Table.{viewAt, up}
+use Rattle.sound.specs.Kinship.{terminatedAt, terminatedUp, identifierFree}
+use Rattle.sound.proofs.Created.{identifier-says}
+use Rattle.verdict.specs.declared.State.{State}
+use Rattle.deciding.specs.Target.{lifeAt, allowedAt}
+use Rattle.frame.specs.Frame.{classByte, instruction, lc, onOtherChannel, isTerminate, isKnown, wantsAlone, otherChannel, crowded, wantedParameters, fitParameters, hasData, isSeven, fitLength, selectFile, createFile, deleteFile}
+use Rattle.creation.specs.Creation.{takesFiles}
+use Rattle.commands.specs.Commands.{mayDelete}
+use Rattle.card.specs.Conditions.{NoneTerminated, FreeIdentifier}
+
+pub not-twice : (b : Bool) → (not (not b) ≡ true) ↔ (b ≡ true)
+not-twice true = ((λ e. e), (λ e. e))
+not-twice false = ((λ e. e), (λ e. e))
+
+-- B
+pub channel-says : (k : ℕ) → (not (onOtherChannel k) ≡ true) ↔ ((1 ≤ k) × (k ≤ 3) → ⊥)
+unfolding onOtherChannel
+channel-says k = simp says ((λ h. h), (λ h. h))
+
+-- D
+pub alive-says : (img : List ℕ) (s : ℕ) → (not (terminatedAt img s) ≡ true) ↔ (lifeOf (lifeAt img s) ≡ terminated → ⊥)
+unfolding terminatedAt
+alive-says img s = simp says ((λ h. h), (λ h. h))
+
+-- K: the file and the directories above it
+pub none-says : (img : List ℕ) (s : ℕ) → (not (terminatedUp img s) ≡ true) ↔ NoneTerminated img s
+unfolding terminatedUp terminatedAt
+none-says img s = (
+  (λ h k l e. not-says _ .0 (all-says _ _ .0 (all-not _ up-dead ∙ h) k (omega arith)) (eq-says _ _ .1 e)),
+  (λ f. sym (all-not _ up-dead) ∙ all-says _ _ .1 (λ k l. not-says _ .1 (λ e. f k (omega arith) (eq-says _ _ .0 e)))),
+)
+  where
+    up-dead : ℕ → Bool
+    up-dead k = isTerminated (lifeCycleOf (recAt img (up (viewAt img) k s)))
+
+pub takes-says : (img : List ℕ) (d : ℕ) → (takesFiles img d ≡ true) ↔ ((lifeOf (lifeAt img d) ≡ deactivated → ⊥) × NoneTerminated img d)
+unfolding takesFiles
+takes-says img d = (
+  (λ h. let p = and-says _ _ .0 h in ((λ e. not-says _ .0 (p .0) (eq-says _ _ .1 e)), none-says img d .0 (p .1))),
+  (λ f. and-says _ _ .1 (not-says _ .1 (λ e. f .0 (eq-says _ _ .0 e)), none-says img d .1 (f .1))),
+)
+
+pub activates-says : (x : ℕ) → (canActivate x ≡ true) ↔ ((lifeOf x ≡ creation) ⊎ ((lifeOf x ≡ initialisation) ⊎ (lifeOf x ≡ deactivated)))
+unfolding canActivate
+activates-says x = (
+  (λ h. ⊎-elim (λ e. inl (eq-says _ _ .0 e)) (λ g. inr (⊎-elim (λ e. inl (eq-says _ _ .0 e)) (λ e. inr (eq-says _ _ .0 e)) (or-says _ _ .0 g))) (or-says _ _ .0 h)),
+  (λ h. or-says _ _ .1 (⊎-elim (λ e. inl (eq-says _ _ .1 e)) (λ g. inr (or-says _ _ .1 (⊎-elim (λ e. inl (eq-says _ _ .1 e)) (λ e. inr (eq-says _ _ .1 e)) g))) h)),
+)
+
+-- J of DELETE
+pub deletes-says : (img : List ℕ) (d s : ℕ) (x : Sets) → (mayDelete img d s x ≡ true) ↔ ((allowedAt img s DeleteSelf x ≡ true) ⊎ (allowedAt img d DeleteChild x ≡ true))
+unfolding mayDelete
+deletes-says img d s x = or-says _ _
+
+-- L
+pub identifier-free : (img : List ℕ) (d i : ℕ) → (identifierFree (countOf img) (viewAt img) d i ≡ true) ↔ FreeIdentifier img d i
+identifier-free img d i = (
+  (λ h. let p = identifier-says (countOf img) (viewAt img) d i .0 h in ((λ s l f q r. p .0 s l ((f, q), r)), (λ k l. p .1 k (omega arith)))),
+  (λ f. identifier-says (countOf img) (viewAt img) d i .1 ((λ s l k. f .0 s l (k .0 .0) (k .0 .1) (k .1)), (λ k l. f .1 k (omega arith)))),
+)
+
+pub is-not-says : (a b : ℕ) → (not (eqb a b) ≡ true) ↔ (a ≡ b → ⊥)
+is-not-says a b = simp says ((λ h. h), (λ h. h))
+
+-- P1 P2 as one number
+pair-says : (c : List ℕ) (p : ℕ) → p < 256 → (eqb (u16At c 2) p ≡ true) ↔ ((getD c 2 0 ≡ 0x00) × (getD c 3 0 ≡ p))
+unfolding u16At
+pair-says c p l = (
+  (λ h. let e : getD c 2 0 * 256 + getD c 3 0 ≡ p = eq-says _ _ .0 h in (omega arith, omega arith)),
+  (λ h. let e : getD c 2 0 * 256 + getD c 3 0 ≡ p = omega (arith, h .0, h .1) in eq-says _ _ .1 e),
+)
+
+-- C to G, by the instruction i of the command
+module _ (c : List ℕ) (st : State) (i : ℕ) (e : instruction c ≡ i) where
+  pub known : isKnown i ≡ true → isKnown (instruction c) ≡ true
+  known k = ap isKnown e ∙ k
+
+  pub calm : wantsAlone i ≡ false → not (crowded (instruction c) st) ≡ true
+  unfolding crowded
+  calm w = rw (e, w)
+
+  pub alone-says : wantsAlone i ≡ true → (not (crowded (instruction c) st) ≡ true) ↔ (st .channels / 2 % 8 ≡ 0)
+  unfolding crowded otherChannel
+  alone-says w = rw (e, w) ((λ h. eq-says _ _ .0 (not-twice _ .0 h)), (λ h. not-twice _ .1 (eq-says _ _ .1 h)))
+
+  pub parameters-say : (p : ℕ) → wantedParameters i ≡ p → p < 256 → (fitParameters c ≡ true) ↔ ((getD c 2 0 ≡ 0x00) × (getD c 3 0 ≡ p))
+  unfolding fitParameters
+  parameters-say p w l = rw (e, w) (pair-says c p l)
+
+-- G
+pub data-says : (c : List ℕ) → instruction c ≡ createFile → (fitLength c ≡ true) ↔ ((1 ≤ lc c) × (length c ≡ 5 + lc c))
+unfolding fitLength hasData
+data-says c e = rw e (
+  (λ h. let p = and-says _ _ .0 h in
+  let a : 6 ≤ length c = le-says _ _ .0 (p .0) in
+  let b : length c ≡ 5 + lc c = eq-says _ _ .0 (p .1) in
+  (omega arith, b)),
+  (λ h. let a : 6 ≤ length c = omega (arith, h .0, h .1) in and-says _ _ .1 (le-says _ _ .1 a, eq-says _ _ .1 (h .1))),
+)
+
+seven-says : (c : List ℕ) → (isSeven c ≡ true) ↔ ((length c ≡ 7) × (lc c ≡ 2))
+unfolding isSeven
+seven-says c = simp says ((λ h. h), (λ h. h))
+
+pub select-length : (c : List ℕ) → instruction c ≡ selectFile → (fitLength c ≡ true) ↔ ((length c ≡ 7) × (lc c ≡ 2))
+unfolding fitLength
+select-length c e = rw e (seven-says c)
+
+pub delete-length : (c : List ℕ) → instruction c ≡ deleteFile → (fitLength c ≡ true) ↔ ((length c ≡ 7) × (lc c ≡ 2))
+unfolding fitLength
+delete-length c e = rw e (seven-says c)
+
+pub four-says : (c : List ℕ) (i : ℕ) → instruction c ≡ i → eqb i createFile ≡ false → eqb i selectFile ≡ false → eqb i deleteFile ≡ false
+    → (fitLength c ≡ true) ↔ (length c ≡ 4)
+unfolding fitLength
+four-says c i e p q r = rw (e, p, q, r) (eq-says _ _)

@@ -1,0 +1,93 @@
+-- Which words a verdict can have, and which verdicts warn.
+use mathlib.Core.Path.{_≡_, refl, sym, ap, _∙_}
+use mathlib.Core.Bool.{Bool, true, false, not, _&&_, false≢true}
+use mathlib.Core.List.{List, [], _∷_}
+use mathlib.Core.Logic.{_⊎_, inl, inr, ⊎-elim}
+use Prim.Native.Nat.{ℕ}
+use native.Mathlib.Omega.{arith}
+use lib.Dec.{eqb}
+use borrow.Author.Tests.{eq-eqb}
+use Rattle.laws.proofs.Says.{and-says, not-says, or-says}
+use Rattle.rules.specs.Descriptor.{df}
+use Rattle.rules.specs.Life.{isDeactivated, isTerminated}
+use Rattle.image.specs.Layout.{countOf, currentDfOf}
+use Rattle.sound.specs.Table.{viewAt}
+use Rattle.template.specs.declared.Data.{Data}
+use Rattle.template.specs.declared.Data.the-variants.{Df, Ef, Bad}
+use Rattle.template.specs.Data.{dataOf}
+use Rattle.verdict.specs.declared.State.{State}
+use Rattle.verdict.specs.declared.Verdict.{Verdict}
+use Rattle.verdict.specs.declared.Verdict.the-variants.{Refuse, Select, Create, Delete, Live}
+use Rattle.verdict.specs.Applied.{wordOf, sentData}
+use Rattle.deciding.specs.Steps.{allHold, Plan, followed}
+use Rattle.deciding.specs.Target.{lifeAt, creating}
+use Rattle.frame.specs.Frame.{instruction}
+use Rattle.commands.specs.Commands.{selectWord, selecting}
+use Rattle.judging.specs.Shared.{sharedSteps}
+use Rattle.judging.specs.Judge.{lifePlan, planFor, judgeFor, judgeOf}
+use Rattle.card.specs.Obeyed.{isOneOf}
+use Rattle.card.specs.Demands.{wordsOfTable}
+use Rattle.card.proofs.Steps.{cond-by, chosen-by, allWords, judged-by, followed-by}
+
+abbrev ours : ℕ → Bool
+ours w = isOneOf w wordsOfTable
+
+-- those that warn; a word of a refusal is ours, and warns of nothing
+abbrev pub warning : ℕ → Bool
+warning w = isOneOf w (0x6283 ∷ 0x6285 ∷ [])
+
+abbrev refuses : ℕ → Bool
+refuses w = ours w && not (warning w)
+
+-- a verdict whose word is ours, and which warns only if the command is SELECT
+pub record Worded (c : List ℕ) (v : Verdict) : Type 0 where
+  pub word : isOneOf (wordOf v) wordsOfTable ≡ true
+  pub warns : warning (wordOf v) ≡ true → instruction c ≡ 0xA4
+
+module _ (img c : List ℕ) (st : State) where
+  refused : (w : ℕ) → refuses w ≡ true → Worded c (Refuse w)
+  refused w k =
+      let p = and-says (ours w) (not (warning w)) .0 k in
+      record { word = p .0; warns = λ e. absurd (not-says (warning w) .0 (p .1) e) }
+
+  plain : (v : Verdict) → wordOf v ≡ 0x9000 → Worded c v
+  plain v e = record { word = rw e; warns = λ q. absurd (false≢true (rw e at q)) }
+
+  creating-worded : (d s : ℕ) (new : Data) → Worded c (creating img d s new)
+  creating-worded d s Bad = refused 0x6A80 refl
+  creating-worded d s (Df k i l a b from to t) = plain _ refl
+  creating-worded d s (Ef k i l m from to z) = plain _ refl
+
+  select-word : (life : ℕ) → ours (selectWord life) ≡ true
+  unfolding selectWord
+  select-word life = cond-by (λ w. ours w ≡ true) (isDeactivated life) _ _ (λ q. refl) (λ q. cond-by (λ w. ours w ≡ true) (isTerminated life) _ _ (λ q. refl) (λ q. refl))
+
+  selecting-worded : instruction c ≡ 0xA4 → (d s : ℕ) → Worded c (selecting img d s)
+  unfolding selecting
+  selecting-worded e d s = cond-by (Worded c) (eqb (viewAt img s .kind) df) _ _
+      (λ q. record { word = select-word (lifeAt img s); warns = λ h. e }) (λ q. record { word = select-word (lifeAt img s); warns = λ h. e })
+
+  WordedThen : Plan → Type 0
+  WordedThen p = Worded c (followed p)
+
+  plan-worded : (n d : ℕ) → Worded c (followed (planFor img n d c st))
+  unfolding planFor lifePlan WordedThen
+  plan-worded n d =
+      chosen-by WordedThen (instruction c) _ _ _ (λ e. followed-by (Worded c) refuses refused _ refl (λ a. selecting-worded e d _))
+      (λ z. chosen-by WordedThen (instruction c) _ _ _ (λ e. followed-by (Worded c) refuses refused _ refl (λ a. creating-worded d _ (dataOf (sentData c))))
+      (λ z. chosen-by WordedThen (instruction c) _ _ _ (λ e. followed-by (Worded c) refuses refused _ refl (λ a. plain _ refl))
+      (λ z. chosen-by WordedThen (instruction c) _ _ _ (λ e. followed-by (Worded c) refuses refused _ refl (λ a. plain _ refl))
+      (λ z. chosen-by WordedThen (instruction c) _ _ _ (λ e. followed-by (Worded c) refuses refused _ refl (λ a. plain _ refl))
+      (λ z. chosen-by WordedThen (instruction c) _ _ _ (λ e. followed-by (Worded c) refuses refused _ refl (λ a. plain _ refl))
+      (λ z. chosen-by WordedThen (instruction c) _ _ _ (λ e. followed-by (Worded c) refuses refused _ refl (λ a. plain _ refl))
+      (λ z. followed-by (Worded c) refuses refused _ refl (λ a. plain _ refl))))))))
+
+  judge-said : Worded c (judgeOf img c st)
+  unfolding judgeOf judgeFor
+  judge-said = judged-by (Worded c) refuses refused (sharedSteps img c st) _ refl (λ a. plan-worded (countOf img) (currentDfOf img))
+
+  pub judge-worded : isOneOf (wordOf (judgeOf img c st)) wordsOfTable ≡ true
+  judge-worded = judge-said .word
+
+  pub judge-warns : (wordOf (judgeOf img c st) ≡ 0x6283) ⊎ (wordOf (judgeOf img c st) ≡ 0x6285) → instruction c ≡ 0xA4
+  judge-warns h = judge-said .warns (or-says _ _ .1 (⊎-elim (λ e. inl (eq-eqb _ _ e)) (λ e. inr (or-says _ _ .1 (inl (eq-eqb _ _ e)))) h))

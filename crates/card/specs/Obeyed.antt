@@ -1,0 +1,108 @@
+-- Demand 2, command by command: on a sound image a command succeeds exactly when all its conditions hold, and then has that
+-- word and leaves that image; otherwise it gives the word of the first condition that fails, and the image is as it came.
+-- Each statement is proved in proofs/Obeyed under the same name in small letters.
+use mathlib.Core.Path.{_≡_}
+use mathlib.Core.Bool.{Bool, true, false, cond, _||_}
+use mathlib.Core.List.{List, [], _∷_}
+use mathlib.Core.Logic.{_⊎_}
+use Prim.Native.Nat.{ℕ, _+_, _-_, _≤_}
+use lib.Dec.{eqb}
+use lib.ListN.{length}
+use Rattle.laws.specs.Lists.{part}
+use Rattle.rules.specs.Descriptor.{df, ef}
+use Rattle.rules.specs.Life.{lifeOf, deactivated, terminated}
+use Rattle.image.specs.Layout.{countOf, currentDfOf, currentEfOf, none, setCurrent, setLife}
+use Rattle.sound.specs.Table.{viewAt}
+use Rattle.sound.specs.Sound.{Sound}
+use Rattle.sound.specs.Kinship.{freeSlot}
+use Rattle.sound.specs.Effects.{created, deleted}
+use Rattle.template.specs.declared.Data.{Data}
+use Rattle.template.specs.declared.Data.the-variants.{Df, Ef, Bad}
+use Rattle.template.specs.Data.{dataOf}
+use Rattle.verdict.specs.declared.State.{State}
+use Rattle.verdict.specs.Applied.{sentData}
+use Rattle.deciding.specs.Target.{currentFile, lifeAt, slotIn, selected}
+use Rattle.frame.specs.Frame.{classByte, instruction, sentIdentifier}
+use Rattle.card.specs.declared.Reply.the-variants.{Word}
+use Rattle.card.specs.Command.{replyOf, imageOf}
+use Rattle.card.specs.Conditions.{Ask, Met, Refused, unknownAsks, selectAsks, createAsks, deleteAsks, activateAsks, deactivateAsks, terminateEfAsks, terminateDfAsks, terminateCardAsks, namedChild}
+
+pub record Obeys (img c : List ℕ) (st : State) (asks : List Ask) (word : ℕ) (left : List ℕ) : Type 0 where
+  pub met : Met asks → (replyOf img c st ≡ Word word) × (imageOf img c st ≡ left)
+  pub refused : (w : ℕ) → Refused asks w → (replyOf img c st ≡ Word w) × (imageOf img c st ≡ img)
+  -- and there is no third case
+  pub always : Met asks ⊎ ((w : ℕ) × Refused asks w)
+
+-- SELECT: 6283 for a deactivated file, 6285 for a terminated one, else 9000; a DF becomes current with no EF, an EF becomes
+-- current EF
+abbrev pub wordFor : ℕ → ℕ
+wordFor class = cond (eqb class deactivated) 0x6283 (cond (eqb class terminated) 0x6285 0x9000)
+
+abbrev pub selecting : List ℕ → ℕ → List ℕ
+selecting img s = cond (eqb (viewAt img s .kind) df) (setCurrent img s none) (setCurrent img (currentDfOf img) s)
+
+abbrev pub SelectObeys : Type 0
+SelectObeys = (img c : List ℕ) (st : State) → Sound img → instruction c ≡ 0xA4
+    → Obeys img c st (selectAsks img c)
+    (wordFor (lifeOf (lifeAt img (slotIn (selected img (countOf img) (currentDfOf img) (sentIdentifier c))))))
+    (selecting img (slotIn (selected img (countOf img) (currentDfOf img) (sentIdentifier c))))
+
+-- CREATE: the new record in the lowest free slot, in the current DF and one level down, as its data s describe it
+abbrev pub creating : List ℕ → List ℕ → ℕ → Data → List ℕ
+creating img s slot Bad = img
+creating img s slot (Df k i l a b from to total) =
+    created img slot
+    (record { kind = df; descriptor = k; life = l; identifier = i; parent = currentDfOf img; level = viewAt img (currentDfOf img) .level + 1; stride = 0; size = total })
+    (part s a (b - a)) (part s from (to - from))
+creating img s slot (Ef k i l n from to size) =
+    created img slot
+    (record { kind = ef; descriptor = k; life = l; identifier = i; parent = currentDfOf img; level = viewAt img (currentDfOf img) .level + 1; stride = n; size = size })
+    [] (part s from (to - from))
+
+abbrev pub CreateObeys : Type 0
+CreateObeys = (img c : List ℕ) (st : State) → Sound img → instruction c ≡ 0xE0
+    → Obeys img c st (createAsks img c st) 0x9000
+    (creating img (sentData c) (slotIn (freeSlot (countOf img) (viewAt img))) (dataOf (sentData c)))
+
+-- DELETE: the child and all beneath it become zero records; a deleted current EF becomes none
+abbrev pub DeleteObeys : Type 0
+DeleteObeys = (img c : List ℕ) (st : State) → Sound img → instruction c ≡ 0xE4
+    → Obeys img c st (deleteAsks img c st) 0x9000 (deleted img (namedChild img c))
+
+-- the life-cycle commands write one byte, and say 9000
+abbrev pub ActivateObeys : Type 0
+ActivateObeys = (img c : List ℕ) (st : State) → Sound img → instruction c ≡ 0x44
+    → Obeys img c st (activateAsks img c st) 0x9000 (setLife img (currentFile img) 0x05)
+
+abbrev pub DeactivateObeys : Type 0
+DeactivateObeys = (img c : List ℕ) (st : State) → Sound img → instruction c ≡ 0x04
+    → Obeys img c st (deactivateAsks img c st) 0x9000 (setLife img (currentFile img) 0x04)
+
+abbrev pub TerminateEfObeys : Type 0
+TerminateEfObeys = (img c : List ℕ) (st : State) → Sound img → instruction c ≡ 0xE8
+    → Obeys img c st (terminateEfAsks img c st) 0x9000 (setLife img (currentEfOf img) 0x0C)
+
+abbrev pub TerminateDfObeys : Type 0
+TerminateDfObeys = (img c : List ℕ) (st : State) → Sound img → instruction c ≡ 0xE6
+    → Obeys img c st (terminateDfAsks img c st) 0x9000 (setLife img (currentDfOf img) 0x0C)
+
+abbrev pub TerminateCardObeys : Type 0
+TerminateCardObeys = (img c : List ℕ) (st : State) → Sound img → instruction c ≡ 0xFE
+    → Obeys img c st (terminateCardAsks img c st) 0x9000 (setLife img 0 0x0C)
+
+-- a number is one of a list
+abbrev pub isOneOf : ℕ → List ℕ → Bool
+isOneOf x [] = false
+isOneOf x (y ∷ rest) = eqb x y || isOneOf x rest
+
+-- every other instruction: it never succeeds, and is 6D00 where the steps before hold
+abbrev pub OthersRefused : Type 0
+OthersRefused = (img c : List ℕ) (st : State) → Sound img
+    → isOneOf (instruction c) (0xA4 ∷ 0xE0 ∷ 0xE4 ∷ 0x44 ∷ 0x04 ∷ 0xE8 ∷ 0xE6 ∷ 0xFE ∷ []) ≡ false
+    → Obeys img c st (unknownAsks c) 0x6D00 img
+
+-- so the codings that 01 keeps for file bodies are 6D00: READ and UPDATE BINARY, READ and UPDATE RECORD
+abbrev pub NoBodiesYet : Type 0
+NoBodiesYet = (img c : List ℕ) (st : State) → Sound img → 4 ≤ length c → classByte c ≡ 0x00
+    → isOneOf (instruction c) (0xB0 ∷ 0xD6 ∷ 0xB2 ∷ 0xDC ∷ []) ≡ true
+    → (replyOf img c st ≡ Word 0x6D00) × (imageOf img c st ≡ img)
