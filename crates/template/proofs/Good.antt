@@ -1,14 +1,14 @@
 -- What is read from any data is good, or bad.
 use mathlib.Core.Path.{_≡_, refl}
-use mathlib.Core.Bool.{Bool, true, false, cond, _&&_}
+use mathlib.Core.Bool.{Bool, true, false, cond}
 use mathlib.Core.List.{List}
 use mathlib.Core.Logic.{⊎-elim}
 use Prim.Native.Nat.{ℕ, _-_, _≤_}
 use native.Mathlib.Omega.{arith}
 use lib.ListN.{length}
-use lib.Dec.{eqb, leb}
+use lib.Dec.{eqb}
 use borrow.Author.Tests.{eqb-true, eqb-false}
-use Rattle.laws.proofs.Says.{and-says, or-says, le-says}
+use Rattle.laws.proofs.Says.{and-says, or-says}
 use Rattle.laws.proofs.Splices.{length-part}
 use Rattle.rules.specs.Descriptor.{classOf, df, ef}
 use Rattle.rules.specs.Life.{newLife}
@@ -22,6 +22,7 @@ use Rattle.template.specs.Values.{firstOf, pairOf, recordLengthOf, numbe
 use Rattle.template.specs.Data.{isTemplate, need, nameGood, bothGood, newDf, newEf, dfOf, sizedEf, efOf, fileOf, dataOf}
 use Rattle.template.specs.Good.{GoodFile, Good}
 use Rattle.template.proofs.Holding.{held}
+use Rattle.template.proofs.Meaning.{name-fits}
 
 -- past a test: only the branch that goes on is to be shown good
 module _ (s : List ℕ) where
@@ -52,17 +53,16 @@ module _ (s : List ℕ) (o : Objects) (h : Held s o) where
       record { identifier = p .0; life = q .0; rule-low = h .low t8C; rule-high = h .high t8C; rule = q .1 }
 
   name-good : nameGood s o ≡ true → lengthIn o t84 ≤ 16
-  unfolding nameGood lacks fitsName
+  unfolding nameGood lacks
   name-good e = ⊎-elim none some (or-says (eqb (startIn o t84) 0) _ .0 e)
     where
       none : eqb (startIn o t84) 0 ≡ true → lengthIn o t84 ≤ 16
       none q = let z : endIn o t84 ≡ 0 = h .absent t84 (eqb-true (startIn o t84) 0 q) in omega arith
 
-      some : (leb 1 (length (valueIn s o t84)) && leb (length (valueIn s o t84)) 16) ≡ true → lengthIn o t84 ≤ 16
+      some : fitsName (valueIn s o t84) ≡ true → lengthIn o t84 ≤ 16
       some q =
           let n : length (valueIn s o t84) ≡ lengthIn o t84 = length-part s (startIn o t84) (lengthIn o t84) (omega (arith, h .low t84, h .high t84)) in
-          let m : length (valueIn s o t84) ≤ 16 = le-says _ 16 .0 (and-says (leb 1 (length (valueIn s o t84))) _ .0 q .1) in
-          omega arith
+          omega (arith, name-fits (valueIn s o t84) .0 q)
 
   df-good : classOf (firstOf (valueIn s o t82)) ≡ df → Good s (dfOf s o)
   unfolding dfOf newDf

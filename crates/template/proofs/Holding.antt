@@ -32,7 +32,7 @@ inside s at =
     (λ r. (refl, omega arith, omega (arith, ltb-false 127 n q), ltb-false (length s) (at + 2 + n) r))))
 
 -- none yet
-zeros : (n k : ℕ) → _≡_ {A = ℕ} (getD (replicate n 0) k 0) 0
+pub zeros : (n k : ℕ) → _≡_ {A = ℕ} (getD (replicate n 0) k 0) 0
 zeros zero k = refl
 zeros (suc n) zero = refl
 zeros (suc n) (suc k) = zeros n k

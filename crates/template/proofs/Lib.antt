@@ -3,3 +3,9 @@ pub mod Lists
 pub mod Holding
 pub mod Good
 pub mod Reading
+pub mod Told
+pub mod Order
+pub mod Meaning
+pub mod Forms
+pub mod Taken
+pub mod Grammar

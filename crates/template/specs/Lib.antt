@@ -4,3 +4,4 @@ pub mod Values
 pub mod Data
 pub mod Good
 pub mod Lines
+pub mod Grammar
