@@ -17,8 +17,13 @@ use Rattle.image.specs.Layout.{lifeCycleOf, recAt, countOf}
 use Rattle.sound.specs.Table.{viewAt, up}
 use Rattle.sound.specs.Kinship.{terminatedAt, terminatedUp, identifierFree}
 use Rattle.sound.proofs.Created.{identifier-says}
+use Rattle.template.specs.declared.Data.{Data}
+use Rattle.template.specs.declared.Data.the-variants.{Df, Ef, Bad}
+use Rattle.template.specs.Data.{dataOf}
+use Rattle.template.specs.Grammar.{DfData, EfData}
+use Rattle.template.proofs.Grammar.{data-exactly}
 use Rattle.verdict.specs.declared.State.{State}
-use Rattle.deciding.specs.Target.{lifeAt, allowedAt}
+use Rattle.deciding.specs.Target.{lifeAt, allowedAt, isFile}
 use Rattle.frame.specs.Frame.{classByte, instruction, lc, onOtherChannel, isTerminate, isKnown, wantsAlone, otherChannel, crowded, wantedParameters, fitParameters, hasData, isSeven, fitLength, selectFile, createFile, deleteFile}
 use Rattle.creation.specs.Creation.{takesFiles}
 use Rattle.commands.specs.Commands.{mayDelete}
@@ -130,3 +135,15 @@ pub four-says : (c : List ℕ) (i : ℕ) → instruction c ≡ i → eqb i creat
     → (fitLength c ≡ true) ↔ (length c ≡ 4)
 unfolding fitLength
 four-says c i e p q r = rw (e, p, q, r) (eq-says _ _)
+
+-- H: data that are good describe a file
+good-file : (new : Data) → (isFile new ≡ true) ↔ (new ≡ Bad → ⊥)
+good-file Bad = ((λ e. absurd (false≢true e)), (λ f. absurd (f refl)))
+good-file (Df k i l a b from to z) = ((λ e q. false≢true (sym (ap isFile q))), (λ f. refl))
+good-file (Ef k i l n from to z) = ((λ e q. false≢true (sym (ap isFile q))), (λ f. refl))
+
+pub file-says : (s : List ℕ) → (isFile (dataOf s) ≡ true) ↔ (DfData s ⊎ EfData s)
+file-says s = (
+  (λ e. data-exactly s .0 (good-file (dataOf s) .0 e)),
+  (λ h. good-file (dataOf s) .1 (data-exactly s .1 h)),
+)

@@ -36,7 +36,7 @@ use Rattle.card.specs.Conditions.{Ask, Met, Refused, alone, parametersAr
 use Rattle.card.specs.Obeyed.{Obeys, wordFor, selecting, creating, isOneOf, SelectObeys, CreateObeys, DeleteObeys, ActivateObeys, DeactivateObeys, TerminateEfObeys, TerminateDfObeys, TerminateCardObeys, OthersRefused, NoBodiesYet}
 use Rattle.card.proofs.Steps.{cond-by}
 use Rattle.card.proofs.Matching.{Reads, reads-none, reads-ask, reads-skip, reads-stop}
-use Rattle.card.proofs.Asked.{channel-says, alive-says, none-says, takes-says, activates-says, deletes-says, identifier-free, is-not-says, known, calm, alone-says, parameters-say, data-says, select-length, delete-length, four-says}
+use Rattle.card.proofs.Asked.{channel-says, alive-says, none-says, takes-says, activates-says, deletes-says, identifier-free, is-not-says, known, calm, alone-says, parameters-say, data-says, select-length, delete-length, four-says, file-says}
 use Rattle.card.proofs.Demands.{replies-in-order}
 
 -- a command with this plan, whose steps read as these asks, and whose effect gives this word and image where all hold
@@ -100,14 +100,14 @@ create-obeys img c st sound e =
     (reads-ask _ _ _ _ _ _ (alone-says c st 0xE0 e refl) refl
     (reads-ask _ _ _ _ _ _ (parameters-say c st 0xE0 e 0x00 refl (omega arith)) refl
     (reads-ask _ _ _ _ _ _ (data-says c e) refl
-    (reads-ask _ _ _ _ _ _ ((λ h. h), (λ h. h)) refl
+    (reads-ask _ _ _ _ _ _ (file-says (sentData c)) refl
     (reads-ask _ _ _ _ _ _ ((λ h. h), (λ h. h)) refl
     (reads-ask _ _ _ _ _ _ (takes-says img (currentDfOf img)) refl
     (reads-ask _ _ _ _ _ _ (identifier-free img (currentDfOf img) _) refl
     (reads-ask _ _ _ _ _ _ (name-says (countOf img) (viewAt img) _) refl
     (reads-ask _ _ _ _ _ _ (room-says (countOf img) (viewAt img) (currentDfOf img) _) refl
     reads-none))))))))))
-    (λ m. gives (dataOf (sentData c)) (m .1 .1 .1 .1 .1 .1 .1 .0))
+    (λ m. gives (dataOf (sentData c)) (file-says (sentData c) .1 (m .1 .1 .1 .1 .1 .1 .1 .0)))
   where
     slot : ℕ
     slot = slotIn (freeSlot (countOf img) (viewAt img))

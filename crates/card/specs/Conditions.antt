@@ -14,9 +14,10 @@ use Rattle.image.specs.Layout.{countOf, currentDfOf, currentEfOf, none}
 use Rattle.sound.specs.Table.{File, viewAt, up}
 use Rattle.sound.specs.Kinship.{childNamed, roomFor}
 use Rattle.template.specs.Data.{dataOf}
+use Rattle.template.specs.Grammar.{DfData, EfData}
 use Rattle.verdict.specs.declared.State.{State}
 use Rattle.verdict.specs.Applied.{sentData}
-use Rattle.deciding.specs.Target.{currentFile, lifeAt, allowedAt, isFound, slotIn, selected, isFile, creation as rightFor, newIdentifier, newName, newSize}
+use Rattle.deciding.specs.Target.{currentFile, lifeAt, allowedAt, isFound, slotIn, selected, creation as rightFor, newIdentifier, newName, newSize}
 use Rattle.frame.specs.Frame.{classByte, instruction, lc, sentIdentifier}
 
 pub record Ask : Type 1 where
@@ -91,7 +92,7 @@ createAsks img c st =
     (alone st                                                                                        -- E
     ∷ parametersAre c 0x00 0x00                                                                      -- F
     ∷ ask ((1 ≤ lc c) × (length c ≡ 5 + lc c)) 0x6700                                                -- G
-    ∷ ask (isFile (dataOf (sentData c)) ≡ true) 0x6A80                                               -- H
+    ∷ ask (DfData (sentData c) ⊎ EfData (sentData c)) 0x6A80                                         -- H
     ∷ ask (allowedAt img (currentDfOf img) (rightFor (dataOf (sentData c))) (st .sets) ≡ true) 0x6982           -- J
     ∷ ask ((lifeOf (lifeAt img (currentDfOf img)) ≡ deactivated → ⊥) × NoneTerminated img (currentDfOf img)) 0x6985   -- K
     ∷ ask (FreeIdentifier img (currentDfOf img) (newIdentifier (dataOf (sentData c)))) 0x6A89        -- L

@@ -4,4 +4,4 @@ pub mod Value
 pub mod Condition
 pub mod Group
 pub mod Rule
-pub mod Counts
+pub mod Bytes

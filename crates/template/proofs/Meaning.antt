@@ -13,7 +13,7 @@ use Rattle.laws.specs.Tests.{either}
 use Rattle.laws.proofs.Says.{and-says, or-says, not-says, either-says, le-says, untrue}
 use Rattle.numbers.specs.Numbers.{u16At, u32At}
 use Rattle.rules.specs.Descriptor.{structureOf, hasRecords}
-use Rattle.rules.specs.Life.{lifeOf, knownLife, newLife, noLife, creation, initialisation, activated, deactivated, terminated}
+use Rattle.rules.specs.Life.{newLife}
 use Rattle.rules.specs.Rule.{wellFormed, fitsRecord}
 use Rattle.rules.specs.Value.{goodIdentifier, wholeRecords, goodLength}
 use Rattle.template.specs.Values.{firstOf, pairOf, recordLengthOf, numberOf, fitsName}
@@ -94,23 +94,6 @@ identifier-says n = (
     isnt : (m : ℕ) → (not (eqb n m) ≡ true) ↔ (n ≡ m → ⊥)
     isnt m = (λ e z. not-says (eqb n m) .0 e (eq-eqb n m z), λ f. not-says (eqb n m) .1 (λ z. f (eqb-true n m z)))
 
-pub life-says : (x : ℕ) → (newLife x ≡ true) ↔ ((x ≡ 0x01) ⊎ ((x ≡ 0x03) ⊎ ((x ≡ 0x04) ⊎ (x ≡ 0x05))))
-unfolding newLife knownLife lifeOf
-life-says x = (to (eqb x 0x01) (eqb x 0x03) (eqb x 0x04) (eqb x 0x05) (eqb x 0x0C) refl refl refl refl, from)
-  where
-    to : (a b c d e : Bool) → eqb x 0x01 ≡ a → eqb x 0x03 ≡ b → eqb x 0x04 ≡ c → eqb x 0x05 ≡ d
-        → let l : ℕ = cond a creation (cond b initialisation (cond c deactivated (cond d activated (cond e terminated noLife)))) in
-        (not (eqb l noLife) && not (eqb l terminated)) ≡ true → (x ≡ 0x01) ⊎ ((x ≡ 0x03) ⊎ ((x ≡ 0x04) ⊎ (x ≡ 0x05)))
-    to true b c d e p q r t h = inl (eqb-true x 0x01 p)
-    to false true c d e p q r t h = inr (inl (eqb-true x 0x03 q))
-    to false false true d e p q r t h = inr (inr (inl (eqb-true x 0x04 r)))
-    to false false false true e p q r t h = inr (inr (inr (eqb-true x 0x05 t)))
-    to false false false false true p q r t h = absurd (false≢true h)
-    to false false false false false p q r t h = absurd (false≢true h)
-
-    from : (x ≡ 0x01) ⊎ ((x ≡ 0x03) ⊎ ((x ≡ 0x04) ⊎ (x ≡ 0x05))) → newLife x ≡ true
-    from f = ⊎-elim (λ z. rw z refl) (λ g. ⊎-elim (λ z. rw z refl) (λ h. ⊎-elim (λ z. rw z refl) (λ z. rw z refl) h) g) f
-
 pub rule-says : (v : List ℕ) → (fitsRecord v ≡ true) ↔ (Long 1 16 v × (wellFormed v ≡ true))
 unfolding fitsRecord
 rule-says v = (
@@ -137,7 +120,7 @@ file-from i l r two one e =
       not-7FFF = a .1;
       not-FFFF = a .2;
       life-long = one;
-      life-cycle = life-says (first l) .0 (sym (ap newLife (first-is l)) ∙ q .0);
+      life-cycle = sym (ap newLife (first-is l)) ∙ q .0;
       rule-long = b .0;
       rule-formed = b .1;
     }
@@ -145,7 +128,7 @@ file-from i l r two one e =
 pub file-to : (i l r : List ℕ) → FileData i l r → fileTest i l r ≡ true
 file-to i l r f =
     and (ap goodIdentifier (pair-is i (f .identifier-long)) ∙ identifier-says (number i) .1 (f .not-3FFF, f .not-7FFF, f .not-FFFF))
-    (and (ap newLife (first-is l) ∙ life-says (first l) .1 (f .life-cycle)) (rule-says r .1 (f .rule-long, f .rule-formed)))
+    (and (ap newLife (first-is l) ∙ f .life-cycle) (rule-says r .1 (f .rule-long, f .rule-formed)))
 
 -- records
 pub structure-says : (v : List ℕ) → (hasRecords (first v) ≡ true) ↔ Structured v

@@ -9,6 +9,7 @@ use mathlib.Core.Logic.{_↔_, _⊎_}
 use lib.ListN.{length, drop}
 use Rattle.laws.specs.Lists.{part}
 use Rattle.rules.specs.Descriptor.{classOf, df, ef, structureOf}
+use Rattle.rules.specs.Life.{newLife}
 use Rattle.rules.specs.Rule.{wellFormed}
 use Rattle.template.specs.declared.Data.{Data}
 use Rattle.template.specs.declared.Data.the-variants.{Df, Ef, Bad}
@@ -66,14 +67,15 @@ abbrev pub NameLong : Optional → Type 0
 NameLong absent = Unit
 NameLong (sent v) = Long 1 16 v
 
--- 83 (2 bytes), not 3FFF, 7FFF or FFFF; 8A (1), a life cycle of 01, 03, 04 or 05; 8C (1-16), a well formed rule
+-- 83 (2 bytes), not 3FFF, 7FFF or FFFF; 8A (1), a life cycle that CREATE takes (rules/specs/Bytes lists them); 8C (1-16), a well
+-- formed rule
 pub record FileData (identifier life rule : List ℕ) : Type 0 where
   pub identifier-long : length identifier ≡ 2
   pub not-3FFF : number identifier ≡ 0x3FFF → ⊥
   pub not-7FFF : number identifier ≡ 0x7FFF → ⊥
   pub not-FFFF : number identifier ≡ 0xFFFF → ⊥
   pub life-long : length life ≡ 1
-  pub life-cycle : (first life ≡ 0x01) ⊎ ((first life ≡ 0x03) ⊎ ((first life ≡ 0x04) ⊎ (first life ≡ 0x05)))
+  pub life-cycle : newLife (first life) ≡ true
   pub rule-long : Long 1 16 rule
   pub rule-formed : wellFormed rule ≡ true
 
