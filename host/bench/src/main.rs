@@ -19,7 +19,7 @@ use std::process::ExitCode;
 use std::time::Duration;
 
 use card::lent;
-use cases::worst;
+use cases::worst::{self, Worst};
 use clock::{measure, measure_copy, Times};
 use work::{Call, Task};
 
@@ -62,7 +62,7 @@ fn measure_all(budget: Duration, shape: &str) -> io::Result<()> {
         if !title.contains(shape) {
             continue;
         }
-        let images = SIZES.map(|slots| worst::cards_of(slots).swap_remove(number).image);
+        let images = SIZES.map(|slots| shapes(slots).swap_remove(number).image);
         writeln!(out, "\n{title}\n{}", table::columns(&SIZES))?;
         for task in Task::ALL {
             let cells = images.each_ref().map(|image| cell(task, image, budget));
@@ -85,8 +85,15 @@ fn read(arguments: &[OsString]) -> Option<(Duration, String)> {
     Some((Duration::from_millis(milliseconds), shape))
 }
 
+/// The cards of a size that are measured.
+fn shapes(slots: usize) -> Vec<Worst> {
+    let mut shapes = worst::cards_of(slots);
+    shapes.extend(worst::slow_of(slots));
+    shapes
+}
+
 fn titles() -> Vec<&'static str> {
-    worst::cards_of(16).into_iter().map(|worst| worst.title).collect()
+    shapes(16).into_iter().map(|worst| worst.title).collect()
 }
 
 /// Measures a task on a card, by the proved card and by the model.
