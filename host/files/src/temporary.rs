@@ -52,24 +52,28 @@ pub fn clean_up(disk: &dyn Disk, place: &Place, held: Option<&File>) {
     for entry in entries.flatten() {
         let name = entry.file_name();
         let name = name.to_string_lossy();
-        if name.starts_with(&start) && name.ends_with(END) && is_left(&entry.path(), held) {
-            let _ = disk.remove(&entry.path());
+        if name.starts_with(&start) && name.ends_with(END) {
+            remove_left(disk, &entry.path(), held);
         }
     }
 }
 
-/// Whether nobody is writing a temporary file.
-fn is_left(path: &Path, held: Option<&File>) -> bool {
-    let Ok(found) = fs::symlink_metadata(path) else { return false };
-    let same = |file: &File| file.metadata().is_ok_and(|own| is_same(&own, &found));
-    // A second name of the held file: it must not be opened, since closing it
-    // would drop the lock.
-    if held.is_some_and(same) {
-        return true;
+/// Removes a temporary file that nobody is writing. Its lock is held until it
+/// is gone: who has just made it and has no lock yet gets none, and takes
+/// another name.
+fn remove_left(disk: &dyn Disk, path: &Path, held: Option<&File>) {
+    let Ok(found) = fs::symlink_metadata(path) else { return };
+    let is_found = |file: &File| file.metadata().is_ok_and(|own| is_same(&own, &found));
+    // A second name of the held file must not be opened: closing it would
+    // drop the lock on that.
+    if held.is_some_and(is_found) {
+        let _ = disk.remove(path);
+    } else if found.is_file() {
+        let Ok(file) = OpenOptions::new().read(true).write(true).open(path) else { return };
+        if matches!(system::try_lock(&file, Lock::Alone), Ok(true)) {
+            let _ = disk.remove(path);
+        }
     }
-    let open = || OpenOptions::new().read(true).write(true).open(path);
-    found.is_file()
-        && open().is_ok_and(|file| matches!(system::try_lock(&file, Lock::Alone), Ok(true)))
 }
 
 /// Whether a file is still what its name means.
