@@ -1,7 +1,8 @@
 //! Several processes on one card: each waits for the other, and nothing is
 //! lost.
 
-use std::process::Stdio;
+use std::io::{BufRead, BufReader};
+use std::process::{Child, Stdio};
 use std::time::{Duration, Instant};
 
 use files::{Held, Use};
@@ -42,6 +43,16 @@ fn a_thousand_commands_of_two_processes_are_all_kept() {
     assert_eq!(folder.names(), ["card", "script-0", "script-1"], "no temporary file is left");
 }
 
+/// Starts the program and waits until it says that it waits; gives it and what
+/// it said.
+fn waiting(folder: &Folder, arguments: &[&str]) -> (Child, String) {
+    let mut child = folder.command(arguments).stderr(Stdio::piped()).spawn().expect("it starts");
+    let mut said = String::new();
+    let err = child.stderr.take().expect("it has a standard error");
+    BufReader::new(err).read_line(&mut said).expect("it says something or ends");
+    (child, said)
+}
+
 #[test]
 fn who_waits_says_for_whom_and_gets_the_card_then() {
     let folder = Folder::new("waits");
@@ -52,15 +63,12 @@ fn who_waits_says_for_whom_and_gets_the_card_then() {
         [&["run", "script", "--image", "card"][..], &["show", "card"], &["new", "card", "--force"]]
     {
         let held = hold(&folder, Use::Write);
-        let mut child =
-            folder.command(arguments).stderr(Stdio::piped()).spawn().expect("it starts");
-        std::thread::sleep(Duration::from_millis(100));
+        let (mut child, said) = waiting(&folder, arguments);
+        let told = format!("uicc: card: waiting for process {own} (");
+        assert!(said.starts_with(&told), "{arguments:?}: {said}");
         assert!(child.try_wait().expect("it runs").is_none(), "{arguments:?} did not wait");
         drop(held);
-        let ended = child.wait_with_output().expect("it ends");
-        let err = String::from_utf8_lossy(&ended.stderr);
-        let told = format!("uicc: card: waiting for process {own} (");
-        assert!(ended.status.success() && err.starts_with(&told), "{arguments:?}: {err}");
+        assert!(child.wait().expect("it ends").success(), "{arguments:?}");
     }
 }
 
@@ -71,10 +79,8 @@ fn readers_share_and_who_writes_waits_for_them() {
     folder.write("script", "00040000\n");
     let held = hold(&folder, Use::Read);
     assert!(folder.done(&["show", "card"]).starts_with("64 slots"));
-    let writer = &["run", "script", "--image", "card"];
-    let mut child = folder.command(writer).spawn().expect("it starts");
-    std::thread::sleep(Duration::from_millis(100));
-    assert!(child.try_wait().expect("it runs").is_none(), "it did not wait");
+    let (mut child, said) = waiting(&folder, &["run", "script", "--image", "card"]);
+    assert!(said.contains("waiting for process"), "{said}");
     drop(held);
     assert!(child.wait().expect("it ends").success());
     assert!(folder.done(&["show", "card"]).contains("deactivated"));
