@@ -38,6 +38,9 @@ pub enum Trouble {
     Missing,
     /// There is a file of this name already.
     Exists,
+    /// What has this name is no regular file, in words: it can be read at most
+    /// once, and never be replaced.
+    Irregular(String),
     /// Anything else, in words.
     Refused(String),
 }
@@ -54,7 +57,7 @@ impl fmt::Display for Trouble {
         match self {
             Trouble::Missing => f.write_str("there is no such file"),
             Trouble::Exists => f.write_str("there is such a file already"),
-            Trouble::Refused(why) => f.write_str(why),
+            Trouble::Irregular(why) | Trouble::Refused(why) => f.write_str(why),
         }
     }
 }

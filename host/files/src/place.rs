@@ -1,8 +1,10 @@
 //! Which file a name means. Links are followed to the file itself, so that it
 //! is replaced and not the link; what is no regular file is refused.
 
+use std::ffi::{OsStr, OsString};
 use std::fs::{self, FileType, Metadata};
 use std::io;
+use std::os::unix::ffi::OsStrExt;
 use std::os::unix::fs::FileTypeExt;
 use std::path::{Path, PathBuf};
 
@@ -27,8 +29,8 @@ pub struct Place {
 pub fn find(name: &Path) -> Result<Place, Trouble> {
     let mut path = name.to_path_buf();
     for followed in 0..=MOST_LINKS {
+        let last = last_of(&path)?;
         let folder = folder_of(&path)?;
-        let last = path.file_name().ok_or_else(|| refused("this is no name of a file"))?;
         path = folder.join(last);
         match fs::symlink_metadata(&path) {
             Err(error) if error.kind() == io::ErrorKind::NotFound => {
@@ -57,11 +59,21 @@ pub fn must_be_regular(kind: FileType) -> Result<(), Trouble> {
         _ if kind.is_socket() => "a socket",
         _ => "a device",
     };
-    Err(refused(&format!("this is {what} and no regular file")))
+    Err(Trouble::Irregular(format!("this is {what} and no regular file")))
 }
 
 fn refused(why: &str) -> Trouble {
     Trouble::Refused(why.to_string())
+}
+
+/// The last part of a name. One that ends in a slash or a dot names a folder;
+/// the standard library would pass over that end.
+fn last_of(path: &Path) -> Result<OsString, Trouble> {
+    let bytes = path.as_os_str().as_bytes();
+    match bytes.rsplit(|byte| *byte == b'/').next() {
+        None | Some(b"" | b"." | b"..") => Err(refused("this is no name of a file")),
+        Some(last) => Ok(OsStr::from_bytes(last).to_os_string()),
+    }
 }
 
 /// The folder of a name, without links.
@@ -76,7 +88,8 @@ fn folder_of(path: &Path) -> Result<PathBuf, Trouble> {
 /// what a process has open, which may have no name that could be taken.
 fn next(link: &Path, folder: &Path) -> Result<PathBuf, Trouble> {
     if folder.starts_with("/proc") {
-        return Err(refused("this is a process's open file, and no name of a regular file"));
+        let why = "this is a process's open file, and no name of a regular file";
+        return Err(Trouble::Irregular(why.to_string()));
     }
     let target = fs::read_link(link).map_err(|error| Trouble::Refused(error.to_string()))?;
     Ok(folder.join(target))

@@ -21,7 +21,6 @@ use std::process::ExitCode;
 
 use arguments::{Fresh, Wish};
 use card::{largest_total, Card, MakeError};
-use files::Use;
 
 /// What was done: what is to be printed, and the file that was saved.
 struct Done {
@@ -64,7 +63,7 @@ fn carry_out(wish: Wish) -> Result<Done, Failure> {
             .map_err(Failure::Refused)
         }
         Wish::Show { image } => {
-            let (_, card) = store::open(&image, Use::Read).map_err(Failure::Refused)?;
+            let card = store::look(&image).map_err(Failure::Refused)?;
             let text = tree::show(&card).map_err(Failure::Refused)?;
             Ok(Done { text, saved: None })
         }

@@ -3,7 +3,6 @@
 use std::path::Path;
 
 use card::{Card, State};
-use files::Use;
 
 use crate::arguments::Fresh;
 use crate::script::Step;
@@ -20,7 +19,7 @@ pub fn on_fresh(card: &Card, fresh: &Fresh, steps: &[Step], state: &State) -> Re
 /// the first look at it until it is saved. Nothing is told before the image
 /// is safe.
 pub fn on_image(image: &Path, steps: &[Step], state: &State) -> Result<Done, String> {
-    let (held, mut card) = store::open(image, Use::Write)?;
+    let (held, mut card) = store::open(image)?;
     let before = card.clone();
     let told = play(&mut card, steps, state)?;
     let name = image.display();

@@ -1,30 +1,61 @@
 //! Cards in files. `files` locks and saves; here are the card in the bytes,
 //! and the words for people.
 
+use std::fs::File;
+use std::io::{self, Read};
 use std::path::Path;
 
 use card::{image_length, Card, MOST_SLOTS};
 use files::disk::Real;
 use files::{Held, Saved, Trouble, Use};
 
-/// Opens the file of a card and reads it. The file is locked as long as it is
-/// held; where another process uses it, that is told, and waited for.
-pub fn open(path: &Path, purpose: Use) -> Result<(Held, Card), String> {
+/// The bytes of the longest image.
+const LONGEST: u64 = image_length(MOST_SLOTS) as u64;
+
+/// Opens the file of a card that is to be saved, and reads it. The file is
+/// locked as long as it is held; where another process uses it, that is told,
+/// and waited for.
+pub fn open(path: &Path) -> Result<(Held, Card), String> {
+    let mut held = hold(path, Use::Write).map_err(|trouble| not_opened(path, trouble))?;
+    let card = card_of(path, held.read(LONGEST + 1))?;
+    Ok((held, card))
+}
+
+/// The card of a file that is only looked at. What is no regular file, as a
+/// pipe, is read once; nobody replaces it, so that it needs no lock.
+pub fn look(path: &Path) -> Result<Card, String> {
+    match hold(path, Use::Read) {
+        Ok(mut held) => card_of(path, held.read(LONGEST + 1)),
+        Err(Trouble::Irregular(_)) => card_of(path, read_once(path)),
+        Err(trouble) => Err(not_opened(path, trouble)),
+    }
+}
+
+fn read_once(path: &Path) -> io::Result<Vec<u8>> {
+    let mut image = Vec::new();
+    File::open(path)?.take(LONGEST + 1).read_to_end(&mut image)?;
+    Ok(image)
+}
+
+fn not_opened(path: &Path, trouble: Trouble) -> String {
     let name = path.display();
-    let mut held = hold(path, purpose).map_err(|trouble| match trouble {
+    match trouble {
         Trouble::Missing => format!("{name}: there is no such file; uicc new makes one"),
         _ => format!("{name}: {trouble}"),
-    })?;
-    let longest = image_length(MOST_SLOTS);
-    let image = held.read(longest as u64 + 1).map_err(|error| format!("{name}: {error}"))?;
-    if image.len() > longest {
-        return Err(format!("{name}: this is no card image: it has more than {longest} bytes"));
+    }
+}
+
+/// The card of the bytes that were read, if they are one.
+fn card_of(path: &Path, image: io::Result<Vec<u8>>) -> Result<Card, String> {
+    let name = path.display();
+    let image = image.map_err(|error| format!("{name}: {error}"))?;
+    if image.len() as u64 > LONGEST {
+        return Err(format!("{name}: this is no card image: it has more than {LONGEST} bytes"));
     }
     if !image.starts_with(b"UFT") {
         return Err(format!("{name}: this is no card image: it does not begin with UFT"));
     }
-    let card = Card::from_image(image).map_err(|error| format!("{name}: {error}"))?;
-    Ok((held, card))
+    Card::from_image(image).map_err(|error| format!("{name}: {error}"))
 }
 
 /// Puts an image in the place of the held file.

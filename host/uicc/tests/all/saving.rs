@@ -116,9 +116,7 @@ fn what_is_no_regular_file_is_refused() {
     let names = folder.names();
     for (name, told) in refused {
         let kind = folder.path(name).symlink_metadata().expect("it is there").file_type();
-        for arguments in
-            [&["run", "script", "--image", name][..], &["new", name, "--force"], &["show", name]]
-        {
+        for arguments in [&["run", "script", "--image", name][..], &["new", name, "--force"]] {
             let err = folder.refused(1, arguments);
             assert!(err.contains(told), "{arguments:?}: {err}");
         }
@@ -126,6 +124,20 @@ fn what_is_no_regular_file_is_refused() {
         assert_eq!(after, kind, "{name} was replaced");
     }
     assert_eq!(folder.names(), names);
+    for name in ["card/", "card/.", "."] {
+        folder.refused(1, &["run", "script", "--image", name]);
+    }
+}
+
+/// What is only looked at may come through a pipe.
+#[test]
+fn a_pipe_is_shown() {
+    let folder = with_card("pipe", 0o644);
+    for line in ["cat card | $UICC show /dev/stdin", "$UICC show /dev/fd/0 <card"] {
+        let ran = folder.shell(line);
+        assert!(ran.status == 0 && ran.out.starts_with("64 slots"), "{line}: {}", ran.err);
+    }
+    assert_eq!(folder.shell("$UICC show /dev/null").status, 1);
 }
 
 #[test]
