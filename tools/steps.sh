@@ -21,6 +21,8 @@ need() {
 
 rust_wanted=$(sed -nE 's/^rust-version = "([0-9.]+)"$/\1/p' host/Cargo.toml)
 packaged_cargo=/usr/bin/cargo
+# the README and the tests look for the programs there, whatever the user has set
+export CARGO_TARGET_DIR="$PWD/host/target"
 
 # Reads a version's numbers from what a program or a package list says.
 version() {
