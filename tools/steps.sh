@@ -8,10 +8,10 @@ give_up() {
     exit 2
 }
 
-# PACKAGE: installs it.
+# PACKAGE...: installs them.
 install() {
-    echo "$me: installing $1"
-    { apt-get update && apt-get install -y "$1"; } >/dev/null || give_up "$1 cannot be installed"
+    echo "$me: installing $*"
+    { apt-get update && apt-get install -y "$@"; } >/dev/null || give_up "$* cannot be installed"
 }
 
 # COMMAND PACKAGE: installs the package where the command is missing.
@@ -19,6 +19,7 @@ need() {
     command -v "$1" >/dev/null || install "$2"
 }
 
+. tools/machine.sh
 rust_wanted=$(sed -nE 's/^rust-version = "([0-9.]+)"$/\1/p' host/Cargo.toml)
 packaged_cargo=/usr/bin/cargo
 # the README and the tests look for the programs there, whatever the user has set
@@ -42,6 +43,7 @@ serves() {
     [ -x "$folder/rustc" ] || return 1
     new_enough "$("$1" --version 2>/dev/null | version)" || return 1
     new_enough "$("$folder/rustc" --version 2>/dev/null | version)" || return 1
+    has_library "$folder/rustc" || return 1
     cargo=$1
     export RUSTC="$folder/rustc" RUSTDOC="$folder/rustdoc"
 }
@@ -53,12 +55,14 @@ need_cargo() {
     for found in "$(command -v cargo)" "$packaged_cargo"; do
         if [ -n "$found" ] && serves "$found"; then return 0; fi
     done
-    echo "$me: there is no cargo $rust_wanted or newer"
+    echo "$me: there is no cargo $rust_wanted or newer${emulated:+ that builds for x86-64}"
+    add_architecture
     apt-get update >/dev/null || give_up "the lists of packages cannot be read"
     for package in cargo cargo-web; do
         if new_enough "$(apt-cache policy "$package" | sed -n 's/^ *Candidate: *//p' | version)"; then
-            install "$package"
-            serves "$packaged_cargo" || give_up "$package was installed, but $packaged_cargo is not new enough"
+            # shellcheck disable=SC2046
+            install "$package" $(library_package "$package")
+            serves "$packaged_cargo" || give_up "$package was installed, but $packaged_cargo does not serve"
             return 0
         fi
     done
@@ -68,5 +72,16 @@ need_cargo() {
 # The library of the proved code, as an archive and as a shared object.
 make_library() {
     rt staticlib abi &&
-        gcc -shared -o target/libhullplaiter.so -Wl,--whole-archive target/staticlib/libabi.a -Wl,--no-whole-archive
+        "$HULL_GCC" -shared -o target/libhullplaiter.so -Wl,--whole-archive target/staticlib/libabi.a -Wl,--no-whole-archive
+}
+
+# The host's programs, in host/target/release. Cargo puts those of another machine elsewhere; there they are links.
+make_programs() {
+    local program
+    (cd host && "$cargo" build --offline --release) || return
+    [ -n "$emulated" ] || return 0
+    find "host/target/$x86_64/release" -maxdepth 1 -type f -executable -printf '%f\n' |
+        while IFS= read -r program; do
+            ln -sf "../$x86_64/release/$program" "host/target/release/$program" || return
+        done
 }
