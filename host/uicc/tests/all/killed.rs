@@ -1,15 +1,16 @@
 //! Processes that end in the middle of a save: the card is the old one or the
 //! new one, and the next save removes what is left.
 
-use std::time::Duration;
+use std::time::Instant;
 
 use crate::folder::Folder;
 
 const KILLS: u64 = 150;
 
-/// A number without a pattern, the same in every run.
-fn draw(number: u64) -> u64 {
-    (number + 1).wrapping_mul(0x9E37_79B9_7F4A_7C15) >> 40
+/// A number up to 1.2 without a pattern, the same in every run.
+fn draw(number: u64) -> f64 {
+    let drawn = (number + 1).wrapping_mul(0x9E37_79B9_7F4A_7C15) >> 48;
+    f64::from(drawn as u16) * 1.2 / f64::from(u16::MAX)
 }
 
 #[test]
@@ -22,13 +23,18 @@ fn a_kill_leaves_the_old_card_or_the_new_one() {
     folder.write("up", "00440000\n");
     folder.done(&["run", "down", "--image", "card"]);
     let inactive = folder.read("card");
+    // The kills are spread over the time of a run and a little more, so that
+    // they meet every part of it on a slow machine too.
+    let start = Instant::now();
+    folder.done(&["run", "up", "--image", "card"]);
+    let whole = start.elapsed();
     let mut left = 0;
     for number in 0..KILLS {
         let old = folder.read("card");
         let script = if old == active { "down" } else { "up" };
         let mut child =
             folder.command(&["run", script, "--image", "card"]).spawn().expect("it starts");
-        std::thread::sleep(Duration::from_micros(500 + draw(number) % 3500));
+        std::thread::sleep(whole.mul_f64(draw(number)));
         child.kill().expect("it can be killed");
         child.wait().expect("it ends");
         let found = folder.read("card");
