@@ -49,10 +49,10 @@ register_emulator() {
     emulator=$(command -v qemu-x86_64) || return 0
     [ -e "$binfmt/register" ] || mount -t binfmt_misc binfmt_misc "$binfmt" || return 0
     [ ! -e "$binfmt/hullplaiter" ] || return 0
-    echo "$me: from now on $emulator runs the x86-64 programs of this machine (binfmt_misc)"
     magic='\x7fELF\x02\x01\x01\x00\x00\x00\x00\x00\x00\x00\x00\x00\x02\x00\x3e\x00'
     mask='\xff\xff\xff\xff\xff\xfe\xfe\x00\xff\xff\xff\xff\xff\xff\xff\xff\xfe\xff\xff\xff'
     printf '%s\n' ":hullplaiter:M::$magic:$mask:$emulator:" >"$binfmt/register" || return 0
+    echo "$me: from now on $emulator runs the x86-64 programs of this machine (binfmt_misc)"
 }
 
 # Makes x86-64 programs start, by the least that is missing, and lets cargo build such programs.
@@ -62,8 +62,6 @@ need_x86_64() {
     HULL_GCC='x86_64-linux-gnu-gcc'
     command -v "$HULL_GCC" >/dev/null || install gcc-x86-64-linux-gnu libc6-dev-amd64-cross
     export CARGO_BUILD_TARGET=$x86_64 CARGO_TARGET_X86_64_UNKNOWN_LINUX_GNU_LINKER=$HULL_GCC
-    # the C library takes AVX where the processor has it, and emulated that takes nearly twice as long
-    export QEMU_CPU=${QEMU_CPU:-qemu64}
     for step in true register_emulator install_emulator register_emulator; do
         "$step"
         if starts; then
