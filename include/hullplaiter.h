@@ -17,6 +17,10 @@
  *
  * Every call takes any bytes of any length, always returns, and its result depends on its arguments alone.
  *
+ * Stack. A call takes at most HULL_STACK_BYTES of the calling thread's stack, its own frame and all below it; a thread
+ * needs that much left when it calls. The library asks for no more, checks nothing and cannot refuse: with less the
+ * system ends the process, or, where no guard page stands below the stack, memory below it is overwritten.
+ *
  * Answers (01, "Making and reporting"):
  *   0  done; for a command its word tells
  *   1  the image is not sound (command, report): word 0000, numbers 0, image as it came
@@ -41,6 +45,9 @@ extern "C" {
 #define HULL_SLOTS_LEAST 2u
 #define HULL_SLOTS_MOST 1023u
 #define HULL_IMAGE_BYTES(slots) (HULL_HEADER_BYTES + HULL_RECORD_BYTES * (size_t)(slots))
+
+/* Stack that a call takes at most. The compiled library takes 34256 bytes; the rest is left for other builds of it. */
+#define HULL_STACK_BYTES 40960u
 
 #define HULL_DONE 0u
 #define HULL_NOT_SOUND 1u

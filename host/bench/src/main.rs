@@ -13,12 +13,13 @@ mod clock;
 mod table;
 mod work;
 
+use std::ffi::OsString;
 use std::io::{self, Write};
 use std::process::ExitCode;
 use std::time::Duration;
 
 use card::lent;
-use cases::worst;
+use cases::worst::{self, Worst};
 use clock::{measure, measure_copy, Times};
 use work::{Call, Task};
 
@@ -33,31 +34,35 @@ pub struct Cell {
 }
 
 fn main() -> ExitCode {
-    let arguments: Vec<String> = std::env::args().skip(1).collect();
+    let arguments: Vec<_> = std::env::args_os().skip(1).collect();
     let Some((budget, shape)) = read(&arguments) else {
-        eprintln!("{USAGE}");
+        console::complain(USAGE);
         return ExitCode::from(2);
     };
-    match measure_all(budget, &shape) {
-        // The reader of a pipe may have had enough.
-        Err(error) if error.kind() != io::ErrorKind::BrokenPipe => {
-            eprintln!("bench: {error}");
+    if !titles().iter().any(|title| title.contains(&shape)) {
+        console::complain(&format!("bench: no shape has {shape:?}; there are:"));
+        titles().iter().for_each(|title| console::complain(&format!("  {title}")));
+        return ExitCode::from(2);
+    }
+    match console::unless_reader_left(measure_all(budget, &shape)) {
+        Ok(()) => ExitCode::SUCCESS,
+        Err(error) => {
+            console::complain(&format!("bench: {error}"));
             ExitCode::FAILURE
         }
-        _ => ExitCode::SUCCESS,
     }
 }
 
 /// Measures and prints, shape by shape, those whose title has the word.
 fn measure_all(budget: Duration, shape: &str) -> io::Result<()> {
-    let mut out = io::stdout().lock();
+    let mut out = console::output()?;
     let copies = SIZES.map(|slots| measure_copy(16 + 64 * slots, budget));
     write!(out, "{}", table::head(&SIZES, &copies))?;
     for (number, title) in titles().into_iter().enumerate() {
         if !title.contains(shape) {
             continue;
         }
-        let images = SIZES.map(|slots| worst::cards_of(slots).swap_remove(number).image);
+        let images = SIZES.map(|slots| shapes(slots).swap_remove(number).image);
         writeln!(out, "\n{title}\n{}", table::columns(&SIZES))?;
         for task in Task::ALL {
             let cells = images.each_ref().map(|image| cell(task, image, budget));
@@ -67,21 +72,28 @@ fn measure_all(budget: Duration, shape: &str) -> io::Result<()> {
     out.flush()
 }
 
-fn read(arguments: &[String]) -> Option<(Duration, String)> {
+fn read(arguments: &[OsString]) -> Option<(Duration, String)> {
     let (mut milliseconds, mut shape) = (100, String::new());
     let mut words = arguments.iter();
     while let Some(word) = words.next() {
-        match word.as_str() {
-            "--milliseconds" => milliseconds = words.next()?.parse().ok()?,
-            "--shape" => shape = words.next()?.clone(),
+        match word.to_str()? {
+            "--milliseconds" => milliseconds = words.next()?.to_str()?.parse().ok()?,
+            "--shape" => shape = words.next()?.to_str()?.to_string(),
             _ => return None,
         }
     }
     Some((Duration::from_millis(milliseconds), shape))
 }
 
+/// The cards of a size that are measured.
+fn shapes(slots: usize) -> Vec<Worst> {
+    let mut shapes = worst::cards_of(slots);
+    shapes.extend(worst::slow_of(slots));
+    shapes
+}
+
 fn titles() -> Vec<&'static str> {
-    worst::cards_of(16).into_iter().map(|worst| worst.title).collect()
+    shapes(16).into_iter().map(|worst| worst.title).collect()
 }
 
 /// Measures a task on a card, by the proved card and by the model.

@@ -130,13 +130,13 @@ fn on_last_file(card: &mut Card, life_cycle: u8, ins: u8) -> Call {
 #[cfg(test)]
 mod tests {
     use super::*;
-    use cases::worst::cards_of;
+    use crate::shapes;
 
     /// Every command has its effect, but for those that a shape cannot have:
     /// no EF to terminate, nothing to select.
     #[test]
     fn the_commands_do_what_their_titles_say() {
-        for worst in cards_of(64) {
+        for worst in shapes(64) {
             let has_ef = worst.title.contains("identifier") || worst.title.contains("files");
             for task in Task::ALL {
                 let (mut image, call) = task.prepared(&worst.image);

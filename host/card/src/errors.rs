@@ -31,11 +31,10 @@ impl MakeError {
 impl fmt::Display for MakeError {
     fn fmt(&self, f: &mut fmt::Formatter<'_>) -> fmt::Result {
         match self {
-            MakeError::Length => f.write_str(
-                "the buffer fits no card: give it 16 + 64 N bytes, N slots from 2 to 1,023",
-            ),
+            MakeError::Length => f.write_str("a card has 2 to 1,023 slots, and this is no such"),
             MakeError::Total => f.write_str(
-                "the root's total does not fit the slots: choose from 1 to 64 (N - 1) for N slots",
+                "the root's total does not fit the slots: choose from 1 up to 64 bytes for each \
+                 slot but the root's",
             ),
             MakeError::Rule => f.write_str(
                 "the root's access rule is malformed: give 1 to 16 bytes, groups of an AM byte \

@@ -82,8 +82,8 @@ fn the_maker_refuses_in_its_order_and_says_what_to_do() {
     assert_eq!(refused(2, 64, &[0; 17]), Some(MakeError::Rule));
     assert_eq!(refused(2, 64, &[0x80]), Some(MakeError::Rule));
     for (error, answer, advice) in [
-        (MakeError::Length, 2, "16 + 64 N"),
-        (MakeError::Total, 3, "64 (N - 1)"),
+        (MakeError::Length, 2, "2 to 1,023 slots"),
+        (MakeError::Total, 3, "64 bytes for each slot but the root"),
         (MakeError::Rule, 4, "1 to 16 bytes"),
         (MakeError::Unknown(9), 9, "build both anew"),
     ] {

@@ -74,7 +74,7 @@ pub struct Made {
     pub case: Case,
 }
 
-/// The endless row of cases of a seed.
+/// The endless row of cases of a seed; after the last number comes 0.
 #[derive(Clone, Debug)]
 pub struct Generator {
     seed: u64,
@@ -112,7 +112,7 @@ impl Iterator for Generator {
 
     fn next(&mut self) -> Option<Made> {
         let made = self.case(self.next);
-        self.next += 1;
+        self.next = self.next.wrapping_add(1);
         Some(made)
     }
 }

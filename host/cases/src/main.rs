@@ -10,6 +10,7 @@
 
 #![forbid(unsafe_code)]
 
+use std::ffi::OsString;
 use std::io::{self, BufWriter, Write};
 use std::process::ExitCode;
 use std::time::Instant;
@@ -34,25 +35,23 @@ struct Wish {
 }
 
 fn main() -> ExitCode {
-    let arguments: Vec<String> = std::env::args().skip(1).collect();
+    let arguments: Vec<_> = std::env::args_os().skip(1).collect();
     let Some(wish) = read_wish(&arguments) else {
         let kinds: Vec<_> = Kind::MIX.iter().map(|(kind, _)| kind.name()).collect();
-        eprintln!("{USAGE}\nkinds: {}", kinds.join(" "));
+        console::complain(&format!("{USAGE}\nkinds: {}", kinds.join(" ")));
         return ExitCode::from(2);
     };
     let done = if wish.measure { measure(&wish) } else { print(&wish) };
-    match done {
+    match console::unless_reader_left(done) {
         Ok(()) => ExitCode::SUCCESS,
-        // The reader of a pipe may have had enough.
-        Err(error) if error.kind() == io::ErrorKind::BrokenPipe => ExitCode::SUCCESS,
         Err(error) => {
-            eprintln!("cases: {error}");
+            console::complain(&format!("cases: {error}"));
             ExitCode::FAILURE
         }
     }
 }
 
-fn read_wish(arguments: &[String]) -> Option<Wish> {
+fn read_wish(arguments: &[OsString]) -> Option<Wish> {
     let mut wish = Wish {
         seed: 1,
         count: 100,
@@ -62,9 +61,10 @@ fn read_wish(arguments: &[String]) -> Option<Wish> {
         results: false,
         measure: false,
     };
-    let mut words = arguments.iter();
+    // A word that is no text is none of those known.
+    let mut words = arguments.iter().map(|word| word.to_str().unwrap_or(""));
     while let Some(word) = words.next() {
-        match word.as_str() {
+        match word {
             "--near-misses" => wish.near_misses = true,
             "--results" => wish.results = true,
             "--measure" => wish.measure = true,
@@ -92,7 +92,7 @@ fn lines(wish: &Wish) -> Box<dyn Iterator<Item = Line>> {
 }
 
 fn print(wish: &Wish) -> io::Result<()> {
-    let mut out = BufWriter::new(io::stdout().lock());
+    let mut out = BufWriter::new(console::output()?);
     for line in lines(wish) {
         if wish.results {
             writeln!(out, "{} > {}", line.line(), line.result())?;
@@ -106,14 +106,16 @@ fn print(wish: &Wish) -> io::Result<()> {
 fn measure(wish: &Wish) -> io::Result<()> {
     let start = Instant::now();
     let lines: Vec<_> = lines(wish).collect();
+    if lines.is_empty() {
+        return Err(io::Error::other("there is no line to measure"));
+    }
     let making = start.elapsed().as_secs_f64();
     let start = Instant::now();
     let bytes: usize = lines.iter().map(|line| line.result().len()).sum();
     let running = start.elapsed().as_secs_f64();
     let (count, rate) = (lines.len(), lines.len() as f64 / running);
-    writeln!(
-        io::stdout(),
+    console::print(&format!(
         "{count} lines: made in {making:.2} s, run by the model in {running:.2} s, \
-         {rate:.0} lines a second, {bytes} characters of results"
-    )
+         {rate:.0} lines a second, {bytes} characters of results\n"
+    ))
 }

@@ -35,6 +35,12 @@ pub fn cards_of(slots: usize) -> Vec<Worst> {
     ]
 }
 
+/// Cards with so many slots on which soundness takes longer than its time in
+/// proportion (docs/SPEED.md); they are made on purpose, and only measured.
+pub fn slow_of(slots: usize) -> Vec<Worst> {
+    vec![Worst { title: "all names of one key", image: names_of_one_key(slots).encode() }]
+}
+
 /// A card being filled slot by slot.
 struct Filling {
     card: Card,
@@ -108,6 +114,26 @@ fn all_names(slots: usize) -> Card {
         let mut name = vec![0xA0; 14];
         name.extend(number.to_be_bytes());
         filling.add(0, Record { name, ..df(0x7000 + number, 1) });
+    }
+    filling.card
+}
+
+/// The same, but all names share the key by which soundness tells most names
+/// apart (crates/naming), and their last byte too, so that each is compared
+/// with all before it.
+fn names_of_one_key(slots: usize) -> Card {
+    let mut filling = Filling::new(slots);
+    while filling.card.room(0) >= 65 {
+        let number = filling.next as u32;
+        // The key is 32771 c + 18 d of the last two words, below 65521, with
+        // the first two held; 65521 is odd, so that some d ends in a 0 byte.
+        let least = 65521 - 32771 * 18 * number % 65521;
+        let ends_in_zero = |d: &u32| d % 256 == 0;
+        let d = (0..256).map(|turn| least + 65521 * turn).find(ends_in_zero).unwrap_or(least);
+        let (c, mut name) = (18 * 18 * number, vec![0xA0; 8]);
+        name.extend(c.to_be_bytes());
+        name.extend(d.to_be_bytes());
+        filling.add(0, Record { name, ..df(0x7000 + number as u16, 1) });
     }
     filling.card
 }

@@ -1,7 +1,7 @@
 //! The command line: what is wished for, and the help text.
 
 use std::ffi::OsString;
-use std::path::PathBuf;
+use std::path::{Path, PathBuf};
 
 use card::{largest_total, State, OPEN_RULE};
 
@@ -11,7 +11,8 @@ pub const HELP: &str = "\
 uicc: a test UICC's files, on the proved card
 
   uicc run SCRIPT [--image IMAGE] [card] [state]
-        plays a script on a fresh card, or on IMAGE, which is saved afterwards
+        plays a script on a fresh card, or on IMAGE, which is saved afterwards;
+        - is standard input
   uicc show IMAGE
         prints the tree of files, each directory's room as a bar
   uicc new IMAGE [card] [--force]
@@ -19,10 +20,13 @@ uicc: a test UICC's files, on the proved card
 
 A SCRIPT has one command a line, in hex; blanks do not matter, and # begins a
 comment. The whole script is read before its first command is played.
+An IMAGE is locked while it is used: who comes second waits and says for whom.
+It is saved as a whole or not at all, with its owner, group and mode.
+After -- nothing is an option.
 
 card, for a fresh one:
   --slots N         slots for files, the root among them, 2 to 1023 (64)
-  --total BYTES     the root's total, 1 to 64 (N - 1) (the largest)
+  --total BYTES     the root's total, at most 64 for each slot but the root's (that)
   --rule HEX        the root's access rule (7F00000000000000, all allowed)
 
 state, the conditions that hold while the script is played:
@@ -32,10 +36,14 @@ state, the conditions that hold while the script is played:
   --channels HEX    open channels, bits 1 to 3 (00)
 
 Exit status: 0 done, also when the card refused commands; 1 a file, an image or
-a script is wrong; 2 the command line is wrong.
+a script is wrong, or the output could not be written, and nothing was saved;
+2 the command line is wrong; 3 the card WAS saved, but the output could not be
+written: do not play the script again.
 ";
 
 const DEFAULT_SLOTS: usize = 64;
+/// The name that means standard input.
+pub const STANDARD_INPUT: &str = "-";
 
 /// A fresh card that is wished for.
 #[derive(Debug, PartialEq, Eq)]
@@ -80,27 +88,37 @@ fn wish(arguments: &[OsString]) -> Result<Wish, String> {
     let Some((verb, rest)) = arguments.split_first() else {
         return Err("say what to do: run, show or new".to_string());
     };
-    if arguments.iter().any(is_help) || verb == "help" {
+    if arguments.iter().take_while(|word| *word != "--").any(is_help) || verb == "help" {
         return Ok(Wish::Help);
     }
     match verb.to_str() {
         Some("run") => {
             let mut options = Options::read(rest, &RUN_OPTIONS)?;
             let script = options.only_file("a SCRIPT")?;
-            let image = options.take("--image").map(PathBuf::from);
+            let image = options.take("--image").map(|name| image(name.into())).transpose()?;
             if let (Some(_), Some(name)) = (&image, options.first_of(&CARD_OPTIONS)) {
                 return Err(format!("{name} is for a fresh card: leave it or --image out"));
             }
             Ok(Wish::Run { script, image, fresh: options.fresh()?, state: options.state()? })
         }
-        Some("show") => Ok(Wish::Show { image: Options::read(rest, &[])?.only_file("an IMAGE")? }),
+        Some("show") => {
+            Ok(Wish::Show { image: image(Options::read(rest, &[])?.only_file("an IMAGE")?)? })
+        }
         Some("new") => {
             let mut options = Options::read(rest, &NEW_OPTIONS)?;
-            let image = options.only_file("an IMAGE")?;
+            let image = image(options.only_file("an IMAGE")?)?;
             Ok(Wish::New { image, fresh: options.fresh()?, replace: options.force })
         }
         _ => Err(format!("{} is nothing to do: run, show or new", verb.to_string_lossy())),
     }
+}
+
+/// An image is kept in a file, and a stream is none.
+fn image(name: PathBuf) -> Result<PathBuf, String> {
+    if name == Path::new(STANDARD_INPUT) {
+        return Err("- is standard input, and an IMAGE is a file: ./- is the file -".to_string());
+    }
+    Ok(name)
 }
 
 const CARD_OPTIONS: [&str; 3] = ["--slots", "--total", "--rule"];
@@ -122,7 +140,9 @@ impl Options {
         let mut words = words.iter();
         while let Some(word) = words.next() {
             let name = word.to_string_lossy().into_owned();
-            if !name.starts_with("--") {
+            if name == "--" {
+                options.files.extend(words.by_ref().map(PathBuf::from));
+            } else if !name.starts_with("--") {
                 options.files.push(PathBuf::from(word));
             } else if !known.contains(&name.as_str()) {
                 return Err(format!("{name} is no option here"));

@@ -6,32 +6,28 @@ use card::{Card, State};
 
 use crate::arguments::Fresh;
 use crate::script::Step;
-use crate::{describe, store};
+use crate::{describe, store, Done};
 
 /// Plays on a fresh card, which is not kept.
-pub fn on_fresh(
-    card: &Card,
-    fresh: &Fresh,
-    steps: &[Step],
-    state: &State,
-) -> Result<String, String> {
+pub fn on_fresh(card: &Card, fresh: &Fresh, steps: &[Step], state: &State) -> Result<Done, String> {
     let mut card = card.clone();
     let told = play(&mut card, steps, state)?;
-    Ok(format!("{}\n{told}", fresh.describe()))
+    Ok(Done { text: format!("{}\n{told}", fresh.describe()), saved: None })
 }
 
-/// Plays on the card of an image file and saves it. Nothing is told before
-/// the image is safe.
-pub fn on_image(image: &Path, steps: &[Step], state: &State) -> Result<String, String> {
-    let mut card = store::load(image)?;
+/// Plays on the card of an image file and saves it; the file is locked from
+/// the first look at it until it is saved. Nothing is told before the image
+/// is safe.
+pub fn on_image(image: &Path, steps: &[Step], state: &State) -> Result<Done, String> {
+    let (held, mut card) = store::open(image)?;
     let before = card.clone();
     let told = play(&mut card, steps, state)?;
     let name = image.display();
     if card == before {
-        return Ok(format!("{name}\n{told}{name} is as it was\n"));
+        return Ok(Done { text: format!("{name}\n{told}{name} is as it was\n"), saved: None });
     }
-    store::save(image, card.image())?;
-    Ok(format!("{name}\n{told}{name} saved\n"))
+    store::save(image, held, card.image())?;
+    Ok(Done { text: format!("{name}\n{told}{name} saved\n"), saved: Some(image.to_path_buf()) })
 }
 
 /// A line for each command, and at the end the current directory.

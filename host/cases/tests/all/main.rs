@@ -9,3 +9,4 @@ mod determinism;
 mod histories;
 mod images;
 mod near;
+mod program;

@@ -2,9 +2,7 @@
 //! from fixed seeds, and on every near-miss.
 
 use std::collections::BTreeSet;
-use std::panic::resume_unwind;
-use std::thread;
-use std::time::Instant;
+use std::process::{Child, Command, Stdio};
 
 use crate::say;
 use cases::near::every_near_miss;
@@ -12,9 +10,10 @@ use cases::{Generator, Kind};
 use compare::shrink::smallest;
 use compare::{check_case, Pair, Tally};
 
-/// One row of cases for each of two threads.
+/// One row of cases for each of two processes, and how many make 100,000
+/// commands.
 const SEEDS: [u64; 2] = [20_261_115, 20_261_116];
-const COMMANDS_EACH: u64 = 100_000;
+const CASES_EACH: usize = 33_000;
 
 /// Compares a case; a disagreement fails the test with its smallest form.
 fn must_agree(case: &cases::Case, what: &str, tally: &mut Tally) {
@@ -23,31 +22,63 @@ fn must_agree(case: &cases::Case, what: &str, tally: &mut Tally) {
     }
 }
 
-/// Compares the cases of a seed until there were enough commands.
-fn compare_seed(seed: u64) -> (Tally, BTreeSet<Kind>) {
-    let (mut tally, mut kinds) = (Tally::default(), BTreeSet::new());
-    for (index, made) in Generator::new(seed).enumerate() {
-        if tally.commands >= COMMANDS_EACH {
-            break;
-        }
-        kinds.insert(made.kind);
-        must_agree(&made.case, &format!("case {index} of seed {seed}"), &mut tally);
+/// Starts the comparison of a seed's cases. It is a process and no thread,
+/// because an emulator is several times slower in a process with threads.
+fn started(seed: u64) -> Child {
+    let (seed, count) = (seed.to_string(), CASES_EACH.to_string());
+    let mut program = Command::new(env!("CARGO_BIN_EXE_compare"));
+    program.args(["--seed", &seed, "--count", &count]);
+    program.stdout(Stdio::piped()).stderr(Stdio::piped()).spawn().expect("it starts")
+}
+
+/// What the program tells it compared, in the order in which a tally is told.
+fn tally_of(told: &str) -> Tally {
+    let (_, counts) = told.split_once(" s: ").unwrap_or_else(|| panic!("no tally: {told}"));
+    let number = |part: &str| part.parse().ok();
+    let numbers: Vec<u64> =
+        counts.split(|c: char| !c.is_ascii_digit()).filter_map(number).collect();
+    let [cases, commands, effects, ledger_steps, makes, reports, replays] = numbers[..] else {
+        panic!("not a tally: {counts}");
+    };
+    Tally { cases, makes, commands, effects, reports, replays, ledger_steps }
+}
+
+#[test]
+fn a_tally_is_read_as_it_is_told() {
+    let tally = Tally {
+        cases: 1,
+        makes: 2,
+        commands: 3,
+        effects: 4,
+        reports: 5,
+        replays: 6,
+        ledger_steps: 7,
+    };
+    assert_eq!(tally_of(&format!("seed 8: all agree in 9.0 s: {tally}\n")), tally);
+}
+
+#[test]
+fn every_kind_is_among_the_cases_of_each_seed() {
+    for seed in SEEDS {
+        let mut kinds = BTreeSet::new();
+        let mut all = Generator::new(seed).take(CASES_EACH);
+        let full = all.any(|made| kinds.insert(made.kind) && kinds.len() == Kind::MIX.len());
+        assert!(full, "seed {seed}: {kinds:?}");
     }
-    (tally, kinds)
 }
 
 #[test]
 fn two_hundred_thousand_commands_agree() {
-    let start = Instant::now();
-    let threads = SEEDS.map(|seed| thread::spawn(move || compare_seed(seed)));
     let mut tally = Tally::default();
-    for (thread, seed) in threads.into_iter().zip(SEEDS) {
-        let (part, kinds) = thread.join().unwrap_or_else(|told| resume_unwind(told));
-        tally += part;
-        assert_eq!(kinds.len(), Kind::MIX.len(), "seed {seed}: {kinds:?}");
+    let runs = SEEDS.map(started).map(Child::wait_with_output);
+    for (run, seed) in runs.into_iter().zip(SEEDS) {
+        let run = run.expect("it ends");
+        let told = String::from_utf8_lossy(&run.stdout);
+        let complaint = String::from_utf8_lossy(&run.stderr);
+        assert!(run.status.success(), "seed {seed}: {}: {told}{complaint}", run.status);
+        say(&format!("proved card and model: {}", told.trim_end()));
+        tally += tally_of(&told);
     }
-    let seconds = start.elapsed().as_secs_f64();
-    say(&format!("proved card and model: all agree in {seconds:.1} s: {tally}"));
     assert!(tally.commands >= 200_000, "{tally}");
     assert!(tally.effects * 3 > tally.commands, "too few commands had an effect: {tally}");
     assert!(tally.ledger_steps * 2 > tally.commands, "too few beside the ledger: {tally}");

@@ -43,9 +43,42 @@ fn bad_calls_are_refused() {
         (&["--kind", "nothing"], 2, "kinds: history"),
         (&["--replay", "no/such/file"], 1, "no/such/file"),
         (&["--replay", env!("CARGO_BIN_EXE_compare")], 1, "valid UTF-8"),
+        (&["--count", "0"], 1, "nothing was compared"),
+        (&["--first", "18446744073709551615"], 1, "not so many cases"),
+        (&["--replay", "/dev/null"], 1, "nothing was compared"),
     ] {
         let run = compare(arguments);
         assert_eq!(run.status.code(), Some(status), "{arguments:?}");
         assert!(text(&run.stderr).contains(told), "{arguments:?}: {}", text(&run.stderr));
     }
+}
+
+/// A line that only the model knows compares nothing.
+#[test]
+fn a_replay_of_no_call_fails() {
+    let stored = model::vectors::stored_text().expect("the stored cases are there");
+    let line = stored.lines().find(|line| line.starts_with("W ")).expect("a W line");
+    let file = std::path::Path::new(env!("CARGO_TARGET_TMPDIR")).join("no-call");
+    std::fs::write(&file, line).expect("the file can be written");
+    let run = compare(&["--replay", &file.to_string_lossy()]);
+    assert_eq!(run.status.code(), Some(1), "{}", text(&run.stdout));
+    assert!(text(&run.stderr).contains("nothing was compared"), "{}", text(&run.stderr));
+}
+
+#[test]
+fn nothing_makes_it_panic() {
+    let line = |line: &str| {
+        let mut shell = Command::new("sh");
+        shell.args(["-c", line]).env("P", env!("CARGO_BIN_EXE_compare"));
+        let run = shell.output().expect("the shell starts");
+        assert!(!text(&run.stderr).contains("panicked"), "{line}");
+        run.status.code()
+    };
+    assert_eq!(line("$P --bogus 2>/dev/full"), Some(2));
+    assert_eq!(line("$P --count 1 >/dev/full 2>/dev/full"), Some(1));
+    assert_eq!(line("$P --count 1 >&-"), Some(1));
+    assert_eq!(line("$P --replay - <&-"), Some(1));
+    assert_eq!(line("$P $(printf '\\377')"), Some(2));
+    assert_eq!(line("$P --replay $(printf '\\377')"), Some(1));
+    assert_eq!(line("$P --count $(printf '\\377')"), Some(2));
 }

@@ -31,14 +31,35 @@ fn wrong_command_lines_are_refused() {
         (&["run", "script", "--channels", "100"], "this is not a hex number of 8 bits"),
         (&["run", "script", "--image", "card", "--total", "9"], "--total is for a fresh card"),
         (&["show", "card", "--force"], "--force is no option here"),
-        (&["new", "card", "--slots", "1"], "N slots from 2 to 1,023"),
-        (&["new", "card", "--slots", "18446744073709551615"], "N slots from 2 to 1,023"),
-        (&["new", "card", "--slots", "2", "--total", "65"], "choose from 1 to 64 (N - 1)"),
+        (&["new", "card", "--slots", "1"], "--slots 1: a card has 2 to 1,023 slots"),
+        (&["new", "card", "--slots", "18446744073709551615"], "2 to 1,023 slots"),
+        (
+            &["new", "card", "--slots", "2", "--total", "65"],
+            "with 2 slots the root's total is 1 to 64",
+        ),
         (&["new", "card", "--rule", "80"], "access rule is malformed"),
         (&["new", "card", "--rule", "8"], "this is not a row of hex bytes"),
+        (&["new", "-"], "an IMAGE is a file"),
+        (&["run", "script", "--image", "-"], "an IMAGE is a file"),
+        (&["run", "--", "script", "--image", "card"], "only one"),
     ] {
         let err = folder.refused(2, arguments);
         assert!(err.contains(told) && err.contains("uicc --help"), "{arguments:?}: {err}");
     }
     assert_eq!(folder.names(), ["script"]);
+}
+
+/// After -- nothing is an option, and no message speaks of what a user does
+/// not see.
+#[test]
+fn two_dashes_end_the_options() {
+    let folder = Folder::new("dashes");
+    folder.write("--script", "00040000\n");
+    folder.done(&["new", "--", "--card"]);
+    folder.done(&["run", "--image", "--card", "--", "--script"]);
+    assert!(folder.done(&["show", "--", "--card"]).contains("deactivated"));
+    for arguments in [&["new", "card", "--slots", "1"][..], &["new", "card", "--total", "99999"]] {
+        let err = folder.refused(2, arguments);
+        assert!(!err.contains("buffer") && !err.contains('N'), "{err}");
+    }
 }

@@ -6,4 +6,15 @@
 mod command_line;
 mod folder;
 mod images;
+mod killed;
+mod saving;
 mod scripts;
+mod sharing;
+mod told;
+
+/// Says past the capture of the test harness what was not tested; `./test`
+/// counts such lines.
+fn skip(what: &str) {
+    use std::io::Write;
+    let _ = writeln!(std::io::stderr(), "SKIPPED: {what}");
+}

@@ -94,3 +94,31 @@ fn a_bad_script_changes_nothing() {
     assert!(folder.refused(1, &["run", "missing"]).contains("missing"));
     assert!(folder.refused(1, &["run", "."]).contains("directory"));
 }
+
+/// Each command is played, whatever ends the lines; behind a CR alone it once
+/// was lost in the comment before it.
+#[test]
+fn every_end_of_a_line_is_known() {
+    let folder = Folder::new("line-ends");
+    for end in ["\n", "\r\n", "\r"] {
+        folder.write("script", format!("\u{FEFF}# a comment{end}00040000{end}00440000{end}"));
+        let out = folder.done(&["run", "script"]);
+        assert!(out.contains("   2  DEACTIVATE FILE       9000"), "{end:?}: {out}");
+        assert!(out.contains("   3  ACTIVATE FILE         9000"), "{end:?}: {out}");
+    }
+    for sign in ['\u{2028}', '\u{2029}'] {
+        folder.write("script", format!("00040000\n# a comment{sign}00440000\n"));
+        let err = folder.refused(1, &["run", "script"]);
+        assert!(err.contains("script:2:12: U+202"), "{err}");
+    }
+}
+
+#[test]
+fn a_script_may_come_from_standard_input() {
+    let folder = Folder::new("input");
+    folder.done(&["new", "card"]);
+    let ran = folder.fed(&["run", "-", "--image", "card"], "00040000\n");
+    assert!(ran.status == 0 && ran.out.ends_with("card saved\n"), "{}", ran.err);
+    let ran = folder.fed(&["run", "-"], "0004000\n");
+    assert!(ran.status == 1 && ran.err.contains("standard input:1:7: half"), "{}", ran.err);
+}

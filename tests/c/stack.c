@@ -1,0 +1,109 @@
+/* How much stack a call takes. Each call runs on a stack of its own with exactly HULL_STACK_BYTES and a page before it
+ * that must not be touched, so that a call that needs more ends the program by a signal; the stack is painted before,
+ * and how far the paint is gone tells what was used. */
+#define _GNU_SOURCE
+#include <stdio.h>
+#include <stdlib.h>
+#include <string.h>
+#include <sys/mman.h>
+#include <ucontext.h>
+#include <unistd.h>
+
+#include "hullplaiter.h"
+
+#define PAINT 0x5A
+#define SLOTS HULL_SLOTS_MOST
+
+static uint8_t image[HULL_IMAGE_BYTES(SLOTS)];
+static uint8_t *stack;
+static size_t most;
+static ucontext_t here, there;
+static const uint8_t rule[] = {0x7F, 0, 0, 0, 0, 0, 0, 0};
+
+static const uint8_t *bytes;
+static size_t length;
+static uint32_t given;
+
+static void make(void) { given = hull_make(image, sizeof image, 64 * (SLOTS - 1), rule, sizeof rule); }
+static void command(void) { given = hull_command(image, sizeof image, bytes, length, 0, 0, 0, 0); }
+static void sound(void) { given = hull_sound(image, sizeof image); }
+static void report(void)
+{
+    uint32_t numbers[4];
+    given = hull_report(image, sizeof image, numbers);
+}
+
+/* Runs a call on the painted stack; gives what it returned. */
+static uint32_t run(void (*call)(void))
+{
+    size_t clean = 0;
+    memset(stack, PAINT, HULL_STACK_BYTES);
+    getcontext(&there);
+    there.uc_stack.ss_sp = stack;
+    there.uc_stack.ss_size = HULL_STACK_BYTES;
+    there.uc_link = &here;
+    makecontext(&there, call, 0);
+    swapcontext(&here, &there);
+    while (clean < HULL_STACK_BYTES && stack[clean] == PAINT) clean++;
+    if (HULL_STACK_BYTES - clean > most) most = HULL_STACK_BYTES - clean;
+    return given;
+}
+
+static void must(const char *what, uint32_t got, uint32_t wanted)
+{
+    if (got != wanted) {
+        printf("stack: %s gave %X and not %X\n", what, (unsigned)got, (unsigned)wanted);
+        exit(1);
+    }
+}
+
+static uint32_t play(const uint8_t *one, size_t size)
+{
+    bytes = one;
+    length = size;
+    return run(command);
+}
+
+int main(void)
+{
+    /* a DF that takes files, with a name, and an EF */
+    uint8_t df[] = {0x00, 0xE0, 0x00, 0x00, 0x1E, 0x62, 0x1C, 0x82, 0x02, 0x78, 0x21, 0x83, 0x02, 0x7F, 0x00, 0x84, 0x02,
+                    0xA0, 0x00, 0x8A, 0x01, 0x05, 0x8C, 0x03, 0x06, 0x00, 0x00, 0x81, 0x03, 0x00, 0x00, 0x00, 0xC6, 0x01,
+                    0x00};
+    const uint8_t ef[] = {0x00, 0xE0, 0x00, 0x00, 0x15, 0x62, 0x13, 0x82, 0x02, 0x41, 0x21, 0x83, 0x02, 0x6F, 0x07, 0x8A,
+                          0x01, 0x05, 0x8C, 0x02, 0x01, 0x00, 0x80, 0x02, 0x00, 0x09};
+    const uint8_t root[] = {0x00, 0xA4, 0x00, 0x0C, 0x02, 0x3F, 0x00}, erase[] = {0x00, 0xE4, 0x00, 0x00, 0x02, 0x70, 0x00};
+    uint8_t bare[] = {0x00, 0x00, 0x00, 0x00};
+    const uint8_t instructions[] = {0x04, 0x44, 0xE8, 0xE6, 0xB0, 0xFE};
+    size_t page = (size_t)sysconf(_SC_PAGESIZE), size = (HULL_STACK_BYTES + page - 1) / page * page, level, i;
+    uint8_t *memory = mmap(NULL, size + page, PROT_READ | PROT_WRITE, MAP_PRIVATE | MAP_ANONYMOUS, -1, 0);
+    if (memory == MAP_FAILED || mprotect(memory, page, PROT_NONE) != 0) return 2;
+    stack = memory + page + size - HULL_STACK_BYTES;
+
+    must("make", run(make), HULL_DONE);
+    for (level = 0; level < 900; level++) {
+        uint32_t total = (uint32_t)(64 * (SLOTS - 2 - level));
+        df[13] = (uint8_t)(0x70 + level / 256), df[14] = (uint8_t)level;
+        df[17] = (uint8_t)(0xA0 + level / 256), df[18] = (uint8_t)level;
+        df[29] = (uint8_t)(total >> 16), df[30] = (uint8_t)(total >> 8), df[31] = (uint8_t)total;
+        must("CREATE of a DF", play(df, sizeof df), 0x9000);
+    }
+    must("CREATE of an EF", play(ef, sizeof ef), 0x9000);
+    must("report", run(report), HULL_DONE);
+    must("sound", run(sound), 1);
+    must("an empty command", play(NULL, 0), 0x6700);
+    for (i = 0; i + 2 < sizeof instructions; i++) {
+        bare[1] = instructions[i];
+        play(bare, sizeof bare);
+    }
+    must("SELECT", play(root, sizeof root), 0x9000);
+    must("DELETE", play(erase, sizeof erase), 0x9000);
+    bare[1] = 0xB0;
+    must("an unknown instruction", play(bare, sizeof bare), 0x6D00);
+    bare[1] = 0xFE;
+    must("TERMINATE CARD USAGE", play(bare, sizeof bare), 0x9000);
+    image[15] = 1;
+    must("a damaged image", play(root, sizeof root), (uint32_t)HULL_NOT_SOUND << 16);
+    printf("stack: the calls took at most %zu of the %u bytes that the header tells\n", most, (unsigned)HULL_STACK_BYTES);
+    return most > HULL_STACK_BYTES / 2 ? 0 : 1;
+}
