@@ -1,15 +1,15 @@
 -- What each C function promises: its number, and what it leaves of a buffer that is lent to be written. Each settles its
 -- result (proofs/Settled, `each-settles`).
 use mathlib.Core.Path.{_≡_}
-use mathlib.Core.Bool.{cond}
+use mathlib.Core.Bool.{true, false, cond}
 use mathlib.Core.List.{List}
 use Prim.Native.Nat.{ℕ}
 use Rattle.laws.specs.Settled.{Settles}
 use Rattle.sound.specs.Sound.{soundb}
 use Rattle.maker.specs.Making.{madeNumber, madeOf, leftBy}
-use Rattle.maker.specs.Reporting.{toldNumber, numbersOf, toldOf}
+use Rattle.maker.specs.Reporting.{reportedNumber, numbersOf, reportedOf}
 use Rattle.verdict.specs.declared.State.{State}
-use Rattle.card.specs.Command.{replyOf, imageOf}
+use Rattle.card.specs.Command.{answerWord, replyOf, imageOf}
 use Rattle.abi.specs.Numbers.{packed}
 
 abbrev pub HullMake : List ℕ → ℕ → List ℕ → ℕ → List ℕ → Type 0
@@ -19,7 +19,7 @@ abbrev pub HullCommand : List ℕ → List ℕ → State → ℕ → List ℕ �
 HullCommand img c st r left = (r ≡ packed (replyOf img c st)) × (left ≡ imageOf img c st)
 
 abbrev pub HullReport : List ℕ → ℕ → List ℕ → Type 0
-HullReport img r numbers = (r ≡ toldNumber (toldOf img)) × (numbers ≡ numbersOf (toldOf img))
+HullReport img r numbers = (r ≡ reportedNumber (reportedOf img)) × (numbers ≡ numbersOf (reportedOf img))
 
 -- whether the image is sound: 1 or 0
 abbrev pub HullSound : List ℕ → ℕ → Type 0
@@ -30,3 +30,13 @@ pub record EachSettles : Type 0 where
   pub command : (img c : List ℕ) (st : State) → Settles (ℕ × List ℕ) (λ p. HullCommand img c st (p .0) (p .1))
   pub report : (img : List ℕ) → Settles (ℕ × List ℕ) (λ p. HullReport img (p .0) (p .1))
   pub sound : (img : List ℕ) → Settles ℕ (HullSound img)
+
+-- the numbers that C sees (`hull-numbers`): a command on a damaged image gives 65536, on a sound one its word; hull_sound gives 1
+-- for a sound image and 0 for any other. Those of hull_make and hull_report are the maker's and the report's
+-- (maker/specs, `MakerAnswers`, `ReportAnswers`)
+pub record HullNumbers : Type 0 where
+  pub damaged : (img c : List ℕ) (st : State) (r : ℕ) (left : List ℕ) → HullCommand img c st r left → soundb img ≡ false → r ≡ 65536
+  pub word : (img c : List ℕ) (st : State) (r : ℕ) (left : List ℕ) → HullCommand img c st r left → soundb img ≡ true
+      → r ≡ answerWord (replyOf img c st)
+  pub sound : (img : List ℕ) (r : ℕ) → HullSound img r → soundb img ≡ true → r ≡ 1
+  pub unsound : (img : List ℕ) (r : ℕ) → HullSound img r → soundb img ≡ false → r ≡ 0

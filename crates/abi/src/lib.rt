@@ -1,10 +1,10 @@
-// The calls as C sees them (include/hullplaiter.h): each wraps one public call and gives 01's numbers for its answer. It
-// may use every crate below. No call asks anything of its caller, and none keeps anything from call to call.
+// The calls as C sees them (include/hullplaiter.h): each wraps one public call and gives 01's numbers for its answer.
+// No call asks anything of its caller, and none keeps anything from call to call.
 ghost use Rattle.abi.specs.Numbers.{stateOf};
 ghost use Rattle.abi.specs.Promises.{HullMake, HullCommand, HullReport, HullSound};
 use card::Reply;
 use maker::Made;
-use maker::Told;
+use maker::Reported;
 use rules::Sets;
 use verdict::State;
 
@@ -32,7 +32,8 @@ pub extern "C" fn hull_command(
     user: u16,
     channels: u8,
 ) -> u32
-    ensures { λ r. ⌜ HullCommand (now (image .entry)) (now (command .entry)) (stateOf messaging external user channels) r (now (image .exit)) ⌝ }
+    ensures { λ r. ⌜ HullCommand (now (image .entry)) (now (command .entry)) (stateOf messaging external user channels)
+        r (now (image .exit)) ⌝ }
 {
     let sets = Sets {
         messaging: messaging,
@@ -55,13 +56,13 @@ pub extern "C" fn hull_command(
 pub extern "C" fn hull_report(image: &[u8], numbers: &mut [u32; 4]) -> u32
     ensures { λ r. ⌜ HullReport (now (image .entry)) r (now (numbers .exit)) ⌝ }
 {
-    let told = maker::report::report(image);
-    match told {
-        Told::Numbers(f) => {
+    let reported = maker::report::report(image);
+    match reported {
+        Reported::Numbers(f) => {
             *numbers = [f.total, f.room, f.children, f.beneath];
             0
         }
-        Told::Unsound => {
+        Reported::Unsound => {
             *numbers = [0, 0, 0, 0];
             1
         }
@@ -73,7 +74,7 @@ pub extern "C" fn hull_report(image: &[u8], numbers: &mut [u32; 4]) -> u32
 pub extern "C" fn hull_sound(image: &[u8]) -> u32
     ensures { λ r. ⌜ HullSound (now (image .entry)) r ⌝ }
 {
-    if soundness::sound(image) {
+    if sound_test::sound(image) {
         return 1;
     }
     0

@@ -13,11 +13,13 @@ use Rattle.laws.proofs.Says.{same-or}
 use Rattle.laws.proofs.Splices.{getD-part}
 use Rattle.rules.specs.Descriptor.{df}
 use Rattle.image.specs.declared.Head.{Head}
-use Rattle.image.specs.Layout.{base, Within, Sized, recAt, recordBytes, putRecord, setLife, setCurrent, countOf, currentDfOf, currentEfOf, none}
+use Rattle.image.specs.Layout.{base, Within, Sized, recAt, recordBytes, putRecord, setLife, setCurrent, countOf, currentDfOf}
+use Rattle.image.specs.Layout.{currentEfOf, none}
 use Rattle.image.proofs.Records.{record-same, record-other}
 use Rattle.image.proofs.Made.{length-made}
 use Rattle.image.proofs.Lives.{life-same, life-other}
-use Rattle.image.proofs.Headers.{SameFront, SameHeader, same-front, same-df, same-ef, front-refl, front-trans, header-put, header-life, front-current, current-byte, df-current, ef-current, record-current}
+use Rattle.image.proofs.Headers.{SameFront, SameHeader, same-front, same-df, same-ef, front-refl, front-trans, header-put, header-life}
+use Rattle.image.proofs.Headers.{front-current, current-byte, df-current, ef-current, record-current}
 use Rattle.sound.specs.Table.{viewAt}
 use Rattle.sound.specs.Sound.{Sound}
 use Rattle.sound.specs.Kinship.{atOrBeneath, freeSlot}
@@ -25,7 +27,7 @@ use Rattle.sound.specs.Effects.{Creates, clearBelow, created, deleted}
 use Rattle.sound.proofs.Front.{sound-sized, sound-within}
 use Rattle.sound.proofs.Cleared.{header-clear, record-clear}
 use Rattle.verdict.specs.declared.Verdict.{Verdict}
-use Rattle.verdict.specs.declared.Verdict.the-variants.{Refuse, Select, Create, Delete, Live}
+use Rattle.verdict.specs.declared.Verdict.the-variants.{Refuse, Select, Create, Delete, SetLife}
 use Rattle.verdict.specs.Applied.{sentData, appliedOf}
 use Rattle.card.specs.After.{recordAfter, currentAfter, dfAfter, efAfter}
 use Rattle.card.proofs.Tells.{Tells}
@@ -40,7 +42,7 @@ module _ (img c : List ℕ) (sound : Sound img) where
   -- CREATE
   module _ (s : ℕ) (h : Head) (name rule : List ℕ) (low : s < countOf img) (k : Creates img s h name rule) where
     whole : length (recordBytes h name rule) ≡ 64
-    whole = length-made h name rule (k .good .named) (k .good .short)
+    whole = length-made h name rule (k .good .name-short) (k .good .rule-short)
 
     put : SameHeader img (putRecord img s (recordBytes h name rule))
     put = header-put img s (recordBytes h name rule) (within s low) whole
@@ -52,12 +54,14 @@ module _ (img c : List ℕ) (sound : Sound img) where
     unfolding created
     created-front = front-trans img _ _ (same-front img _ put) (front-current _ _ _ put-long)
 
-    created-record : (t : ℕ) → t < countOf img → recAt (created img s h name rule) t ≡ cond (eqb t s) (recordBytes h name rule) (recAt img t)
+    created-record :
+        (t : ℕ) → t < countOf img → recAt (created img s h name rule) t ≡ cond (eqb t s) (recordBytes h name rule) (recAt img t)
     unfolding created
     created-record t l =
         record-current _ _ _ put-long t (omega (arith, put .long, within t l .0))
         ∙ ⊎-elim
-        (λ e. ap (λ (x : ℕ). recAt (putRecord img s (recordBytes h name rule)) x) e ∙ record-same img s _ (within s low) whole ∙ sym (rw (eq-eqb t s e)))
+        (λ e. ap (λ (x : ℕ). recAt (putRecord img s (recordBytes h name rule)) x) e ∙ record-same img s _ (within s low) whole
+        ∙ sym (rw (eq-eqb t s e)))
         (λ z. record-other img s _ (within s low) whole t (within t l) z ∙ sym (rw (ne-eqb t s z)))
         (same-or t s)
 
@@ -80,7 +84,8 @@ module _ (img c : List ℕ) (sound : Sound img) where
         ∙ record-clear img (countOf img) (atOrBeneath (viewAt img) d) (sound-sized img sound) (countOf img) (omega arith) t l
 
   -- a life cycle
-  lived-record : (s life : ℕ) → s < countOf img → (t : ℕ) → t < countOf img → recAt (setLife img s life) t ≡ recordAfter img c (Live s life) t
+  lived-record :
+      (s life : ℕ) → s < countOf img → (t : ℕ) → t < countOf img → recAt (setLife img s life) t ≡ recordAfter img c (SetLife s life) t
   lived-record s life low t l = ⊎-elim
       (λ e. ap (λ (x : ℕ). recAt (setLife img s life) x) e ∙ life-same img s life (within s low) ∙ sym (rw (eq-eqb t s e, e)))
       (λ z. life-other img s life (within s low) t (within t l) z ∙ sym (rw (ne-eqb t s z)))
@@ -89,40 +94,41 @@ module _ (img c : List ℕ) (sound : Sound img) where
   pub records-after : (v : Verdict) → Tells img c v → (t : ℕ) → t < countOf img → recAt (appliedOf img c v) t ≡ recordAfter img c v t
   records-after (Refuse w) k t l = refl
   records-after (Select d e w) k t l = record-current img d e header-long t (within t l .0)
-  records-after (Create s h a b from to) k t l = created-record s h _ _ (k .0 .low) (k .1) t l
+  records-after (Create x) k t l = created-record (x .slot) (x .head) _ _ (k .0 .low) (k .1) t l
   records-after (Delete s) k t l = deleted-record s t l
-  records-after (Live s life) k t l = lived-record s life (k .0 .low) t l
+  records-after (SetLife s life) k t l = lived-record s life (k .0 .low) t l
 
   -- mark, version, slot count, zeros and the length are as they were
   pub front-after : (v : Verdict) → Tells img c v → SameFront img (appliedOf img c v)
   front-after (Refuse w) k = front-refl img
   front-after (Select d e w) k = front-current img d e header-long
-  front-after (Create s h a b from to) k = created-front s h _ _ (k .0 .low) (k .1)
+  front-after (Create x) k = created-front (x .slot) (x .head) _ _ (k .0 .low) (k .1)
   front-after (Delete s) k = deleted-front s
-  front-after (Live s life) k = same-front img _ (header-life img s life (within s (k .0 .low)))
+  front-after (SetLife s life) k = same-front img _ (header-life img s life (within s (k .0 .low)))
 
   -- the four bytes that tell what is current
   pub current-after : (v : Verdict) → Tells img c v → (k : ℕ) → k < 4 → getD (appliedOf img c v) (7 + k) 0 ≡ getD (currentAfter img v) k 0
   unfolding created deleted
   current-after (Refuse w) t k l = sym (getD-part img 7 4 k l)
   current-after (Select d e w) t k l = current-byte img d e header-long k l
-  current-after (Create s h a b from to) t k l = current-byte _ _ _ (put-long s h _ _ (t .0 .low) (t .1)) k l
+  current-after (Create x) t k l = current-byte _ _ _ (put-long (x .slot) (x .head) _ _ (t .0 .low) (t .1)) k l
   current-after (Delete s) t k l = current-byte _ _ _ (cleared-long s) k l
-  current-after (Live s life) t k l = header-life img s life (within s (t .0 .low)) .bytes (7 + k) (omega arith) ∙ sym (getD-part img 7 4 k l)
+  current-after (SetLife s life) t k l =
+      header-life img s life (within s (t .0 .low)) .bytes (7 + k) (omega arith) ∙ sym (getD-part img 7 4 k l)
 
   -- the current DF and the current EF
   pub df-after : (v : Verdict) → Tells img c v → currentDfOf (appliedOf img c v) ≡ dfAfter img v
   unfolding created deleted
   df-after (Refuse w) k = refl
   df-after (Select d e w) k = df-current img d e header-long
-  df-after (Create s h a b from to) k = df-current _ _ _ (put-long s h _ _ (k .0 .low) (k .1))
+  df-after (Create x) k = df-current _ _ _ (put-long (x .slot) (x .head) _ _ (k .0 .low) (k .1))
   df-after (Delete s) k = df-current _ _ _ (cleared-long s)
-  df-after (Live s life) k = same-df img _ (header-life img s life (within s (k .0 .low)))
+  df-after (SetLife s life) k = same-df img _ (header-life img s life (within s (k .0 .low)))
 
   pub ef-after : (v : Verdict) → Tells img c v → currentEfOf (appliedOf img c v) ≡ efAfter img v
   unfolding created deleted
   ef-after (Refuse w) k = refl
   ef-after (Select d e w) k = ef-current img d e header-long
-  ef-after (Create s h a b from to) k = ef-current _ _ _ (put-long s h _ _ (k .0 .low) (k .1))
+  ef-after (Create x) k = ef-current _ _ _ (put-long (x .slot) (x .head) _ _ (k .0 .low) (k .1))
   ef-after (Delete s) k = ef-current _ _ _ (cleared-long s)
-  ef-after (Live s life) k = same-ef img _ (header-life img s life (within s (k .0 .low)))
+  ef-after (SetLife s life) k = same-ef img _ (header-life img s life (within s (k .0 .low)))

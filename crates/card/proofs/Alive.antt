@@ -11,33 +11,33 @@ use Rattle.laws.proofs.Says.{and-says, not-says}
 use Rattle.rules.specs.declared.Sets.{Sets}
 use Rattle.rules.specs.Descriptor.{df}
 use Rattle.image.specs.Layout.{countOf, currentDfOf, currentEfOf}
-use Rattle.sound.specs.Table.{viewAt, up}
+use Rattle.sound.specs.Table.{viewAt, up, upward}
 use Rattle.sound.specs.Kinship.{terminatedAt, terminatedUp}
-use Rattle.template.specs.declared.Data.{Data}
-use Rattle.template.specs.declared.Data.the-variants.{Df, Ef, Bad}
-use Rattle.template.specs.Data.{dataOf}
+use Rattle.create_data.specs.declared.Data.{Data}
+use Rattle.create_data.specs.declared.Data.the-variants.{Df, Ef, Bad}
+use Rattle.create_data.specs.Data.{dataOf}
 use Rattle.verdict.specs.declared.State.{State}
 use Rattle.verdict.specs.declared.Verdict.{Verdict}
-use Rattle.verdict.specs.declared.Verdict.the-variants.{Refuse, Select, Create, Delete, Live}
+use Rattle.verdict.specs.declared.Verdict.the-variants.{Refuse, Select, Create, Delete, SetLife}
 use Rattle.verdict.specs.Applied.{sentData}
-use Rattle.deciding.specs.Steps.{allHold, Plan, followed}
-use Rattle.frame.specs.Frame.{instruction}
-use Rattle.judging.specs.Shared.{sharedSteps}
-use Rattle.deciding.specs.Target.{creating}
-use Rattle.commands.specs.Commands.{selecting}
-use Rattle.judging.specs.Judge.{lifePlan, planFor, judgeFor, judgeOf}
+use Rattle.judge_target.specs.Steps.{allHold, Plan, followed}
+use Rattle.apdu.specs.Apdu.{instruction}
+use Rattle.judge.specs.Shared.{sharedSteps}
+use Rattle.judge_target.specs.Target.{creating}
+use Rattle.judge_commands.specs.Commands.{selecting}
+use Rattle.judge.specs.Judge.{lifePlan, planFor, judgeFor, judgeOf}
 use Rattle.card.proofs.Steps.{cond-by, chosen-by, anyWord, judged-by, followed-by}
 
 -- the file itself is the first on its way up
 alive : (img : List ℕ) (t : ℕ) → (terminatedUp img t ≡ true → ⊥) → terminatedAt img t ≡ true → ⊥
-unfolding terminatedUp up
+unfolding terminatedUp upward up
 alive img t z e = z (any-at (λ k. terminatedAt img (up (viewAt img) k t)) (suc (viewAt img t .level)) 0 (omega arith) e)
 
 abbrev pub Alive : List ℕ → Verdict → Type 0
-Alive img (Live s life) = terminatedAt img s ≡ true → ⊥
+Alive img (SetLife s life) = terminatedAt img s ≡ true → ⊥
 Alive img (Refuse w) = Unit {0}
 Alive img (Select d e w) = Unit {0}
-Alive img (Create s h a b from to) = Unit {0}
+Alive img (Create x) = Unit {0}
 Alive img (Delete s) = Unit {0}
 
 module _ (img : List ℕ) where
@@ -46,8 +46,8 @@ module _ (img : List ℕ) where
 
   creating-alive : (d s : ℕ) (new : Data) → Alive img (creating img d s new)
   creating-alive d s Bad = tt
-  creating-alive d s (Df k i l a b from to t) = tt
-  creating-alive d s (Ef k i l m from to z) = tt
+  creating-alive d s (Df x) = tt
+  creating-alive d s (Ef x) = tt
 
   selecting-alive : (d s : ℕ) → Alive img (selecting img d s)
   unfolding selecting
@@ -60,12 +60,17 @@ module _ (img : List ℕ) where
   unfolding planFor lifePlan AliveThen
   plan-alive n d c st root =
       chosen-by AliveThen (instruction c) _ _ _ (λ e. followed-by (Alive img) anyWord refused _ refl (λ a. selecting-alive d _))
-      (λ z. chosen-by AliveThen (instruction c) _ _ _ (λ e. followed-by (Alive img) anyWord refused _ refl (λ a. creating-alive d _ (dataOf (sentData c))))
+      (λ z. chosen-by AliveThen (instruction c) _ _ _
+      (λ e. followed-by (Alive img) anyWord refused _ refl (λ a. creating-alive d _ (dataOf (sentData c))))
       (λ z. chosen-by AliveThen (instruction c) _ _ _ (λ e. followed-by (Alive img) anyWord refused _ refl (λ a. tt))
-      (λ z. chosen-by AliveThen (instruction c) _ _ _ (λ e. followed-by (Alive img) anyWord refused _ refl (λ a. alive img _ (not-says _ .0 ((simp and-says at a) .1 .0))))
-      (λ z. chosen-by AliveThen (instruction c) _ _ _ (λ e. followed-by (Alive img) anyWord refused _ refl (λ a. alive img _ (not-says _ .0 ((simp and-says at a) .1 .0))))
-      (λ z. chosen-by AliveThen (instruction c) _ _ _ (λ e. followed-by (Alive img) anyWord refused _ refl (λ a. alive img _ (not-says _ .0 ((simp and-says at a) .1 .1 .0))))
-      (λ z. chosen-by AliveThen (instruction c) _ _ _ (λ e. followed-by (Alive img) anyWord refused _ refl (λ a. alive img _ (not-says _ .0 ((simp and-says at a) .1 .1 .0))))
+      (λ z. chosen-by AliveThen (instruction c) _ _ _
+      (λ e. followed-by (Alive img) anyWord refused _ refl (λ a. alive img _ (not-says _ .0 ((simp and-says at a) .1 .0))))
+      (λ z. chosen-by AliveThen (instruction c) _ _ _
+      (λ e. followed-by (Alive img) anyWord refused _ refl (λ a. alive img _ (not-says _ .0 ((simp and-says at a) .1 .0))))
+      (λ z. chosen-by AliveThen (instruction c) _ _ _
+      (λ e. followed-by (Alive img) anyWord refused _ refl (λ a. alive img _ (not-says _ .0 ((simp and-says at a) .1 .1 .0))))
+      (λ z. chosen-by AliveThen (instruction c) _ _ _
+      (λ e. followed-by (Alive img) anyWord refused _ refl (λ a. alive img _ (not-says _ .0 ((simp and-says at a) .1 .1 .0))))
       (λ z. followed-by (Alive img) anyWord refused _ refl (λ a. root))))))))
 
   pub judge-alive : (c : List ℕ) (st : State) → Alive img (judgeOf img c st)

@@ -7,8 +7,7 @@ use Prim.Native.Nat.{ℕ, suc, _+_, _*_, _/_, _%_, _<_, _≤_}
 use native.Mathlib.Omega.{arith}
 use lib.Dec.{eqb, leb}
 use lib.ListN.{length, getD}
-use Rattle.laws.proofs.Walks.{all-not}
-use Rattle.laws.proofs.Says.{says, and-says, or-says, eq-says, le-says, all-says, not-says}
+use Rattle.laws.proofs.Says.{says, and-says, or-says, eq-says, le-says, not-says}
 use Rattle.numbers.specs.Numbers.{u16At}
 use Rattle.rules.specs.declared.Sets.{Sets}
 use Rattle.rules.specs.declared.Right.the-variants.{DeleteSelf, DeleteChild}
@@ -16,17 +15,19 @@ use Rattle.rules.specs.Life.{lifeOf, terminated, isTerminated, deactivated, isD
 use Rattle.image.specs.Layout.{lifeCycleOf, recAt, countOf}
 use Rattle.sound.specs.Table.{viewAt, up}
 use Rattle.sound.specs.Kinship.{terminatedAt, terminatedUp, identifierFree}
+use Rattle.sound.proofs.Climbing.{upward-says}
 use Rattle.sound.proofs.Created.{identifier-says}
-use Rattle.template.specs.declared.Data.{Data}
-use Rattle.template.specs.declared.Data.the-variants.{Df, Ef, Bad}
-use Rattle.template.specs.Data.{dataOf}
-use Rattle.template.specs.Grammar.{DfData, EfData}
-use Rattle.template.proofs.Grammar.{data-exactly}
+use Rattle.create_data.specs.declared.Data.{Data}
+use Rattle.create_data.specs.declared.Data.the-variants.{Df, Ef, Bad}
+use Rattle.create_data.specs.Data.{dataOf}
+use Rattle.create_data.specs.Grammar.{DfData, EfData}
+use Rattle.create_data.proofs.Grammar.{data-exactly}
 use Rattle.verdict.specs.declared.State.{State}
-use Rattle.deciding.specs.Target.{lifeAt, allowedAt, isFile}
-use Rattle.frame.specs.Frame.{classByte, instruction, lc, onOtherChannel, isTerminate, isKnown, wantsAlone, otherChannel, crowded, wantedParameters, fitParameters, hasData, isSeven, fitLength, selectFile, createFile, deleteFile}
-use Rattle.creation.specs.Creation.{takesFiles}
-use Rattle.commands.specs.Commands.{mayDelete}
+use Rattle.judge_target.specs.Target.{lifeAt, allowedAt, describes}
+use Rattle.apdu.specs.Apdu.{classByte, instruction, lc, onOtherChannel, isTerminate, isKnown, wantsAlone, otherChannel, crowded}
+use Rattle.apdu.specs.Apdu.{wantedParameters, fitParameters, hasData, isSeven, fitLength, selectFile, createFile, deleteFile}
+use Rattle.judge_create.specs.Creation.{takesFiles}
+use Rattle.judge_commands.specs.Commands.{mayDelete}
 use Rattle.card.specs.Conditions.{NoneTerminated, FreeIdentifier}
 
 pub not-twice : (b : Bool) → (not (not b) ≡ true) ↔ (b ≡ true)
@@ -47,12 +48,9 @@ alive-says img s = simp says ((λ h. h), (λ h. h))
 pub none-says : (img : List ℕ) (s : ℕ) → (not (terminatedUp img s) ≡ true) ↔ NoneTerminated img s
 unfolding terminatedUp terminatedAt
 none-says img s = (
-  (λ h k l e. not-says _ .0 (all-says _ _ .0 (all-not _ up-dead ∙ h) k (omega arith)) (eq-says _ _ .1 e)),
-  (λ f. sym (all-not _ up-dead) ∙ all-says _ _ .1 (λ k l. not-says _ .1 (λ e. f k (omega arith) (eq-says _ _ .0 e)))),
+  (λ h k l e. upward-says (viewAt img) (terminatedAt img) (suc (viewAt img s .level)) s .0 h k (omega arith) (eq-says _ _ .1 e)),
+  (λ f. upward-says (viewAt img) (terminatedAt img) (suc (viewAt img s .level)) s .1 (λ k l e. f k (omega arith) (eq-says _ _ .0 e))),
 )
-  where
-    up-dead : ℕ → Bool
-    up-dead k = isTerminated (lifeCycleOf (recAt img (up (viewAt img) k s)))
 
 pub takes-says : (img : List ℕ) (d : ℕ) → (takesFiles img d ≡ true) ↔ ((lifeOf (lifeAt img d) ≡ deactivated → ⊥) × NoneTerminated img d)
 unfolding takesFiles
@@ -64,19 +62,24 @@ takes-says img d = (
 pub activates-says : (x : ℕ) → (canActivate x ≡ true) ↔ ((lifeOf x ≡ creation) ⊎ ((lifeOf x ≡ initialisation) ⊎ (lifeOf x ≡ deactivated)))
 unfolding canActivate
 activates-says x = (
-  (λ h. ⊎-elim (λ e. inl (eq-says _ _ .0 e)) (λ g. inr (⊎-elim (λ e. inl (eq-says _ _ .0 e)) (λ e. inr (eq-says _ _ .0 e)) (or-says _ _ .0 g))) (or-says _ _ .0 h)),
-  (λ h. or-says _ _ .1 (⊎-elim (λ e. inl (eq-says _ _ .1 e)) (λ g. inr (or-says _ _ .1 (⊎-elim (λ e. inl (eq-says _ _ .1 e)) (λ e. inr (eq-says _ _ .1 e)) g))) h)),
+  (λ h. ⊎-elim (λ e. inl (eq-says _ _ .0 e))
+      (λ g. inr (⊎-elim (λ e. inl (eq-says _ _ .0 e)) (λ e. inr (eq-says _ _ .0 e)) (or-says _ _ .0 g))) (or-says _ _ .0 h)),
+  (λ h. or-says _ _ .1
+      (⊎-elim (λ e. inl (eq-says _ _ .1 e))
+      (λ g. inr (or-says _ _ .1 (⊎-elim (λ e. inl (eq-says _ _ .1 e)) (λ e. inr (eq-says _ _ .1 e)) g))) h)),
 )
 
 -- J of DELETE
-pub deletes-says : (img : List ℕ) (d s : ℕ) (x : Sets) → (mayDelete img d s x ≡ true) ↔ ((allowedAt img s DeleteSelf x ≡ true) ⊎ (allowedAt img d DeleteChild x ≡ true))
+pub deletes-says : (img : List ℕ) (d s : ℕ) (x : Sets)
+    → (mayDelete img d s x ≡ true) ↔ ((allowedAt img s DeleteSelf x ≡ true) ⊎ (allowedAt img d DeleteChild x ≡ true))
 unfolding mayDelete
 deletes-says img d s x = or-says _ _
 
 -- L
 pub identifier-free : (img : List ℕ) (d i : ℕ) → (identifierFree (countOf img) (viewAt img) d i ≡ true) ↔ FreeIdentifier img d i
 identifier-free img d i = (
-  (λ h. let p = identifier-says (countOf img) (viewAt img) d i .0 h in ((λ s l f q r. p .0 s l ((f, q), r)), (λ k l. p .1 k (omega arith)))),
+  (λ h. let p = identifier-says (countOf img) (viewAt img) d i .0 h in
+      ((λ s l f q r. p .0 s l ((f, q), r)), (λ k l. p .1 k (omega arith)))),
   (λ f. identifier-says (countOf img) (viewAt img) d i .1 ((λ s l k. f .0 s l (k .0 .0) (k .0 .1) (k .1)), (λ k l. f .1 k (omega arith)))),
 )
 
@@ -113,9 +116,9 @@ pub data-says : (c : List ℕ) → instruction c ≡ createFile → (fitLength c
 unfolding fitLength hasData
 data-says c e = rw e (
   (λ h. let p = and-says _ _ .0 h in
-  let a : 6 ≤ length c = le-says _ _ .0 (p .0) in
-  let b : length c ≡ 5 + lc c = eq-says _ _ .0 (p .1) in
-  (omega arith, b)),
+      let a : 6 ≤ length c = le-says _ _ .0 (p .0) in
+      let b : length c ≡ 5 + lc c = eq-says _ _ .0 (p .1) in
+      (omega arith, b)),
   (λ h. let a : 6 ≤ length c = omega (arith, h .0, h .1) in and-says _ _ .1 (le-says _ _ .1 a, eq-says _ _ .1 (h .1))),
 )
 
@@ -137,12 +140,12 @@ unfolding fitLength
 four-says c i e p q r = rw (e, p, q, r) (eq-says _ _)
 
 -- H: data that are good describe a file
-good-file : (new : Data) → (isFile new ≡ true) ↔ (new ≡ Bad → ⊥)
+good-file : (new : Data) → (describes new ≡ true) ↔ (new ≡ Bad → ⊥)
 good-file Bad = ((λ e. absurd (false≢true e)), (λ f. absurd (f refl)))
-good-file (Df k i l a b from to z) = ((λ e q. false≢true (sym (ap isFile q))), (λ f. refl))
-good-file (Ef k i l n from to z) = ((λ e q. false≢true (sym (ap isFile q))), (λ f. refl))
+good-file (Df x) = ((λ e q. false≢true (sym (ap describes q))), (λ f. refl))
+good-file (Ef x) = ((λ e q. false≢true (sym (ap describes q))), (λ f. refl))
 
-pub file-says : (s : List ℕ) → (isFile (dataOf s) ≡ true) ↔ (DfData s ⊎ EfData s)
+pub file-says : (s : List ℕ) → (describes (dataOf s) ≡ true) ↔ (DfData s ⊎ EfData s)
 file-says s = (
   (λ e. data-exactly s .0 (good-file (dataOf s) .0 e)),
   (λ h. good-file (dataOf s) .1 (data-exactly s .1 h)),

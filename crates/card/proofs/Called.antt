@@ -12,12 +12,12 @@ use Rattle.sound.proofs.Says.{sound-says}
 use Rattle.verdict.specs.declared.State.{State}
 use Rattle.verdict.specs.declared.Verdict.{Verdict}
 use Rattle.verdict.specs.Applied.{wordOf, appliedOf}
-use Rattle.judging.specs.Judge.{judgeOf}
+use Rattle.judge.specs.Judge.{judgeOf}
 use Rattle.effect.specs.Fit.{Applies}
 use Rattle.card.specs.declared.Reply.the-variants.{Word, Damaged}
 use Rattle.card.specs.Command.{replyOf, imageOf, CommandPromises}
 use Rattle.card.proofs.Tells.{applies}
-use Rattle.card.proofs.Told.{judge-tells}
+use Rattle.card.proofs.Telling.{judge-tells}
 
 module _ (img c : List ℕ) (st : State) {r : Bool} (e : r ≡ soundb img) where
   pub call-damaged : not r ≡ true → CommandPromises img c st Damaged img

@@ -22,20 +22,22 @@ use Rattle.sound.specs.Effects.{Creates}
 use Rattle.sound.proofs.Says.{sound-says}
 use Rattle.verdict.specs.declared.State.{State}
 use Rattle.verdict.specs.declared.Verdict.{Verdict}
-use Rattle.verdict.specs.declared.Verdict.the-variants.{Refuse, Select, Create, Delete, Live}
+use Rattle.verdict.specs.declared.Verdict.the-variants.{Refuse, Select, Create, Delete, SetLife}
 use Rattle.verdict.specs.Applied.{wordOf, appliedOf}
-use Rattle.deciding.specs.Steps.{Step, allHold, followed}
-use Rattle.frame.specs.Frame.{instruction}
-use Rattle.judging.specs.Shared.{sharedSteps}
-use Rattle.judging.specs.Judge.{planFor, judgeFor, judgeOf}
+use Rattle.judge_target.specs.Steps.{Step, allHold, followed}
+use Rattle.apdu.specs.Apdu.{instruction}
+use Rattle.judge.specs.Shared.{sharedSteps}
+use Rattle.judge.specs.Judge.{planFor, judgeFor, judgeOf}
 use Rattle.card.specs.declared.Reply.the-variants.{Word, Damaged}
 use Rattle.card.specs.Command.{answerWord, replyOf, imageOf, CommandPromises}
 use Rattle.card.specs.Steps.{stepsOf, effectOf, firstFailing}
 use Rattle.card.specs.After.{recordAfter}
-use Rattle.card.specs.Demands.{DamagedRefused, SoundAnswered, Succeeds, OtherWordsLeave, OnlyTheseWords, WarnsInSelect, StaysSound, LengthStays, RepliesInOrder, SucceedsExactly, EffectAndNoOther, Deleting, TerminatedStays, TerminatedForGood, OneResult}
+use Rattle.card.specs.Demands.{DamagedRefused, SoundAnswered, Succeeds, OtherWordsLeave, OnlyTheseWords, WarnsInSelect}
+use Rattle.card.specs.Demands.{StaysSound, LengthStays, RepliesInOrder, SucceedsExactly, EffectAndNoOther, Deleting}
+use Rattle.card.specs.Demands.{TerminatedStays, TerminatedForGood, OneResult}
 use Rattle.card.proofs.Steps.{judged-append, judged-all, judged-first}
 use Rattle.card.proofs.Tells.{Tells, sound-applied}
-use Rattle.card.proofs.Told.{judge-tells}
+use Rattle.card.proofs.Telling.{judge-tells}
 use Rattle.card.proofs.Speaks.{Spoken, judge-speaks, Acts, plan-acts, succeeds}
 use Rattle.card.proofs.After.{records-after, front-after, current-after, df-after, ef-after}
 use Rattle.card.proofs.Alive.{Alive, judge-alive}
@@ -63,34 +65,35 @@ module _ (img c : List ℕ) (st : State) (sound : Sound img) where
   pub word-is : answerWord (replyOf img c st) ≡ wordOf (judgeOf img c st)
   word-is = ap answerWord reply-is
 
-  told : Tells img c (judgeOf img c st)
-  told = judge-tells img c sound st
+  tells : Tells img c (judgeOf img c st)
+  tells = judge-tells img c sound st
 
 -- a verdict whose word is no success leaves the image
 leaves : (img c : List ℕ) (v : Verdict) → Spoken v → (Succeeds (wordOf v) → ⊥) → appliedOf img c v ≡ img
 leaves img c (Refuse w) s z = refl
 leaves img c (Select d e w) s z = absurd (z s)
-leaves img c (Create x h a b from to) s z = absurd (z (inl refl))
+leaves img c (Create x) s z = absurd (z (inl refl))
 leaves img c (Delete x) s z = absurd (z (inl refl))
-leaves img c (Live x life) s z = absurd (z (inl refl))
+leaves img c (SetLife x life) s z = absurd (z (inl refl))
 
 pub other-words-leave : OtherWordsLeave
 unfolding replyOf imageOf
 other-words-leave img c st z = go (soundb img) z
   where
-    go : (b : Bool) → (Succeeds (answerWord (cond b (Word (wordOf (judgeOf img c st))) Damaged)) → ⊥) → cond b (appliedOf img c (judgeOf img c st)) img ≡ img
+    go : (b : Bool) → (Succeeds (answerWord (cond b (Word (wordOf (judgeOf img c st))) Damaged)) → ⊥)
+        → cond b (appliedOf img c (judgeOf img c st)) img ≡ img
     go true q = leaves img c (judgeOf img c st) (judge-speaks img c st) q
     go false q = refl
 
 pub stays-sound : StaysSound
-stays-sound img c st sound = rw (image-is img c st sound) (sound-applied img c (judgeOf img c st) sound (told img c st sound))
+stays-sound img c st sound = rw (image-is img c st sound) (sound-applied img c (judgeOf img c st) sound (tells img c st sound))
 
 pub length-stays : LengthStays
 unfolding imageOf
 length-stays img c st = go (soundb img) refl
   where
     go : (b : Bool) → soundb img ≡ b → length (cond b (appliedOf img c (judgeOf img c st)) img) ≡ length img
-    go true q = let sound = sound-says img .0 q in front-after img c sound (judgeOf img c st) (told img c st sound) .long
+    go true q = let sound = sound-says img .0 q in front-after img c sound (judgeOf img c st) (tells img c st sound) .long
     go false q = refl
 
 -- the verdict: the effect where all steps hold, else a refusal with the word of the first that fails
@@ -105,9 +108,9 @@ judged-in-order img c st =
 pub replies-in-order : RepliesInOrder
 replies-in-order img c st sound = (
   (λ h. let e = judged-in-order img c st .0 h in
-  (reply-is img c st sound ∙ ap (λ (v : Verdict). Word (wordOf v)) e, image-is img c st sound ∙ ap (appliedOf img c) e)),
+      (reply-is img c st sound ∙ ap (λ (v : Verdict). Word (wordOf v)) e, image-is img c st sound ∙ ap (appliedOf img c) e)),
   (λ h. let e = judged-in-order img c st .1 h in
-  (reply-is img c st sound ∙ ap (λ (v : Verdict). Word (wordOf v)) e, image-is img c st sound ∙ ap (appliedOf img c) e)),
+      (reply-is img c st sound ∙ ap (λ (v : Verdict). Word (wordOf v)) e, image-is img c st sound ∙ ap (appliedOf img c) e)),
 )
 
 -- the later of two lists holds where both do
@@ -125,7 +128,8 @@ all-or-not : (b : Bool) → (b ≡ true) ⊎ (b ≡ false)
 all-or-not true = inl refl
 all-or-not false = inr refl
 
-own-hold : (img c : List ℕ) (st : State) → allHold (stepsOf img c st) ≡ true → allHold (planFor img (countOf img) (currentDfOf img) c st .steps) ≡ true
+own-hold : (img c : List ℕ) (st : State) → allHold (stepsOf img c st) ≡ true
+    → allHold (planFor img (countOf img) (currentDfOf img) c st .steps) ≡ true
 own-hold img c st h = later (sharedSteps img c st) (planFor img (countOf img) (currentDfOf img) c st .steps) h
 
 pub succeeds-exactly : SucceedsExactly
@@ -137,7 +141,9 @@ succeeds-exactly img c st sound = (all-hold, succeeded)
     all-hold : allHold (stepsOf img c st) ≡ true → Succeeds (answerWord (replyOf img c st))
     all-hold h =
         let e = judged-in-order img c st .0 h in
-        rw (word, e) (succeeds (effectOf img c st) (plan-acts img (countOf img) (currentDfOf img) c st (own-hold img c st h)) (rw e at (judge-speaks img c st)))
+        rw (word, e)
+        (succeeds (effectOf img c st) (plan-acts img (countOf img) (currentDfOf img) c st (own-hold img c st h))
+        (rw e at (judge-speaks img c st)))
 
     succeeded : Succeeds (answerWord (replyOf img c st)) → allHold (stepsOf img c st) ≡ true
     succeeded s = ⊎-elim (λ h. h)
@@ -147,7 +153,7 @@ succeeds-exactly img c st sound = (all-hold, succeeded)
 pub effect-and-no-other : EffectAndNoOther
 effect-and-no-other img c st sound =
     let v = judgeOf img c st in
-    let k = told img c st sound in
+    let k = tells img c st sound in
     let f = front-after img c sound v k in
     rw (image-is img c st sound) (record {
       long = f .long;
@@ -169,30 +175,33 @@ module _ (img c : List ℕ) (s : ℕ) (used : kindOf (recAt img s) ≡ 0 → ⊥
   unfolding Stays
   verdict-stays (Refuse w) k a = inr refl
   verdict-stays (Select d e w) k a = inr refl
-  verdict-stays (Create x h p q from to) k a = inr (rw (ne-eqb s x (λ e. used (ap (λ (i : ℕ). kindOf (recAt img i)) e ∙ new-free img x h _ _ (k .1)))))
+  verdict-stays (Create x) k a =
+      inr (rw (ne-eqb s (x .slot) (λ e. used (ap (λ (i : ℕ). kindOf (recAt img i)) e ∙ new-free img (x .slot) (x .head) _ _ (k .1)))))
   verdict-stays (Delete x) k a = go (atOrBeneath (viewAt img) x s) refl
     where
       go : (b : Bool) → atOrBeneath (viewAt img) x s ≡ b
-          → ((atOrBeneath (viewAt img) x s ≡ true) × (cond b freeBytes (recAt img s) ≡ freeBytes)) ⊎ (cond b freeBytes (recAt img s) ≡ recAt img s)
+          → ((atOrBeneath (viewAt img) x s ≡ true) × (cond b freeBytes (recAt img s) ≡ freeBytes))
+          ⊎ (cond b freeBytes (recAt img s) ≡ recAt img s)
       go true e = inl (e, refl)
       go false e = inr refl
-  verdict-stays (Live x life) k a = inr (rw (ne-eqb s x (λ e. a (rw e at dead))))
+  verdict-stays (SetLife x life) k a = inr (rw (ne-eqb s x (λ e. a (rw e at dead))))
 
 -- only a DELETE that was carried out erases
-deleting : (img c : List ℕ) (st : State) (s : ℕ) → Sound img → (v : Verdict) → judgeOf img c st ≡ v → Erases img s v → Names img c v → Deleting img c st s
+deleting : (img c : List ℕ) (st : State) (s : ℕ) → Sound img → (v : Verdict) → judgeOf img c st ≡ v → Erases img s v → Names img c v
+    → Deleting img c st s
 deleting img c st s sound (Refuse w) e k n = absurd k
 deleting img c st s sound (Select d f w) e k n = absurd k
-deleting img c st s sound (Create x h a b from to) e k n = absurd k
+deleting img c st s sound (Create x) e k n = absurd k
 deleting img c st s sound (Delete x) e k n =
     record { delete = n .0; answered = word-is img c st sound ∙ ap wordOf e; top = x; child = n .1; over = k }
-deleting img c st s sound (Live x life) e k n = absurd k
+deleting img c st s sound (SetLife x life) e k n = absurd k
 
 pub terminated-stays : TerminatedStays
 unfolding Stays
 terminated-stays img c st s sound low used dead =
     let e = effect-and-no-other img c st sound .records s low in
     ⊎-elim (λ f. inl (deleting img c st s sound (judgeOf img c st) refl (f .0) (judge-names img c st), e ∙ f .1)) (λ f. inr (e ∙ f))
-    (verdict-stays img c s used dead (judgeOf img c st) (told img c st sound) (judge-alive img c st))
+    (verdict-stays img c s used dead (judgeOf img c st) (tells img c st sound) (judge-alive img c st))
 
 pub terminated-for-good : TerminatedForGood
 unfolding terminatedAt
@@ -214,10 +223,13 @@ pub warns-in-select : WarnsInSelect
 unfolding replyOf
 warns-in-select img c st w = go (soundb img) w
   where
-    go : (b : Bool) → (answerWord (cond b (Word (wordOf (judgeOf img c st))) Damaged) ≡ 0x6283) ⊎ (answerWord (cond b (Word (wordOf (judgeOf img c st))) Damaged) ≡ 0x6285)
+    go : (b : Bool)
+        → (answerWord (cond b (Word (wordOf (judgeOf img c st))) Damaged) ≡ 0x6283)
+        ⊎ (answerWord (cond b (Word (wordOf (judgeOf img c st))) Damaged) ≡ 0x6285)
         → instruction c ≡ 0xA4
     go true h = judge-warns img c st h
     go false h = ⊎-elim (λ q. absurd (omega arith)) (λ q. absurd (omega arith)) h
 
 pub one-result : OneResult
-one-result img c st = settled (λ p. CommandPromises img c st (p .0) (p .1)) (replyOf img c st, imageOf img c st) (λ p k. both-are _ _ p (k .0) (k .1))
+one-result img c st =
+    settled (λ p. CommandPromises img c st (p .0) (p .1)) (replyOf img c st, imageOf img c st) (λ p k. both-are _ _ p (k .0) (k .1))

@@ -2,7 +2,7 @@ pub mod Steps
 pub mod Matching
 pub mod Asked
 pub mod Tells
-pub mod Told
+pub mod Telling
 pub mod Called
 pub mod Speaks
 pub mod Words

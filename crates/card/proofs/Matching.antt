@@ -6,7 +6,7 @@ use mathlib.Core.List.{List, [], _∷_}
 use mathlib.Core.Logic.{_↔_, _⊎_, inl, inr, ⊎-elim}
 use Prim.Native.Nat.{ℕ}
 use Rattle.laws.proofs.Says.{and-says}
-use Rattle.deciding.specs.Steps.{Step, allHold}
+use Rattle.judge_target.specs.Steps.{Step, allHold}
 use Rattle.card.specs.Steps.{firstFailing}
 use Rattle.card.specs.Conditions.{Ask, Met, Refused}
 

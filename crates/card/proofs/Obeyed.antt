@@ -16,27 +16,33 @@ use Rattle.sound.specs.Table.{viewAt}
 use Rattle.sound.specs.Sound.{Sound}
 use Rattle.sound.specs.Kinship.{freeSlot}
 use Rattle.sound.proofs.Created.{name-says, room-says}
-use Rattle.template.specs.declared.Data.{Data}
-use Rattle.template.specs.declared.Data.the-variants.{Df, Ef, Bad}
-use Rattle.template.specs.Data.{dataOf}
+use Rattle.create_data.specs.declared.Data.{Data}
+use Rattle.create_data.specs.declared.Data.the-variants.{Df, Ef, Bad}
+use Rattle.create_data.specs.Data.{dataOf}
 use Rattle.verdict.specs.declared.State.{State}
 use Rattle.verdict.specs.declared.Verdict.{Verdict}
-use Rattle.verdict.specs.declared.Verdict.the-variants.{Select, Live}
+use Rattle.verdict.specs.declared.Verdict.the-variants.{Select, SetLife}
 use Rattle.verdict.specs.Applied.{sentData, wordOf, appliedOf}
-use Rattle.deciding.specs.Steps.{Step, allHold, Plan}
-use Rattle.deciding.specs.Target.{currentFile, lifeAt, slotIn, selected, isFile, creating as creatingIt}
-use Rattle.frame.specs.Frame.{classByte, instruction, sentIdentifier, isTerminate, isKnown, wantsAlone, wantedParameters}
-use Rattle.creation.specs.Creation.{create}
-use Rattle.commands.specs.Commands.{selectWord, selecting as selectingIt, select, delete, activate, deactivate, terminateTheEf, terminateTheDf, terminateTheCard}
-use Rattle.judging.specs.Shared.{laterSteps, sharedSteps}
-use Rattle.judging.specs.Judge.{lifePlan, planFor}
+use Rattle.judge_target.specs.Steps.{Step, allHold, Plan}
+use Rattle.judge_target.specs.Target.{currentFile, lifeAt, slotIn, selected, describes, creating as creatingIt}
+use Rattle.apdu.specs.Apdu.{classByte, instruction, sentIdentifier, isTerminate, isKnown, wantsAlone, wantedParameters}
+use Rattle.judge_create.specs.Creation.{create}
+use Rattle.judge_commands.specs.Commands.{selectWord, selecting as selectingIt, select, delete, activate, deactivate, terminateTheEf}
+use Rattle.judge_commands.specs.Commands.{terminateTheDf, terminateTheCard}
+use Rattle.judge.specs.Shared.{laterSteps, sharedSteps}
+use Rattle.judge.specs.Judge.{lifePlan, planFor}
 use Rattle.card.specs.declared.Reply.the-variants.{Word}
 use Rattle.card.specs.Steps.{stepsOf, effectOf, firstFailing}
-use Rattle.card.specs.Conditions.{Ask, Met, Refused, alone, parametersAre, fourBytes, knownAsks, unknownAsks, selectAsks, createAsks, deleteAsks, activateAsks, deactivateAsks, terminateEfAsks, terminateDfAsks, terminateCardAsks}
-use Rattle.card.specs.Obeyed.{Obeys, wordFor, selecting, creating, isOneOf, SelectObeys, CreateObeys, DeleteObeys, ActivateObeys, DeactivateObeys, TerminateEfObeys, TerminateDfObeys, TerminateCardObeys, OthersRefused, NoBodiesYet}
+use Rattle.card.specs.Conditions.{Ask, Met, Refused, alone, parametersAre, fourBytes, knownAsks, unknownAsks, selectAsks}
+use Rattle.card.specs.Conditions.{createAsks, deleteAsks, activateAsks, deactivateAsks, terminateEfAsks, terminateDfAsks}
+use Rattle.card.specs.Conditions.{terminateCardAsks}
+use Rattle.card.specs.Obeyed.{Obeys, wordFor, selecting, creating, isOneOf, SelectObeys, CreateObeys, DeleteObeys, ActivateObeys}
+use Rattle.card.specs.Obeyed.{DeactivateObeys, TerminateEfObeys, TerminateDfObeys, TerminateCardObeys, OthersRefused, NoBodiesYet}
 use Rattle.card.proofs.Steps.{cond-by}
 use Rattle.card.proofs.Matching.{Reads, reads-none, reads-ask, reads-skip, reads-stop}
-use Rattle.card.proofs.Asked.{channel-says, alive-says, none-says, takes-says, activates-says, deletes-says, identifier-free, is-not-says, known, calm, alone-says, parameters-say, data-says, select-length, delete-length, four-says, file-says}
+use Rattle.card.proofs.Asked.{channel-says, alive-says, none-says, takes-says, activates-says, deletes-says, identifier-free}
+use Rattle.card.proofs.Asked.{is-not-says, known, calm, alone-says, parameters-say, data-says, select-length, delete-length}
+use Rattle.card.proofs.Asked.{four-says, file-says}
 use Rattle.card.proofs.Demands.{replies-in-order}
 
 -- a command with this plan, whose steps read as these asks, and whose effect gives this word and image where all hold
@@ -45,7 +51,7 @@ module _ (img c : List ℕ) (st : State) (sound : Sound img) (p : Plan) (is : pl
       → (Met asks → (wordOf (p .effect) ≡ word) × (appliedOf img c (p .effect) ≡ left)) → Obeys img c st asks word left
   obeys asks word left reads gives = record {
     met = λ m. let r = replies-in-order img c st sound .0 (reads-them .holds m) in
-      (r .0 ∙ ap Word (ap wordOf effect ∙ gives m .0), r .1 ∙ ap (appliedOf img c) effect ∙ gives m .1);
+        (r .0 ∙ ap Word (ap wordOf effect ∙ gives m .0), r .1 ∙ ap (appliedOf img c) effect ∙ gives m .1);
     refused = λ w f. let q = reads-them .first w f in let r = replies-in-order img c st sound .1 (q .0) in (r .0 ∙ ap Word (q .1), r .1);
     always = either-way (allHold (stepsOf img c st)) refl;
   }
@@ -62,7 +68,8 @@ module _ (img c : List ℕ) (st : State) (sound : Sound img) (p : Plan) (is : pl
 
 -- the steps A to D of an instruction i that 01 lists
 module _ (img c : List ℕ) (st : State) (i : ℕ) (e : instruction c ≡ i) (k : isKnown i ≡ true) where
-  opens : (steps : List Step) (rest : List Ask) → Reads (laterSteps c st ++ steps) rest → Reads (sharedSteps img c st ++ steps) (knownAsks img c rest)
+  opens : (steps : List Step) (rest : List Ask) → Reads (laterSteps c st ++ steps) rest
+      → Reads (sharedSteps img c st ++ steps) (knownAsks img c rest)
   opens steps rest r =
       reads-ask _ _ _ _ _ _ (le-says _ _) refl
       (reads-ask _ _ _ _ _ _ (channel-says (classByte c)) refl
@@ -86,7 +93,9 @@ select-obeys img c st sound e =
         × (appliedOf img c (selectingIt img (currentDfOf img) s) ≡ selecting img s)
     gives s = go (eqb (viewAt img s .kind) df)
       where
-        go : (b : Bool) → (wordOf (cond b (Select s none (selectWord (lifeAt img s))) (Select (currentDfOf img) s (selectWord (lifeAt img s)))) ≡ wordFor (lifeOf (lifeAt img s)))
+        go : (b : Bool)
+            → (wordOf (cond b (Select s none (selectWord (lifeAt img s))) (Select (currentDfOf img) s (selectWord (lifeAt img s))))
+            ≡ wordFor (lifeOf (lifeAt img s)))
             × (appliedOf img c (cond b (Select s none (selectWord (lifeAt img s))) (Select (currentDfOf img) s (selectWord (lifeAt img s))))
             ≡ cond b (setCurrent img s none) (setCurrent img (currentDfOf img) s))
         go true = (refl, refl)
@@ -112,11 +121,11 @@ create-obeys img c st sound e =
     slot : ℕ
     slot = slotIn (freeSlot (countOf img) (viewAt img))
 
-    gives : (new : Data) → isFile new ≡ true → (wordOf (creatingIt img (currentDfOf img) slot new) ≡ 0x9000)
+    gives : (new : Data) → describes new ≡ true → (wordOf (creatingIt img (currentDfOf img) slot new) ≡ 0x9000)
         × (appliedOf img c (creatingIt img (currentDfOf img) slot new) ≡ creating img (sentData c) slot new)
     gives Bad h = absurd (false≢true h)
-    gives (Df k i l a b from to z) h = (refl, refl)
-    gives (Ef k i l n from to z) h = (refl, refl)
+    gives (Df x) h = (refl, refl)
+    gives (Ef x) h = (refl, refl)
 
 pub delete-obeys : DeleteObeys
 unfolding planFor isKnown wantsAlone isTerminate wantedParameters

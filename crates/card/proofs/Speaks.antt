@@ -15,20 +15,20 @@ use Rattle.rules.specs.Life.{isDeactivated, isTerminated}
 use Rattle.image.specs.Layout.{countOf, currentDfOf}
 use Rattle.sound.specs.Table.{viewAt}
 use Rattle.sound.specs.Kinship.{freeSlot}
-use Rattle.template.specs.declared.Data.{Data}
-use Rattle.template.specs.declared.Data.the-variants.{Df, Ef, Bad}
-use Rattle.template.specs.Data.{dataOf}
+use Rattle.create_data.specs.declared.Data.{Data}
+use Rattle.create_data.specs.declared.Data.the-variants.{Df, Ef, Bad}
+use Rattle.create_data.specs.Data.{dataOf}
 use Rattle.verdict.specs.declared.State.{State}
 use Rattle.verdict.specs.declared.Verdict.{Verdict}
-use Rattle.verdict.specs.declared.Verdict.the-variants.{Refuse, Select, Create, Delete, Live}
+use Rattle.verdict.specs.declared.Verdict.the-variants.{Refuse, Select, Create, Delete, SetLife}
 use Rattle.verdict.specs.Words.{done, fileDeactivated, fileTerminated}
 use Rattle.verdict.specs.Applied.{wordOf, sentData}
-use Rattle.deciding.specs.Steps.{allHold, Plan, followed}
-use Rattle.frame.specs.Frame.{instruction}
-use Rattle.judging.specs.Shared.{sharedSteps}
-use Rattle.deciding.specs.Target.{lifeAt, slotIn, isFile, creating, selected}
-use Rattle.commands.specs.Commands.{selectWord, selecting}
-use Rattle.judging.specs.Judge.{lifePlan, planFor, judgeFor, judgeOf}
+use Rattle.judge_target.specs.Steps.{allHold, Plan, followed}
+use Rattle.apdu.specs.Apdu.{instruction}
+use Rattle.judge.specs.Shared.{sharedSteps}
+use Rattle.judge_target.specs.Target.{lifeAt, slotIn, describes, creating, selected}
+use Rattle.judge_commands.specs.Commands.{selectWord, selecting}
+use Rattle.judge.specs.Judge.{lifePlan, planFor, judgeFor, judgeOf}
 use Rattle.card.specs.Demands.{Succeeds}
 use Rattle.card.proofs.Steps.{cond-by, chosen-by, allWords, judged-by, followed-by}
 
@@ -43,23 +43,24 @@ no-success w r s = not-says _ .0 r (or-says _ _ .1 (⊎-elim (λ e. inl (eq-eqb 
 abbrev pub Spoken : Verdict → Type 0
 Spoken (Refuse w) = Succeeds w → ⊥
 Spoken (Select d e w) = Succeeds w
-Spoken (Create s h a b from to) = Unit {0}
+Spoken (Create x) = Unit {0}
 Spoken (Delete s) = Unit {0}
-Spoken (Live s life) = Unit {0}
+Spoken (SetLife s life) = Unit {0}
 
 select-word : (life : ℕ) → Succeeds (selectWord life)
 unfolding selectWord
 select-word life =
-    cond-by Succeeds (isDeactivated life) _ _ (λ q. inr (inl refl)) (λ q. cond-by Succeeds (isTerminated life) _ _ (λ q. inr (inr refl)) (λ q. inl refl))
+    cond-by Succeeds (isDeactivated life) _ _ (λ q. inr (inl refl))
+    (λ q. cond-by Succeeds (isTerminated life) _ _ (λ q. inr (inr refl)) (λ q. inl refl))
 
 selecting-spoken : (img : List ℕ) (d s : ℕ) → Spoken (selecting img d s)
 unfolding selecting
 selecting-spoken img d s = cond-by Spoken (eqb (viewAt img s .kind) df) _ _ (λ q. select-word _) (λ q. select-word _)
 
-creating-spoken : (img : List ℕ) (d s : ℕ) (new : Data) → isFile new ≡ true → Spoken (creating img d s new)
+creating-spoken : (img : List ℕ) (d s : ℕ) (new : Data) → describes new ≡ true → Spoken (creating img d s new)
 creating-spoken img d s Bad h = absurd (false≢true h)
-creating-spoken img d s (Df k i l a b from to t) h = tt
-creating-spoken img d s (Ef k i l m from to z) h = tt
+creating-spoken img d s (Df x) h = tt
+creating-spoken img d s (Ef x) h = tt
 
 -- a plan whose refusals are refusals, and whose effect speaks where all its steps hold
 abbrev pub Speaks : Plan → Type 0
@@ -89,22 +90,24 @@ judge-speaks img c st =
 abbrev pub Acts : Verdict → Type 0
 Acts (Refuse w) = ⊥
 Acts (Select d e w) = Unit {0}
-Acts (Create s h a b from to) = Unit {0}
+Acts (Create x) = Unit {0}
 Acts (Delete s) = Unit {0}
-Acts (Live s life) = Unit {0}
+Acts (SetLife s life) = Unit {0}
 
 abbrev ActsThen : Plan → Type 0
 ActsThen p = allHold (p .steps) ≡ true → Acts (p .effect)
 
-creating-acts : (img : List ℕ) (d s : ℕ) (new : Data) → isFile new ≡ true → Acts (creating img d s new)
+creating-acts : (img : List ℕ) (d s : ℕ) (new : Data) → describes new ≡ true → Acts (creating img d s new)
 creating-acts img d s Bad h = absurd (false≢true h)
-creating-acts img d s (Df k i l a b from to t) h = tt
-creating-acts img d s (Ef k i l m from to z) h = tt
+creating-acts img d s (Df x) h = tt
+creating-acts img d s (Ef x) h = tt
 
-pub plan-acts : (img : List ℕ) (n d : ℕ) (c : List ℕ) (st : State) → allHold (planFor img n d c st .steps) ≡ true → Acts (planFor img n d c st .effect)
+pub plan-acts : (img : List ℕ) (n d : ℕ) (c : List ℕ) (st : State) → allHold (planFor img n d c st .steps) ≡ true
+    → Acts (planFor img n d c st .effect)
 unfolding planFor lifePlan selecting
 plan-acts img n d c st =
-    chosen-by ActsThen (instruction c) _ _ _ (λ e a. cond-by Acts (eqb (viewAt img (slotIn (selected img n d _)) .kind) df) _ _ (λ q. tt) (λ q. tt))
+    chosen-by ActsThen (instruction c) _ _ _
+    (λ e a. cond-by Acts (eqb (viewAt img (slotIn (selected img n d _)) .kind) df) _ _ (λ q. tt) (λ q. tt))
     (λ z. chosen-by ActsThen (instruction c) _ _ _ (λ e a. creating-acts img d _ (dataOf (sentData c)) (and-says _ _ .0 a .0))
     (λ z. chosen-by ActsThen (instruction c) _ _ _ (λ e a. tt)
     (λ z. chosen-by ActsThen (instruction c) _ _ _ (λ e a. tt)
@@ -116,6 +119,6 @@ plan-acts img n d c st =
 pub succeeds : (v : Verdict) → Acts v → Spoken v → Succeeds (wordOf v)
 succeeds (Refuse w) a s = absurd a
 succeeds (Select d e w) a s = s
-succeeds (Create x h a b from to) t s = inl refl
+succeeds (Create x) t s = inl refl
 succeeds (Delete x) a s = inl refl
-succeeds (Live x life) a s = inl refl
+succeeds (SetLife x life) a s = inl refl

@@ -8,7 +8,7 @@ use borrow.Author.Tests.{eqb-true, eqb-false}
 use Rattle.laws.proofs.Says.{and-says}
 use Rattle.verdict.specs.declared.Verdict.{Verdict}
 use Rattle.verdict.specs.declared.Verdict.the-variants.{Refuse}
-use Rattle.deciding.specs.Steps.{Step, judged, allHold, Plan, followed}
+use Rattle.judge_target.specs.Steps.{Step, judged, allHold, Plan, followed}
 use Rattle.card.specs.Steps.{firstFailing}
 
 -- what holds of both branches holds of the choice

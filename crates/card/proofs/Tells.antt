@@ -3,8 +3,8 @@
 use mathlib.Core.Path.{_≡_, refl}
 use mathlib.Core.Bool.{true}
 use mathlib.Core.List.{List}
-use Prim.Native.Nat.{ℕ, _-_, _<_}
-use Rattle.laws.specs.Lists.{part}
+use Prim.Native.Nat.{ℕ, _<_}
+use Rattle.template.specs.Objects.{bytesAt}
 use Rattle.rules.specs.Life.{knownLife}
 use Rattle.image.specs.Layout.{countOf}
 use Rattle.sound.specs.Table.{viewAt}
@@ -17,25 +17,25 @@ use Rattle.sound.proofs.Lived.{sound-lived}
 use Rattle.kinship.specs.Climb.{Stands}
 use Rattle.kinship.proofs.Sound.{rooted}
 use Rattle.verdict.specs.declared.Verdict.{Verdict}
-use Rattle.verdict.specs.declared.Verdict.the-variants.{Refuse, Select, Create, Delete, Live}
+use Rattle.verdict.specs.declared.Verdict.the-variants.{Refuse, Select, Create, Delete, SetLife}
 use Rattle.verdict.specs.Applied.{sentData, appliedOf}
 use Rattle.effect.specs.Fit.{FileSent, Fit, Applies}
 
 abbrev pub Tells : List ℕ → List ℕ → Verdict → Type 0
 Tells img c (Refuse w) = Unit {0}
 Tells img c (Select d e w) = Current (countOf img) (viewAt img) d e
-Tells img c (Create s h a b from to) =
-    FileSent (countOf img) c s a b from to × Creates img s h (part (sentData c) a (b - a)) (part (sentData c) from (to - from))
+Tells img c (Create x) =
+    FileSent (countOf img) c x × Creates img (x .slot) (x .head) (bytesAt (sentData c) (x .name)) (bytesAt (sentData c) (x .rule))
 Tells img c (Delete s) = Deletes img s
-Tells img c (Live s life) = Stands img (countOf img) s × (knownLife life ≡ true)
+Tells img c (SetLife s life) = Stands img (countOf img) s × (knownLife life ≡ true)
 
 -- the effect can be made
 fit : (img c : List ℕ) (v : Verdict) → Tells img c v → Fit (countOf img) c v
 fit img c (Refuse w) t = tt
 fit img c (Select d e w) t = tt
-fit img c (Create s h a b from to) t = t .0
+fit img c (Create x) t = t .0
 fit img c (Delete s) t = t .low
-fit img c (Live s life) t = t .0 .low
+fit img c (SetLife s life) t = t .0 .low
 
 pub applies : (img c : List ℕ) (v : Verdict) → Sound img → Tells img c v → Applies img (countOf img) c v
 applies img c v sound t = record { rooted = rooted img sound; count = refl; fit = fit img c v t }
@@ -44,6 +44,6 @@ applies img c v sound t = record { rooted = rooted img sound; count = refl; fit 
 pub sound-applied : (img c : List ℕ) (v : Verdict) → Sound img → Tells img c v → Sound (appliedOf img c v)
 sound-applied img c (Refuse w) sound t = sound
 sound-applied img c (Select d e w) sound t = sound-select img d e sound t
-sound-applied img c (Create s h a b from to) sound t = sound-created img s h _ _ sound (t .1)
+sound-applied img c (Create x) sound t = sound-created img (x .slot) (x .head) _ _ sound (t .1)
 sound-applied img c (Delete s) sound t = sound-deleted img s sound t
-sound-applied img c (Live s life) sound t = sound-lived img s life sound (t .0 .low) (t .0 .used) (t .1)
+sound-applied img c (SetLife s life) sound t = sound-lived img s life sound (t .0 .low) (t .0 .used) (t .1)

@@ -12,19 +12,19 @@ use Rattle.rules.specs.Descriptor.{df}
 use Rattle.rules.specs.Life.{isDeactivated, isTerminated}
 use Rattle.image.specs.Layout.{countOf, currentDfOf}
 use Rattle.sound.specs.Table.{viewAt}
-use Rattle.template.specs.declared.Data.{Data}
-use Rattle.template.specs.declared.Data.the-variants.{Df, Ef, Bad}
-use Rattle.template.specs.Data.{dataOf}
+use Rattle.create_data.specs.declared.Data.{Data}
+use Rattle.create_data.specs.declared.Data.the-variants.{Df, Ef, Bad}
+use Rattle.create_data.specs.Data.{dataOf}
 use Rattle.verdict.specs.declared.State.{State}
 use Rattle.verdict.specs.declared.Verdict.{Verdict}
-use Rattle.verdict.specs.declared.Verdict.the-variants.{Refuse, Select, Create, Delete, Live}
+use Rattle.verdict.specs.declared.Verdict.the-variants.{Refuse, Select, Create, Delete, SetLife}
 use Rattle.verdict.specs.Applied.{wordOf, sentData}
-use Rattle.deciding.specs.Steps.{allHold, Plan, followed}
-use Rattle.deciding.specs.Target.{lifeAt, creating}
-use Rattle.frame.specs.Frame.{instruction}
-use Rattle.commands.specs.Commands.{selectWord, selecting}
-use Rattle.judging.specs.Shared.{sharedSteps}
-use Rattle.judging.specs.Judge.{lifePlan, planFor, judgeFor, judgeOf}
+use Rattle.judge_target.specs.Steps.{allHold, Plan, followed}
+use Rattle.judge_target.specs.Target.{lifeAt, creating}
+use Rattle.apdu.specs.Apdu.{instruction}
+use Rattle.judge_commands.specs.Commands.{selectWord, selecting}
+use Rattle.judge.specs.Shared.{sharedSteps}
+use Rattle.judge.specs.Judge.{lifePlan, planFor, judgeFor, judgeOf}
 use Rattle.card.specs.Obeyed.{isOneOf}
 use Rattle.card.specs.Demands.{wordsOfTable}
 use Rattle.card.proofs.Steps.{cond-by, chosen-by, allWords, judged-by, followed-by}
@@ -55,17 +55,20 @@ module _ (img c : List ℕ) (st : State) where
 
   creating-worded : (d s : ℕ) (new : Data) → Worded c (creating img d s new)
   creating-worded d s Bad = refused 0x6A80 refl
-  creating-worded d s (Df k i l a b from to t) = plain _ refl
-  creating-worded d s (Ef k i l m from to z) = plain _ refl
+  creating-worded d s (Df x) = plain _ refl
+  creating-worded d s (Ef x) = plain _ refl
 
   select-word : (life : ℕ) → ours (selectWord life) ≡ true
   unfolding selectWord
-  select-word life = cond-by (λ w. ours w ≡ true) (isDeactivated life) _ _ (λ q. refl) (λ q. cond-by (λ w. ours w ≡ true) (isTerminated life) _ _ (λ q. refl) (λ q. refl))
+  select-word life =
+      cond-by (λ w. ours w ≡ true) (isDeactivated life) _ _ (λ q. refl)
+      (λ q. cond-by (λ w. ours w ≡ true) (isTerminated life) _ _ (λ q. refl) (λ q. refl))
 
   selecting-worded : instruction c ≡ 0xA4 → (d s : ℕ) → Worded c (selecting img d s)
   unfolding selecting
   selecting-worded e d s = cond-by (Worded c) (eqb (viewAt img s .kind) df) _ _
-      (λ q. record { word = select-word (lifeAt img s); warns = λ h. e }) (λ q. record { word = select-word (lifeAt img s); warns = λ h. e })
+      (λ q. record { word = select-word (lifeAt img s); warns = λ h. e })
+      (λ q. record { word = select-word (lifeAt img s); warns = λ h. e })
 
   WordedThen : Plan → Type 0
   WordedThen p = Worded c (followed p)
@@ -74,7 +77,8 @@ module _ (img c : List ℕ) (st : State) where
   unfolding planFor lifePlan WordedThen
   plan-worded n d =
       chosen-by WordedThen (instruction c) _ _ _ (λ e. followed-by (Worded c) refuses refused _ refl (λ a. selecting-worded e d _))
-      (λ z. chosen-by WordedThen (instruction c) _ _ _ (λ e. followed-by (Worded c) refuses refused _ refl (λ a. creating-worded d _ (dataOf (sentData c))))
+      (λ z. chosen-by WordedThen (instruction c) _ _ _
+      (λ e. followed-by (Worded c) refuses refused _ refl (λ a. creating-worded d _ (dataOf (sentData c))))
       (λ z. chosen-by WordedThen (instruction c) _ _ _ (λ e. followed-by (Worded c) refuses refused _ refl (λ a. plain _ refl))
       (λ z. chosen-by WordedThen (instruction c) _ _ _ (λ e. followed-by (Worded c) refuses refused _ refl (λ a. plain _ refl))
       (λ z. chosen-by WordedThen (instruction c) _ _ _ (λ e. followed-by (Worded c) refuses refused _ refl (λ a. plain _ refl))

@@ -6,7 +6,7 @@ use mathlib.Core.List.{List}
 use Rattle.sound.specs.Sound.{soundb}
 use Rattle.verdict.specs.declared.State.{State}
 use Rattle.verdict.specs.Applied.{wordOf, appliedOf}
-use Rattle.judging.specs.Judge.{judgeOf}
+use Rattle.judge.specs.Judge.{judgeOf}
 use Rattle.card.specs.declared.Reply.{Reply}
 use Rattle.card.specs.declared.Reply.the-variants.{Word, Damaged}
 

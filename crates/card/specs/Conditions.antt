@@ -13,12 +13,12 @@ use Rattle.rules.specs.Life.{lifeOf, creation, initialisation, activated, deact
 use Rattle.image.specs.Layout.{countOf, currentDfOf, currentEfOf, none}
 use Rattle.sound.specs.Table.{File, viewAt, up}
 use Rattle.sound.specs.Kinship.{childNamed, roomFor}
-use Rattle.template.specs.Data.{dataOf}
-use Rattle.template.specs.Grammar.{DfData, EfData}
+use Rattle.create_data.specs.Data.{dataOf}
+use Rattle.create_data.specs.Grammar.{DfData, EfData}
 use Rattle.verdict.specs.declared.State.{State}
 use Rattle.verdict.specs.Applied.{sentData}
-use Rattle.deciding.specs.Target.{currentFile, lifeAt, allowedAt, isFound, slotIn, selected, creation as rightFor, newIdentifier, newName, newSize}
-use Rattle.frame.specs.Frame.{classByte, instruction, lc, sentIdentifier}
+use Rattle.judge_target.specs.Target.{currentFile, lifeAt, allowedAt, isFound, slotIn, selected, rightFor, newIdentifier, newName, newSize}
+use Rattle.apdu.specs.Apdu.{classByte, instruction, lc, sentIdentifier}
 
 pub record Ask : Type 1 where
   pub condition : Type 0

@@ -16,9 +16,9 @@ use Rattle.verdict.specs.declared.State.{State}
 use Rattle.verdict.specs.declared.Verdict.{Verdict}
 use Rattle.verdict.specs.Words.{done, fileDeactivated, fileTerminated}
 use Rattle.verdict.specs.Applied.{wordOf, appliedOf}
-use Rattle.deciding.specs.Steps.{allHold}
-use Rattle.frame.specs.Frame.{instruction, sentIdentifier}
-use Rattle.judging.specs.Judge.{judgeOf}
+use Rattle.judge_target.specs.Steps.{allHold}
+use Rattle.apdu.specs.Apdu.{instruction, sentIdentifier}
+use Rattle.judge.specs.Judge.{judgeOf}
 use Rattle.card.specs.declared.Reply.{Reply}
 use Rattle.card.specs.declared.Reply.the-variants.{Word}
 use Rattle.card.specs.Command.{answerNumber, answerWord, replyOf, imageOf, CommandPromises}
@@ -104,7 +104,8 @@ pub record Deleting (img c : List ℕ) (st : State) (s : ℕ) : Type 0 where
 -- Demand 2: a terminated file stays terminated until it is deleted: over one command, it is deleted, or not one byte of its
 -- record changes
 abbrev pub TerminatedStays : Type 0
-TerminatedStays = (img c : List ℕ) (st : State) (s : ℕ) → Sound img → s < countOf img → (kindOf (recAt img s) ≡ 0 → ⊥) → terminatedAt img s ≡ true
+TerminatedStays = (img c : List ℕ) (st : State) (s : ℕ) → Sound img → s < countOf img → (kindOf (recAt img s) ≡ 0 → ⊥)
+    → terminatedAt img s ≡ true
     → (Deleting img c st s × (recAt (imageOf img c st) s ≡ freeBytes)) ⊎ (recAt (imageOf img c st) s ≡ recAt img s)
 
 -- a call: the command and the state; the image after a list of them
@@ -123,7 +124,8 @@ DeletedIn img (x ∷ rest) s = Deleting img (x .command) (x .state) s ⊎ Delete
 
 -- .. and over any list of commands
 abbrev pub TerminatedForGood : Type 0
-TerminatedForGood = (calls : List Call) (img : List ℕ) (s : ℕ) → Sound img → s < countOf img → (kindOf (recAt img s) ≡ 0 → ⊥) → terminatedAt img s ≡ true
+TerminatedForGood = (calls : List Call) (img : List ℕ) (s : ℕ) → Sound img → s < countOf img → (kindOf (recAt img s) ≡ 0 → ⊥)
+    → terminatedAt img s ≡ true
     → DeletedIn img calls s ⊎ (recAt (after img calls) s ≡ recAt img s)
 
 -- any two results that the contract of `card::command` allows are equal

@@ -5,10 +5,9 @@ use mathlib.Core.Path.{_≡_}
 use mathlib.Core.Bool.{Bool, true, false, cond, _||_}
 use mathlib.Core.List.{List, [], _∷_}
 use mathlib.Core.Logic.{_⊎_}
-use Prim.Native.Nat.{ℕ, _+_, _-_, _≤_}
+use Prim.Native.Nat.{ℕ, _+_, _≤_}
 use lib.Dec.{eqb}
 use lib.ListN.{length}
-use Rattle.laws.specs.Lists.{part}
 use Rattle.rules.specs.Descriptor.{df, ef}
 use Rattle.rules.specs.Life.{lifeOf, deactivated, terminated}
 use Rattle.image.specs.Layout.{countOf, currentDfOf, currentEfOf, none, setCurrent, setLife}
@@ -16,16 +15,19 @@ use Rattle.sound.specs.Table.{viewAt}
 use Rattle.sound.specs.Sound.{Sound}
 use Rattle.sound.specs.Kinship.{freeSlot}
 use Rattle.sound.specs.Effects.{created, deleted}
-use Rattle.template.specs.declared.Data.{Data}
-use Rattle.template.specs.declared.Data.the-variants.{Df, Ef, Bad}
-use Rattle.template.specs.Data.{dataOf}
+use Rattle.template.specs.Objects.{bytesAt}
+use Rattle.create_data.specs.declared.NewFile.{NewFile}
+use Rattle.create_data.specs.declared.Data.{Data}
+use Rattle.create_data.specs.declared.Data.the-variants.{Df, Ef, Bad}
+use Rattle.create_data.specs.Data.{dataOf}
 use Rattle.verdict.specs.declared.State.{State}
 use Rattle.verdict.specs.Applied.{sentData}
-use Rattle.deciding.specs.Target.{currentFile, lifeAt, slotIn, selected}
-use Rattle.frame.specs.Frame.{classByte, instruction, sentIdentifier}
+use Rattle.judge_target.specs.Target.{currentFile, lifeAt, slotIn, selected}
+use Rattle.apdu.specs.Apdu.{classByte, instruction, sentIdentifier}
 use Rattle.card.specs.declared.Reply.the-variants.{Word}
 use Rattle.card.specs.Command.{replyOf, imageOf}
-use Rattle.card.specs.Conditions.{Ask, Met, Refused, unknownAsks, selectAsks, createAsks, deleteAsks, activateAsks, deactivateAsks, terminateEfAsks, terminateDfAsks, terminateCardAsks, namedChild}
+use Rattle.card.specs.Conditions.{Ask, Met, Refused, unknownAsks, selectAsks, createAsks, deleteAsks, activateAsks}
+use Rattle.card.specs.Conditions.{deactivateAsks, terminateEfAsks, terminateDfAsks, terminateCardAsks, namedChild}
 
 pub record Obeys (img c : List ℕ) (st : State) (asks : List Ask) (word : ℕ) (left : List ℕ) : Type 0 where
   pub met : Met asks → (replyOf img c st ≡ Word word) × (imageOf img c st ≡ left)
@@ -48,16 +50,25 @@ SelectObeys = (img c : List ℕ) (st : State) → Sound img → instruction c �
     (selecting img (slotIn (selected img (countOf img) (currentDfOf img) (sentIdentifier c))))
 
 -- CREATE: the new record in the lowest free slot, in the current DF and one level down, as its data s describe it
+abbrev pub newRecord : List ℕ → List ℕ → ℕ → ℕ → NewFile → List ℕ
+newRecord img s slot kind x =
+    created img slot
+    (record {
+      kind = kind;
+      descriptor = x .descriptor;
+      life = x .life;
+      identifier = x .identifier;
+      parent = currentDfOf img;
+      level = viewAt img (currentDfOf img) .level + 1;
+      «record_length» = x .«record_length»;
+      size = x .size;
+    })
+    (bytesAt s (x .name)) (bytesAt s (x .rule))
+
 abbrev pub creating : List ℕ → List ℕ → ℕ → Data → List ℕ
 creating img s slot Bad = img
-creating img s slot (Df k i l a b from to total) =
-    created img slot
-    (record { kind = df; descriptor = k; life = l; identifier = i; parent = currentDfOf img; level = viewAt img (currentDfOf img) .level + 1; stride = 0; size = total })
-    (part s a (b - a)) (part s from (to - from))
-creating img s slot (Ef k i l n from to size) =
-    created img slot
-    (record { kind = ef; descriptor = k; life = l; identifier = i; parent = currentDfOf img; level = viewAt img (currentDfOf img) .level + 1; stride = n; size = size })
-    [] (part s from (to - from))
+creating img s slot (Df x) = newRecord img s slot df x
+creating img s slot (Ef x) = newRecord img s slot ef x
 
 abbrev pub CreateObeys : Type 0
 CreateObeys = (img c : List ℕ) (st : State) → Sound img → instruction c ≡ 0xE0

@@ -6,9 +6,9 @@ use Rattle.image.specs.Layout.{countOf, currentDfOf}
 use Rattle.verdict.specs.declared.State.{State}
 use Rattle.verdict.specs.declared.Verdict.{Verdict}
 use Rattle.verdict.specs.Words.{done}
-use Rattle.deciding.specs.Steps.{Step}
-use Rattle.judging.specs.Shared.{sharedSteps}
-use Rattle.judging.specs.Judge.{planFor}
+use Rattle.judge_target.specs.Steps.{Step}
+use Rattle.judge.specs.Shared.{sharedSteps}
+use Rattle.judge.specs.Judge.{planFor}
 
 abbrev pub stepsOf : List ℕ → List ℕ → State → List Step
 stepsOf img c st = sharedSteps img c st ++ planFor img (countOf img) (currentDfOf img) c st .steps

@@ -1,6 +1,6 @@
-// The card: one command per call on an image in a lent buffer (01). Soundness first, then judging, then the
-// one effect that is due. It may use every crate below. It answers demands 1 and 2: specs/Command says what a
-// call gives, proofs/Demands that this is what the demands ask for.
+// The card: one command per call on an image in a lent buffer (01). Soundness first, then judging, then the one effect
+// that is due. It answers demands 1 and 2: specs/Command says what a call gives, proofs/Demands that this is what the
+// demands ask for.
 ghost use Rattle.card.specs.Command.{CommandPromises};
 use verdict::State;
 
@@ -14,10 +14,10 @@ pub enum Reply {
 pub fn command(image: &mut [u8], command: &[u8], state: State) -> Reply
     ensures { λ r. ⌜ CommandPromises (now (image .entry)) (now (command .entry)) state r (now (image .exit)) ⌝ }
 {
-    if !soundness::sound(image) {
+    if !sound_test::sound(image) {
         return Reply::Damaged;
     }
     let n = image::fields::count(image);
-    let due = judging::order::judge(image, command, state);
+    let due = judge::order::judge(image, command, state);
     Reply::Word(effect::apply::apply(image, n, command, due))
 }

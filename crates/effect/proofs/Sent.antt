@@ -7,17 +7,19 @@ use lib.ListN.{length, take, drop, length-drop}
 use lib.Seq.{drop-drop}
 use Rattle.laws.specs.Lists.{part}
 use Rattle.laws.proofs.Splices.{length-part}
+use Rattle.template.specs.declared.Span.{Span}
+use Rattle.template.specs.Objects.{bytesAt}
 use Rattle.verdict.specs.Applied.{sentData}
 use Rattle.effect.specs.Fit.{FieldSent}
 
-module _ (c : List ℕ) (start end : ℕ) where
-  pub part-sent : take (5 + end - (5 + start)) (drop (5 + start) c) ≡ part (sentData c) start (end - start)
+module _ (c : List ℕ) (p : Span) where
+  pub part-sent : take (5 + p .end - (5 + p .start)) (drop (5 + p .start) c) ≡ bytesAt (sentData c) p
   unfolding part
   part-sent =
-      let e : 5 + end - (5 + start) ≡ end - start = omega arith in
-      ap (λ (k : ℕ). take k (drop (5 + start) c)) e ∙ ap (λ (x : List ℕ). take (end - start) x) (sym (drop-drop start 5 c))
+      let e : 5 + p .end - (5 + p .start) ≡ p .end - p .start = omega arith in
+      ap (λ (k : ℕ). take k (drop (5 + p .start) c)) e ∙ ap (λ (x : List ℕ). take (p .end - p .start) x) (sym (drop-drop (p .start) 5 c))
 
-  pub length-sent : FieldSent c start end → length (part (sentData c) start (end - start)) ≤ 16
+  pub length-sent : FieldSent c p → length (bytesAt (sentData c) p) ≤ 16
   length-sent f =
       let l = length-drop 5 c in
-      omega (arith, length-part (sentData c) start (end - start) (omega (arith, l, f .order, f .inside)), f .short)
+      omega (arith, length-part (sentData c) (p .start) (p .end - p .start) (omega (arith, l, f .order, f .inside)), f .short)

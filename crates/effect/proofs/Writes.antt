@@ -31,4 +31,13 @@ pub deleted-marked : (img x y marks : List ℕ) (n d df old ef : ℕ) → n ≡ 
     → x ≡ clearBelow n (λ k. eqb (getD marks k 0) 1) img → y ≡ setCurrent x df ef → y ≡ deleted img d
 unfolding deleted
 deleted-marked img x y marks n d df old ef e f g h m i k =
-    rw (← e, ← f, ← g, ← h, ← clear-cong n (λ k. eqb (getD marks k 0) 1) (atOrBeneath (viewAt img) d) img (λ s l. told-marked (viewAt img) n d s marks m l), ← i) k
+    rw (
+      ← e,
+      ← f,
+      ← g,
+      ← h,
+      ← clear-cong n (λ k. eqb (getD marks k 0) 1) (atOrBeneath (viewAt img) d) img
+          (λ s l. told-marked (viewAt img) n d s marks m l),
+      ← i,
+    )
+    k

@@ -6,28 +6,30 @@ use Prim.Native.Nat.{ℕ, _+_, _-_, _<_, _≤_}
 use lib.ListN.{length}
 use Rattle.image.specs.Layout.{countOf}
 use Rattle.kinship.specs.Climb.{Rooted}
+use Rattle.template.specs.declared.Span.{Span}
+use Rattle.verdict.specs.declared.NewRecord.{NewRecord}
 use Rattle.verdict.specs.declared.Verdict.{Verdict}
-use Rattle.verdict.specs.declared.Verdict.the-variants.{Refuse, Select, Create, Delete, Live}
+use Rattle.verdict.specs.declared.Verdict.the-variants.{Refuse, Select, Create, Delete, SetLife}
 
--- a part of CREATE's data, which follow five bytes, from start to end, that a field of the record can hold
-pub record FieldSent (c : List ℕ) (start end : ℕ) : Type 0 where
-  pub order : start ≤ end
-  pub inside : 5 + end ≤ length c
-  pub short : end - start ≤ 16
+-- a stretch of CREATE's data, which follow five bytes, that a field of the record can hold
+pub record FieldSent (c : List ℕ) (p : Span) : Type 0 where
+  pub order : p .start ≤ p .end
+  pub inside : 5 + p .end ≤ length c
+  pub short : p .end - p .start ≤ 16
 
--- CREATE: the slot, the name from a to b, the rule from `from` to `to`
-pub record FileSent (n : ℕ) (c : List ℕ) (s a b from to : ℕ) : Type 0 where
-  pub low : s < n
-  pub name : FieldSent c a b
-  pub rule : FieldSent c from to
+-- CREATE: the slot, the name and the rule of the new record
+pub record FileSent (n : ℕ) (c : List ℕ) (x : NewRecord) : Type 0 where
+  pub low : x .slot < n
+  pub name : FieldSent c (x .name)
+  pub rule : FieldSent c (x .rule)
 
 -- by the verdict on the command c; a refusal and SELECT need nothing
 abbrev pub Fit : ℕ → List ℕ → Verdict → Type 0
 Fit n c (Refuse word) = Unit {0}
 Fit n c (Select d e word) = Unit {0}
-Fit n c (Create s h a b from to) = FileSent n c s a b from to
+Fit n c (Create x) = FileSent n c x
 Fit n c (Delete s) = s < n
-Fit n c (Live s life) = s < n
+Fit n c (SetLife s life) = s < n
 
 -- the verdict v on the command c can be applied to the image of n slots
 pub record Applies (img : List ℕ) (n : ℕ) (c : List ℕ) (v : Verdict) : Type 0 where

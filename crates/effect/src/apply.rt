@@ -1,9 +1,9 @@
 // A verdict becomes its effect: a small function for each, then `apply`, which chooses among them (01 "SELECT",
 // "CREATE", "DELETE", "ACTIVATE, DEACTIVATE", "TERMINATE EF / DF", "TERMINATE CARD USAGE").
 ghost use mathlib.Core.Path.{_≡_};
-ghost use Prim.Native.Nat.{_-_, _<_, _≤_};
+ghost use Prim.Native.Nat.{_<_, _≤_};
 ghost use lib.ListN.{length};
-ghost use Rattle.laws.specs.Lists.{part};
+ghost use Rattle.template.specs.Objects.{bytesAt};
 ghost use Rattle.image.specs.Layout.{Within, setCurrent, setLife, countOf};
 ghost use Rattle.sound.specs.Effects.{created, deleted};
 ghost use Rattle.kinship.specs.Climb.{Rooted};
@@ -14,7 +14,10 @@ use crate::erase;
 use image::Head;
 use image::fields;
 use image::write;
+use rules::descriptor;
+use template::Span;
 use verdict::Verdict;
+use verdict::words;
 
 // What SELECT found becomes current; its word tells the file's life cycle.
 fn select(image: &mut [u8], df: u16, ef: u16, word: u16) -> u16
@@ -25,13 +28,13 @@ fn select(image: &mut [u8], df: u16, ef: u16, word: u16) -> u16
     word
 }
 
-// A value in CREATE's data, from start to end, as a part of the command: the data follow the five bytes up to Lc.
-fn sent(command: &[u8], start: usize, end: usize) -> &[u8]
-    requires { ⌜ FieldSent (now command) start end ⌝ }
-    ensures { λ r. ⌜ now r ≡ part (sentData (now (command .entry))) start (end - start) ⌝ }
+// A value in CREATE's data as a part of the command: the data follow the five bytes up to Lc.
+fn sent(command: &[u8], place: Span) -> &[u8]
+    requires { ⌜ FieldSent (now command) place ⌝ }
+    ensures { λ r. ⌜ now r ≡ bytesAt (sentData (now (command .entry))) place ⌝ }
 {
-    let from = 5 + start;
-    let to = 5 + end;
+    let from = 5 + place.start;
+    let to = 5 + place.end;
     &command[from..to]
 }
 
@@ -44,12 +47,12 @@ fn create(image: &mut [u8], slot: usize, head: Head, name: &[u8], rule: &[u8]) -
     let df = fields::current_df(image) as u16;
     let new = slot as u16;
     write::put_record(image, slot, head, name, rule);
-    if head.kind == 1 {
-        write::set_current(image, new, 0xFFFF);
-        return 0x9000;
+    if head.kind == descriptor::DF {
+        write::set_current(image, new, image::NONE);
+        return words::DONE;
     }
     write::set_current(image, df, new);
-    0x9000
+    words::DONE
 }
 
 // DELETE, with its word.
@@ -59,16 +62,16 @@ fn delete(image: &mut [u8], n: usize, slot: usize) -> u16
     ensures { λ r. ⌜ (r ≡ done) × (now (image .exit) ≡ deleted (now (image .entry)) slot) ⌝ }
 {
     erase::erase(image, n, slot);
-    0x9000
+    words::DONE
 }
 
 // Another life-cycle byte.
-fn live(image: &mut [u8], slot: usize, life: u8) -> u16
+fn set_life(image: &mut [u8], slot: usize, life: u8) -> u16
     requires { ⌜ Within (now image) slot ⌝ }
     ensures { λ r. ⌜ (r ≡ done) × (now (image .exit) ≡ setLife (now (image .entry)) slot life) ⌝ }
 {
     write::set_life(image, slot, life);
-    0x9000
+    words::DONE
 }
 
 // The one effect of the verdict on the command, and its word.
@@ -79,19 +82,13 @@ pub fn apply(image: &mut [u8], n: usize, command: &[u8], verdict: Verdict) -> u1
     match verdict {
         Verdict::Refuse(word) => word,
         Verdict::Select { df, ef, word } => select(image, df, ef, word),
-        Verdict::Create {
-            slot,
-            head,
-            name_start,
-            name_end,
-            rule_start,
-            rule_end,
-        } => {
-            let name = sent(command, name_start, name_end);
-            let rule = sent(command, rule_start, rule_end);
-            create(image, slot, head, name, rule)
+        Verdict::Create(new) => {
+            let name = sent(command, new.name);
+            let rule = sent(command, new.rule);
+            let head = new.head;
+            create(image, new.slot, head, name, rule)
         }
         Verdict::Delete(slot) => delete(image, n, slot),
-        Verdict::Live { slot, life } => live(image, slot, life),
+        Verdict::SetLife { slot, life } => set_life(image, slot, life),
     }
 }

@@ -40,7 +40,7 @@ fn ef_left(ef: usize, d: usize) -> u16
     ensures { λ r. ⌜ r ≡ cond (eqb ef d) none ef ⌝ }
 {
     if ef == d {
-        return 0xFFFF;
+        return image::NONE;
     }
     ef as u16
 }

@@ -12,7 +12,7 @@ use Rattle.laws.proofs.Says.{same-or}
 use Rattle.laws.proofs.Sums.{sum-change, sum-none}
 use Rattle.rules.specs.Descriptor.{df}
 use Rattle.sound.specs.Table.{View, File}
-use Rattle.history.specs.Ledger.{Entry, Ledger, sumOver, firstOf}
+use Rattle.history.specs.Ledger.{Entry, Ledger, sumOver, firstEntry}
 use Rattle.history.proofs.Entries.{sum-of-one}
 
 -- the entry that the record in slot s spells
@@ -72,16 +72,16 @@ module _ (l : Ledger) (n : ℕ) (v : ℕ → View) (ok : Agrees l n v) where
 
   -- where p holds of one file alone, the ledger's first such entry is what its record spells
   pub only-entry : (p : Entry → Bool) (t : ℕ) → t < n → File v t → p (entryOf t (v t)) ≡ true
-      → ((i : ℕ) → i < n → (i ≡ t → ⊥) → File v i → p (entryOf i (v i)) ≡ false) → firstOf p (l .files) ≡ entryOf t (v t)
+      → ((i : ℕ) → i < n → (i ≡ t → ⊥) → File v i → p (entryOf i (v i)) ≡ false) → firstEntry p (l .files) ≡ entryOf t (v t)
   only-entry p t low file here h =
-      let a : firstOf p (l .files) .dir ≡ entryOf t (v t) .dir = field (λ e. e .dir) in
-      let b : firstOf p (l .files) .identifier ≡ entryOf t (v t) .identifier = field (λ e. e .identifier) in
-      let c : firstOf p (l .files) .size ≡ entryOf t (v t) .size = field (λ e. e .size) in
-      let d : firstOf p (l .files) .own ≡ entryOf t (v t) .own = field (λ e. e .own) in
+      let a : firstEntry p (l .files) .dir ≡ entryOf t (v t) .dir = field (λ e. e .dir) in
+      let b : firstEntry p (l .files) .identifier ≡ entryOf t (v t) .identifier = field (λ e. e .identifier) in
+      let c : firstEntry p (l .files) .size ≡ entryOf t (v t) .size = field (λ e. e .size) in
+      let d : firstEntry p (l .files) .own ≡ entryOf t (v t) .own = field (λ e. e .own) in
       λ i. record { dir = a i; identifier = b i; size = c i; own = d i }
     where
       sum : (g : Entry → ℕ) → sumOver (λ e. ifSo (p e) (g e)) (l .files) ≡ g (entryOf t (v t))
       sum g = one-counts (λ e. ifSo (p e) (g e)) t low file (λ i k m u. rw (h i k m u)) ∙ rw here
 
-      field : (g : Entry → ℕ) → g (firstOf p (l .files)) ≡ g (entryOf t (v t))
+      field : (g : Entry → ℕ) → g (firstEntry p (l .files)) ≡ g (entryOf t (v t))
       field g = sym (sum-of-one p g (l .files) (sum (λ e. 1))) ∙ sum g

@@ -14,31 +14,31 @@ use Rattle.image.specs.Layout.{countOf, currentDfOf}
 use Rattle.sound.specs.Table.{viewAt}
 use Rattle.sound.specs.Kinship.{isChildNamed, childNamed, freeSlot}
 use Rattle.sound.proofs.Says.{child-says}
-use Rattle.template.specs.declared.Data.{Data}
-use Rattle.template.specs.declared.Data.the-variants.{Df, Ef, Bad}
-use Rattle.template.specs.Data.{dataOf}
+use Rattle.create_data.specs.declared.Data.{Data}
+use Rattle.create_data.specs.declared.Data.the-variants.{Df, Ef, Bad}
+use Rattle.create_data.specs.Data.{dataOf}
 use Rattle.verdict.specs.declared.State.{State}
 use Rattle.verdict.specs.declared.Verdict.{Verdict}
-use Rattle.verdict.specs.declared.Verdict.the-variants.{Refuse, Select, Create, Delete, Live}
+use Rattle.verdict.specs.declared.Verdict.the-variants.{Refuse, Select, Create, Delete, SetLife}
 use Rattle.verdict.specs.Applied.{sentData}
-use Rattle.deciding.specs.Steps.{Plan, followed}
-use Rattle.deciding.specs.Target.{slotIn, selected, creating}
-use Rattle.creation.specs.Creation.{create}
-use Rattle.commands.specs.Commands.{selecting, select, delete}
-use Rattle.frame.specs.Frame.{instruction, sentIdentifier, selectFile, createFile, deleteFile}
-use Rattle.judging.specs.Shared.{sharedSteps}
-use Rattle.judging.specs.Judge.{lifePlan, planFor, judgeFor, judgeOf}
+use Rattle.judge_target.specs.Steps.{Plan, followed}
+use Rattle.judge_target.specs.Target.{slotIn, selected, creating}
+use Rattle.judge_create.specs.Creation.{create}
+use Rattle.judge_commands.specs.Commands.{selecting, select, delete}
+use Rattle.apdu.specs.Apdu.{instruction, sentIdentifier, selectFile, createFile, deleteFile}
+use Rattle.judge.specs.Shared.{sharedSteps}
+use Rattle.judge.specs.Judge.{lifePlan, planFor, judgeFor, judgeOf}
 use Rattle.card.proofs.Steps.{cond-by, chosen-by, judged-by, followed-by, anyWord}
-use Rattle.card.proofs.Told.{found-at}
+use Rattle.card.proofs.Telling.{found-at}
 use Rattle.history.specs.Ledger.{makes, deletes, neither}
-use Rattle.history.specs.Story.{newFile, announced}
+use Rattle.history.specs.Story.{newEntry, announced}
 
 abbrev pub Announces : List ℕ → List ℕ → Verdict → Type 0
 Announces img c (Refuse w) = Unit {0}
 Announces img c (Select d e w) = announced c ≡ neither
-Announces img c (Create s h a b from to) = announced c ≡ makes (h .identifier) (h .size) (eqb (h .kind) df)
+Announces img c (Create x) = announced c ≡ makes (x .head .identifier) (x .head .size) (eqb (x .head .kind) df)
 Announces img c (Delete s) = announced c ≡ deletes (viewAt img s .identifier)
-Announces img c (Live s life) = announced c ≡ neither
+Announces img c (SetLife s life) = announced c ≡ neither
 
 module _ (img c : List ℕ) where
   refused : (w : ℕ) → anyWord w ≡ true → Announces img c (Refuse w)
@@ -49,20 +49,23 @@ module _ (img c : List ℕ) where
   Fit p = Announces img c (followed p)
 
   select-announces : (n d x : ℕ) → instruction c ≡ selectFile → Announces img c (followed (select img n d x))
-  select-announces n d x e = followed-by (Announces img c) anyWord refused _ refl (λ a. either (slotIn (selected img n d x)) (unfold announced in rw e))
+  select-announces n d x e =
+      followed-by (Announces img c) anyWord refused _ refl (λ a. either (slotIn (selected img n d x)) (unfold announced in rw e))
     where
       either : (s : ℕ) → announced c ≡ neither → Announces img c (selecting img d s)
       either s q = unfold selecting in cond-by (Announces img c) (eqb (viewAt img s .kind) df) _ _ (λ h. q) (λ h. q)
 
   create-announces : (n d : ℕ) (sets : Sets) → instruction c ≡ createFile → Announces img c (followed (create img n d (sentData c) sets))
-  create-announces n d sets e = followed-by (Announces img c) anyWord refused _ refl (λ a. new (dataOf (sentData c)) (unfold announced in rw e))
+  create-announces n d sets e =
+      followed-by (Announces img c) anyWord refused _ refl (λ a. new (dataOf (sentData c)) (unfold announced in rw e))
     where
-      new : (f : Data) → announced c ≡ newFile f → Announces img c (creating img d (slotIn (freeSlot n (viewAt img))) f)
+      new : (f : Data) → announced c ≡ newEntry f → Announces img c (creating img d (slotIn (freeSlot n (viewAt img))) f)
       new Bad q = tt
-      new (Df k i l a b from to z) q = q
-      new (Ef k i l m from to z) q = q
+      new (Df x) q = q
+      new (Ef x) q = q
 
-  delete-announces : (n d : ℕ) (sets : Sets) → instruction c ≡ deleteFile → Announces img c (followed (delete img n d (sentIdentifier c) sets))
+  delete-announces :
+      (n d : ℕ) (sets : Sets) → instruction c ≡ deleteFile → Announces img c (followed (delete img n d (sentIdentifier c) sets))
   unfolding childNamed
   delete-announces n d sets e = followed-by (Announces img c) anyWord refused _ refl (λ a. found (found-at _ (and-says _ _ .0 a .0)))
     where
@@ -90,8 +93,10 @@ module _ (img c : List ℕ) where
       chosen-by Fit (instruction c) _ _ _ (λ e. select-announces n d (sentIdentifier c) e)
       (λ z. chosen-by Fit (instruction c) _ _ _ (λ e. create-announces n d (st .sets) e)
       (λ y. chosen-by Fit (instruction c) _ _ _ (λ e. delete-announces n d (st .sets) e)
-      (λ x. life-announces d (instruction c) (st .sets) (unfold announced in rw (ne-eqb (instruction c) createFile y, ne-eqb (instruction c) deleteFile x)))))
+      (λ x. life-announces d (instruction c) (st .sets)
+      (unfold announced in rw (ne-eqb (instruction c) createFile y, ne-eqb (instruction c) deleteFile x)))))
 
   pub judge-announces : (st : State) → Announces img c (judgeOf img c st)
   unfolding judgeOf judgeFor
-  judge-announces st = judged-by (Announces img c) anyWord refused (sharedSteps img c st) _ refl (λ a. plan-announces (countOf img) (currentDfOf img) st)
+  judge-announces st =
+      judged-by (Announces img c) anyWord refused (sharedSteps img c st) _ refl (λ a. plan-announces (countOf img) (currentDfOf img) st)

@@ -9,7 +9,7 @@ use borrow.Author.Tests.{eq-eqb, ne-eqb, eqb-true}
 use Rattle.laws.proofs.Says.{untrue}
 use Rattle.image.specs.Layout.{currentDfOf}
 use Rattle.card.specs.Demands.{Call}
-use Rattle.history.specs.Ledger.{Entry, Ledger, Announced, makes, deletes, neither, someOf, isOwn, keep, livesIn, noted}
+use Rattle.history.specs.Ledger.{Entry, Ledger, Announced, makes, deletes, neither, someOf, isOwn, keep, livesIn, entered}
 use Rattle.history.specs.Story.{Story, imageAfter, heard, next}
 use Rattle.history.specs.Demand3.{here, Lives, Makes}
 
@@ -18,7 +18,8 @@ unfolding someOf keep
 some-keep p q [] h = refl
 some-keep p q (e ∷ l) h = go (p e) (q e) refl h (λ r. some-keep p q l r)
   where
-    go : (a b : Bool) → p e ≡ a → (a || someOf p l) ≡ false → (someOf p l ≡ false → someOf p (keep q l) ≡ false) → someOf p (cond b (e ∷ keep q l) (keep q l)) ≡ false
+    go : (a b : Bool) → p e ≡ a → (a || someOf p l) ≡ false → (someOf p l ≡ false → someOf p (keep q l) ≡ false)
+        → someOf p (cond b (e ∷ keep q l) (keep q l)) ≡ false
     go true b s r rec = absurd (false≢true (sym r))
     go false true s r rec = rw s (rec r)
     go false false s r rec = rec r
@@ -39,8 +40,8 @@ module _ (l : Ledger) (d : ℕ) (dead : livesIn l d ≡ true → ⊥) where
   unfolding livesIn
   none-own = untrue _ (λ h. dead (rw (ne-eqb d 0 not-root) h))
 
-  new-by : (a : Announced) (before after : ℕ) → livesIn (noted l a before after) d ≡ true → New a after d
-  unfolding noted livesIn someOf
+  new-by : (a : Announced) (before after : ℕ) → livesIn (entered l a before after) d ≡ true → New a after d
+  unfolding entered livesIn someOf
   new-by (makes i m true) before after h =
       let e : (eqb after d || someOf (isOwn d) (l .files)) ≡ true = rw (ne-eqb d 0 not-root) at h in
       record { identifier = i; total = m; makes = refl; slot = which (eqb after d) refl e }
@@ -48,7 +49,8 @@ module _ (l : Ledger) (d : ℕ) (dead : livesIn l d ≡ true → ⊥) where
       which : (b : Bool) → eqb after d ≡ b → (b || someOf (isOwn d) (l .files)) ≡ true → after ≡ d
       which true q r = eqb-true after d q
       which false q r = absurd (false≢true (sym none-own ∙ r))
-  new-by (makes i m false) before after h = absurd (false≢true (sym (rw (ne-eqb d 0 not-root, ne-eqb 0 d (λ e. not-root (sym e))) none-own) ∙ h))
+  new-by (makes i m false) before after h =
+      absurd (false≢true (sym (rw (ne-eqb d 0 not-root, ne-eqb 0 d (λ e. not-root (sym e))) none-own) ∙ h))
   new-by (deletes i) before after h = absurd (false≢true (sym (rw (ne-eqb d 0 not-root) (some-keep (isOwn d) _ (l .files) none-own)) ∙ h))
   new-by neither before after h = absurd (dead h)
 

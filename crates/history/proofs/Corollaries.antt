@@ -9,16 +9,18 @@ use Rattle.sound.specs.Table.{View, charged}
 use Rattle.sound.specs.Kinship.{totalFor, roomFor}
 use Rattle.sound.proofs.FullTable.{slot-exists}
 use Rattle.card.specs.Demands.{Call}
-use Rattle.history.specs.Ledger.{Entry, makes, deletes, firstOf, isNamed, fileIn, noted, strikes}
-use Rattle.history.specs.Story.{Story, heard, next, told, sizeSent}
-use Rattle.history.specs.Demand3.{here, room, Lives, Strikes, AllElsewhere, NothingElsewhere, FullTableNever, ParentPaysAlone, GivesBack, ChargedAnew}
+use Rattle.history.specs.Ledger.{Entry, makes, deletes, firstEntry, isNamed, fileIn, entered, strikes}
+use Rattle.history.specs.Story.{Story, heard, next, played, sizeSent}
+use Rattle.history.specs.Demand3.{here, room, Lives, Strikes, AllElsewhere, NothingElsewhere, FullTableNever, ParentPaysAlone}
+use Rattle.history.specs.Demand3.{GivesBack, ChargedAnew}
 use Rattle.history.proofs.Directories.{Dir, room-same}
 use Rattle.history.proofs.Upward.{file-same}
 use Rattle.history.proofs.Rooms.{made-here, made-kept, gone-here}
-use Rattle.history.proofs.Demand.{slots, table, tableAfter, Kept, history-kept, kept-next, kept-demand, did, agrees-after, kin-after, current-dir, room-is}
+use Rattle.history.proofs.Demand.{slots, table, tableAfter, Kept, history-kept, kept-next, kept-demand, did, agrees-after}
+use Rattle.history.proofs.Demand.{kin-after, current-dir, room-is}
 
 kept-elsewhere : (st : Story) → Kept st → (d : ℕ) → Lives st d → (calls : List Call) → AllElsewhere st calls d
-    → Lives (told st calls) d × (room (told st calls) d ≡ room st d)
+    → Lives (played st calls) d × (room (played st calls) d ≡ room st d)
 kept-elsewhere st k d lives [] a = (lives, refl)
 kept-elsewhere st k d lives (x ∷ rest) a =
     let m = kept-demand st k in
@@ -32,8 +34,11 @@ pub full-table-never : FullTableNever
 full-table-never st h x r fits =
     let k = history-kept st h in
     let m = kept-demand st k in
-    let q = current-dir st k in
-    (slot-exists (st .image) (here st) (sizeSent x) (k .sound) (q .low) (q .dir) (rw (room-is st k (here st) q) at fits), m .takes x r .1 fits)
+    let q = current-dir st k in (
+      slot-exists (st .image) (here st) (sizeSent x) (k .sound) (q .low) (q .dir) (rw (room-is st k (here st) q) at fits),
+      m .takes x
+          r .1 fits,
+    )
 
 -- one call on a card whose ledger is kept, and the directory that was current
 module _ (st : Story) (k : Kept st) (x : Call) where
@@ -51,7 +56,8 @@ module _ (st : Story) (k : Kept st) (x : Call) where
         omega (arith, b, k .sound .kin .charges (here st) (q .low) (q .dir)),
       )
 
-  made-pays : (i size : ℕ) (isDf : Bool) → heard (st .image) x ≡ makes i size isDf → room (next st x) (here st) + (size + 64) ≡ room st (here st)
+  made-pays : (i size : ℕ) (isDf : Bool) → heard (st .image) x ≡ makes i size isDf
+      → room (next st x) (here st) + (size + 64) ≡ room st (here st)
   made-pays i size isDf e =
       let c = rw e at (did st k x) in
       let r = rooms (made-kept _ _ _ (k .sound .kin) i size isDf _ _ c (here st) (current-dir st k)) in
@@ -69,7 +75,10 @@ module _ (st : Story) (k : Kept st) (x : Call) where
       let g = gone-here _ _ _ (k .sound .kin) i _ _ c (current-dir st k) in
       let r = rooms (g .0) in
       let f : fileIn (st .ledger) (here st) i .size ≡ table st (c .slot) .size =
-      ap (λ (y : Entry). y .size) (rw (c .parent, c .identifier) at (file-same (st .ledger) _ _ (k .agrees) (k .sound .kin) (omega (arith, k .sound .header .least)) (c .slot) (c .low) (c .file))) in
+      ap (λ (y : Entry). y .size)
+      (rw
+      (c .parent, c .identifier) at (file-same (st .ledger) _ _ (k .agrees) (k .sound .kin) (omega (arith, k .sound .header .least))
+      (c .slot) (c .low) (c .file))) in
       omega (arith, r .0, r .1, g .1, f)
 
   deleted-stays : (i : ℕ) → heard (st .image) x ≡ deletes i → here (next st x) ≡ here st
@@ -77,8 +86,9 @@ module _ (st : Story) (k : Kept st) (x : Call) where
   deleted-stays i e = (rw e at (did st k x)) .current
 
 -- a file just made is the ledger's first of its name
-newest : (st : Story) (x : Call) (i size : ℕ) (isDf : Bool) → heard (st .image) x ≡ makes i size isDf → fileIn (next st x .ledger) (here st) i .size ≡ size
-unfolding next noted fileIn firstOf isNamed
+newest : (st : Story) (x : Call) (i size : ℕ) (isDf : Bool) → heard (st .image) x ≡ makes i size isDf
+    → fileIn (next st x .ledger) (here st) i .size ≡ size
+unfolding next entered fileIn firstEntry isNamed
 newest st x i size isDf e = rw (e, eq-eqb (here st) (here st) refl, eq-eqb i i refl)
 
 pub parent-pays-alone : ParentPaysAlone
@@ -93,6 +103,7 @@ pub charged-anew : ChargedAnew
 charged-anew st h x y i size isDf e f =
     let k = history-kept st h in
     let q = deleted-stays st k x i e in
-    let p : room (next (next st x) y) (here (next st x)) + (size + 64) ≡ room (next st x) (here (next st x)) = made-pays (next st x) (kept-next st k x) y i size isDf f in
+    let p : room (next (next st x) y) (here (next st x)) + (size + 64) ≡ room (next st x) (here (next st x)) = made-pays (next st x)
+    (kept-next st k x) y i size isDf f in
     let a = rw q at p in
     (omega (arith, a, gives-back-kept st k x i e), rw (← q) (newest (next st x) y i size isDf f))

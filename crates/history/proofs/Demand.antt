@@ -22,7 +22,7 @@ use Rattle.verdict.specs.Words.{done, notEnoughMemory}
 use Rattle.card.specs.Demands.{Call}
 use Rattle.card.proofs.Demands.{stays-sound, effect-and-no-other}
 use Rattle.history.specs.Ledger.{makes, sumOver, opened}
-use Rattle.history.specs.Story.{Story, begun, imageAfter, heard, next, told, Ready, wordFor, sizeSent}
+use Rattle.history.specs.Story.{Story, begun, imageAfter, heard, next, played, Ready, wordFor, sizeSent}
 use Rattle.history.specs.Demand3.{here, room, Lives, Strikes, Makes, Demand3, History, Demand3Holds}
 use Rattle.history.proofs.Agree.{Agrees, worth, sumFiles, worth-free, worth-root}
 use Rattle.history.proofs.Directories.{Dir, dir-lives, lives-dir, charged-same, total-same, room-same}
@@ -72,7 +72,8 @@ module _ (st : Story) (k : Kept st) (x : Call) where
   count-stays : countOf (imageAfter (st .image) x) ≡ slots st
   count-stays = effect-and-no-other (st .image) (x .command) (x .state) (k .sound) .count
 
-  pub did : Did (slots st) (table st) (tableAfter st x) (heard (st .image) x) (currentDfOf (st .image)) (currentDfOf (imageAfter (st .image) x))
+  pub did : Did (slots st) (table st) (tableAfter st x) (heard (st .image) x) (currentDfOf (st .image))
+      (currentDfOf (imageAfter (st .image) x))
   did = call-did (st .image) x (k .sound)
 
   -- the ledger afterwards, beside the records in as many slots as before
@@ -91,12 +92,13 @@ module _ (st : Story) (k : Kept st) (x : Call) where
   unfolding next
   kept-next = record { sound = sound-after; agrees = rw count-stays agrees-after }
 
-pub kept-told : (calls : List Call) (st : Story) → Kept st → Kept (told st calls)
-kept-told [] st k = k
-kept-told (x ∷ rest) st k = kept-told rest (next st x) (kept-next st k x)
+pub kept-played : (calls : List Call) (st : Story) → Kept st → Kept (played st calls)
+kept-played [] st k = k
+kept-played (x ∷ rest) st k = kept-played rest (next st x) (kept-next st k x)
 
 pub history-kept : (st : Story) → History st → Kept st
-history-kept st h = subst (λ (s : Story). Kept s) (h .story) (kept-told (h .calls) _ (kept-fresh (h .buffer) (h .total) (h .rule) (h .made)))
+history-kept st h =
+    subst (λ (s : Story). Kept s) (h .story) (kept-played (h .calls) _ (kept-fresh (h .buffer) (h .total) (h .rule) (h .made)))
 
 -- 6A84 exactly where size plus 64 exceeds the room, else 9000
 module _ (need left : ℕ) where
@@ -124,14 +126,16 @@ module _ (st : Story) (k : Kept st) where
   pub room-is : (d : ℕ) → Dir (slots st) (table st) d → room st d ≡ roomFor (slots st) (table st) d
   room-is d g = room-same (st .ledger) (slots st) (table st) (k .agrees) d g
 
-  word-says : (x : Call) → Ready (st .image) x → wordFor (st .image) x ≡ cond (leb (sizeSent x + 64) (room st (here st))) done notEnoughMemory
+  word-says :
+      (x : Call) → Ready (st .image) x → wordFor (st .image) x ≡ cond (leb (sizeSent x + 64) (room st (here st))) done notEnoughMemory
   unfolding fitsRoom
   word-says x r = memory-decides (st .image) x (k .sound) r ∙ rw (room-is (here st) current-dir)
 
   -- a directory that lives, and a call that spares it
   module _ (x : Call) (d : ℕ) (lives : Lives st d) where
     stays : (Strikes st x d → ⊥) → Spared (slots st) (table st) (tableAfter st x) (here st) d
-    stays z = spared (st .ledger) (slots st) (table st) _ (k .agrees) (k .sound .kin) (omega (arith, k .sound .header .least)) d (dir d lives)
+    stays z =
+        spared (st .ledger) (slots st) (table st) _ (k .agrees) (k .sound .kin) (omega (arith, k .sound .header .least)) d (dir d lives)
         (heard (st .image) x) (here st) (currentDfOf (imageAfter (st .image) x)) (did st k x) (untrue _ z)
 
     goes-on : (Strikes st x d → ⊥) → Lives (next st x) d
@@ -143,7 +147,8 @@ module _ (st : Story) (k : Kept st) where
         ∙ stays z .room o ∙ sym (room-is d (dir d lives))
 
     ends : Strikes st x d → Lives (next st x) d → ⊥
-    ends s l = struck (st .ledger) (slots st) (table st) _ (k .agrees) (k .sound .kin) (omega (arith, k .sound .header .least)) d (dir d lives)
+    ends s l =
+        struck (st .ledger) (slots st) (table st) _ (k .agrees) (k .sound .kin) (omega (arith, k .sound .header .least)) d (dir d lives)
         (heard (st .image) x) (here st) (currentDfOf (imageAfter (st .image) x)) (did st k x) s
         (lives-dir (next st x .ledger) (slots st) _ (agrees-after st k x) (kin-after st k x) (omega (arith, k .sound .header .least)) d l)
 

@@ -11,7 +11,7 @@ use Rattle.sound.specs.Table.{View, File}
 use Rattle.sound.specs.Kin.{Kin}
 use Rattle.sound.specs.Kinship.{atOrBeneath}
 use Rattle.sound.proofs.Kept.{gone}
-use Rattle.history.specs.Ledger.{Entry, Ledger, Announced, makes, deletes, neither, noted, sumOver, goesWith}
+use Rattle.history.specs.Ledger.{Entry, Ledger, Announced, makes, deletes, neither, entered, sumOver, goesWith}
 use Rattle.history.proofs.Entries.{sum-keep}
 use Rattle.history.proofs.Agree.{Agrees, entryOf, worth, sumFiles, worth-file, worth-free, worth-root, slot-cases}
 use Rattle.history.proofs.Upward.{goes-same, root-stays}
@@ -67,8 +67,9 @@ module _ (l : Ledger) (n : ℕ) (v w : ℕ → View) (ok : Agrees l n v) (kin : 
     each = λ f. ok .each f ∙ sum-cong n (λ s. worth f s (v s)) (λ s. worth f s (w s)) (λ s k. ap (worth f s) (sym (h s k)));
   }
 
-  agree-more : (x size : ℕ) (isDf : Bool) (before after : ℕ) → OneMore n v w x size isDf before after → Agrees (noted l (makes x size isDf) before after) n w
-  unfolding noted sumFiles sumOver
+  agree-more : (x size : ℕ) (isDf : Bool) (before after : ℕ) → OneMore n v w x size isDf before after
+      → Agrees (entered l (makes x size isDf) before after) n w
+  unfolding entered sumFiles sumOver
   agree-more x size isDf before after c = record {
     total = ok .total ∙ ap (λ (y : View). y .size) (sym (c .rest 0 some (λ e. c .other (sym e))));
     each = λ f.
@@ -78,7 +79,8 @@ module _ (l : Ledger) (n : ℕ) (v w : ℕ → View) (ok : Agrees l n v) (kin : 
         omega (arith, e, a, b, ok .each f);
   }
     where
-      spelt : (b : Bool) → isDf ≡ b → entryOf (c .slot) (w (c .slot)) ≡ record { dir = before; identifier = x; size = size; own = cond b after 0 }
+      spelt : (b : Bool) → isDf ≡ b
+          → entryOf (c .slot) (w (c .slot)) ≡ record { dir = before; identifier = x; size = size; own = cond b after 0 }
       spelt true e = rw (c .kind, e, c .parent, c .identifier, c .size, c .own e)
       spelt false e = rw (c .kind, e, c .parent, c .identifier, c .size)
 
@@ -86,15 +88,16 @@ module _ (l : Ledger) (n : ℕ) (v w : ℕ → View) (ok : Agrees l n v) (kin : 
       used true e z = omega arith
       used false e z = omega arith
 
-  agree-gone : (x before after : ℕ) → AllBeneathGone n v w x before after → Agrees (noted l (deletes x) before after) n w
-  unfolding noted sumFiles
+  agree-gone : (x before after : ℕ) → AllBeneathGone n v w x before after → Agrees (entered l (deletes x) before after) n w
+  unfolding entered sumFiles
   agree-gone x before after c = record {
     total = ok .total ∙ ap (λ (y : View). y .size) (sym root-kept);
     each = λ f.
         sum-keep _ f (l .files)
         ∙ ok .each _
         ∙ sum-cong n _ (λ s. worth f s (w s))
-        (λ s h. worth-cut f (goesWith l before x) s (v s) (atOrBeneath v (c .slot) s) (λ u z. goes s h (u, z)) ∙ ap (worth f s) (sym (c .rest s h)));
+        (λ s h. worth-cut f (goesWith l before x) s (v s) (atOrBeneath v (c .slot) s) (λ u z. goes s h (u, z))
+        ∙ ap (worth f s) (sym (c .rest s h)));
   }
     where
       root-kept : w 0 ≡ v 0
@@ -103,7 +106,7 @@ module _ (l : Ledger) (n : ℕ) (v w : ℕ → View) (ok : Agrees l n v) (kin : 
       goes : (s : ℕ) → s < n → File v s → goesWith l before x (entryOf s (v s)) ≡ atOrBeneath v (c .slot) s
       goes s h u = rw (← c .parent, ← c .identifier) (goes-same l n v ok kin some (c .slot) (c .low) (c .file) s h u)
 
-  pub agree-step : (a : Announced) (before after : ℕ) → Did n v w a before after → Agrees (noted l a before after) n w
+  pub agree-step : (a : Announced) (before after : ℕ) → Did n v w a before after → Agrees (entered l a before after) n w
   agree-step (makes x size isDf) before after c = agree-more x size isDf before after c
   agree-step (deletes x) before after c = agree-gone x before after c
-  agree-step neither before after c = unfold noted in agree-same c
+  agree-step neither before after c = unfold entered in agree-same c

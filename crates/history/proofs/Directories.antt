@@ -14,7 +14,7 @@ use Rattle.rules.specs.Descriptor.{df}
 use Rattle.sound.specs.Table.{View, chargeOf, charged}
 use Rattle.sound.specs.Kin.{Kin}
 use Rattle.sound.specs.Kinship.{totalFor, roomFor}
-use Rattle.history.specs.Ledger.{Entry, Ledger, sumOver, firstOf, isOwn, livesIn, totalIn, costTo, chargedIn, roomIn, aboveIn}
+use Rattle.history.specs.Ledger.{Entry, Ledger, sumOver, firstEntry, isOwn, livesIn, totalIn, costTo, chargedIn, roomIn, aboveIn}
 use Rattle.history.proofs.Entries.{some-count}
 use Rattle.history.proofs.Agree.{Agrees, entryOf, worth, sumFiles, none-counts, one-counts, only-entry}
 
@@ -40,7 +40,7 @@ both false b x = refl
 
 module _ (l : Ledger) (n : ℕ) (v : ℕ → View) (ok : Agrees l n v) where
   -- the entry of a directory is what its record spells
-  pub dir-entry : (d : ℕ) → Dir n v d → (d ≡ 0 → ⊥) → firstOf (isOwn d) (l .files) ≡ entryOf d (v d)
+  pub dir-entry : (d : ℕ) → Dir n v d → (d ≡ 0 → ⊥) → firstEntry (isOwn d) (l .files) ≡ entryOf d (v d)
   dir-entry d k z =
       only-entry l n v ok (isOwn d) d (k .low) (dir-used (v d) (k .dir), z) (own-hit (v d .kind) d (k .dir))
       (λ i h m f. own-miss (eqb (v i .kind) df) i d m z)
@@ -70,7 +70,8 @@ module _ (l : Ledger) (n : ℕ) (v : ℕ → View) (ok : Agrees l n v) where
     where
       once : (d ≡ 0 → ⊥) → sumOver (λ e. ifSo (isOwn d e) 1) (l .files) ≡ 1
       once z =
-          one-counts l n v ok (λ e. ifSo (isOwn d e) 1) d (k .low) (dir-used (v d) (k .dir), z) (λ i h m f. rw (own-miss (eqb (v i .kind) df) i d m z))
+          one-counts l n v ok (λ e. ifSo (isOwn d e) 1) d (k .low) (dir-used (v d) (k .dir), z)
+          (λ i h m f. rw (own-miss (eqb (v i .kind) df) i d m z))
           ∙ rw (own-hit (v d .kind) d (k .dir))
 
   -- what is no directory does not

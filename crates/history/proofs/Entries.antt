@@ -9,7 +9,7 @@ use lib.Dec.{eqb}
 use lib.ListN.{length}
 use borrow.Author.Tests.{ne-eqb}
 use Rattle.laws.specs.Walks.{ifSo}
-use Rattle.history.specs.Ledger.{Entry, sumOver, someOf, firstOf, keep}
+use Rattle.history.specs.Ledger.{Entry, sumOver, someOf, firstEntry, keep}
 
 -- cutting the list down is cutting f down
 pub sum-keep : (p : Entry → Bool) (f : Entry → ℕ) (l : List Entry) → sumOver f (keep p l) ≡ sumOver (λ e. ifSo (p e) (f e)) l
@@ -23,26 +23,29 @@ sum-keep p f (e ∷ l) = go (p e) (sum-keep p f l)
     go false h = omega (arith, h)
 
 -- p holds of none: they give nothing
-sum-of-none : (p : Entry → Bool) (g : Entry → ℕ) (l : List Entry) → sumOver (λ e. ifSo (p e) 1) l ≡ 0 → sumOver (λ e. ifSo (p e) (g e)) l ≡ 0
+sum-of-none :
+    (p : Entry → Bool) (g : Entry → ℕ) (l : List Entry) → sumOver (λ e. ifSo (p e) 1) l ≡ 0 → sumOver (λ e. ifSo (p e) (g e)) l ≡ 0
 unfolding sumOver
 sum-of-none p g [] h = refl
 sum-of-none p g (e ∷ l) h = go (p e) h (λ q. sum-of-none p g l q)
   where
-    go : (b : Bool) → ifSo b 1 + sumOver (λ x. ifSo (p x) 1) l ≡ 0 → (sumOver (λ x. ifSo (p x) 1) l ≡ 0 → sumOver (λ x. ifSo (p x) (g x)) l ≡ 0)
+    go : (b : Bool) → ifSo b 1 + sumOver (λ x. ifSo (p x) 1) l ≡ 0
+        → (sumOver (λ x. ifSo (p x) 1) l ≡ 0 → sumOver (λ x. ifSo (p x) (g x)) l ≡ 0)
         → ifSo b (g e) + sumOver (λ x. ifSo (p x) (g x)) l ≡ 0
     go true q rec = absurd (omega arith)
     go false q rec = omega (arith, rec (omega arith))
 
 -- p holds of just one: they give what the first gives
-pub sum-of-one : (p : Entry → Bool) (g : Entry → ℕ) (l : List Entry) → sumOver (λ e. ifSo (p e) 1) l ≡ 1 → sumOver (λ e. ifSo (p e) (g e)) l ≡ g (firstOf p l)
-unfolding sumOver firstOf
+pub sum-of-one : (p : Entry → Bool) (g : Entry → ℕ) (l : List Entry) → sumOver (λ e. ifSo (p e) 1) l ≡ 1
+    → sumOver (λ e. ifSo (p e) (g e)) l ≡ g (firstEntry p l)
+unfolding sumOver firstEntry
 sum-of-one p g [] h = absurd (omega arith)
 sum-of-one p g (e ∷ l) h = go (p e) h (λ q. sum-of-none p g l q) (λ q. sum-of-one p g l q)
   where
     go : (b : Bool) → ifSo b 1 + sumOver (λ x. ifSo (p x) 1) l ≡ 1
         → (sumOver (λ x. ifSo (p x) 1) l ≡ 0 → sumOver (λ x. ifSo (p x) (g x)) l ≡ 0)
-        → (sumOver (λ x. ifSo (p x) 1) l ≡ 1 → sumOver (λ x. ifSo (p x) (g x)) l ≡ g (firstOf p l))
-        → ifSo b (g e) + sumOver (λ x. ifSo (p x) (g x)) l ≡ g (cond b e (firstOf p l))
+        → (sumOver (λ x. ifSo (p x) 1) l ≡ 1 → sumOver (λ x. ifSo (p x) (g x)) l ≡ g (firstEntry p l))
+        → ifSo b (g e) + sumOver (λ x. ifSo (p x) (g x)) l ≡ g (cond b e (firstEntry p l))
     go true q zero-rest rec = omega (arith, zero-rest (omega arith))
     go false q zero-rest rec = omega (arith, rec (omega arith))
 
@@ -58,7 +61,8 @@ unfolding sumOver someOf
 some-count p [] = refl
 some-count p (e ∷ l) = go (p e) (some-count p l)
   where
-    go : (b : Bool) → someOf p l ≡ not (eqb (sumOver (λ x. ifSo (p x) 1) l) 0) → (b || someOf p l) ≡ not (eqb (ifSo b 1 + sumOver (λ x. ifSo (p x) 1) l) 0)
+    go : (b : Bool) → someOf p l ≡ not (eqb (sumOver (λ x. ifSo (p x) 1) l) 0)
+        → (b || someOf p l) ≡ not (eqb (ifSo b 1 + sumOver (λ x. ifSo (p x) 1) l) 0)
     go true h = rw (ne-eqb (1 + sumOver (λ x. ifSo (p x) 1) l) 0 (λ z. omega arith))
     go false h =
         let e : 0 + sumOver (λ x. ifSo (p x) 1) l ≡ sumOver (λ x. ifSo (p x) 1) l = omega arith in

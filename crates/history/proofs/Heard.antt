@@ -21,14 +21,14 @@ use Rattle.sound.proofs.Kept.{gone}
 use Rattle.sound.proofs.Lived.{view-lived}
 use Rattle.sound.proofs.Created.{class-low}
 use Rattle.verdict.specs.declared.Verdict.{Verdict}
-use Rattle.verdict.specs.declared.Verdict.the-variants.{Refuse, Select, Create, Delete, Live}
+use Rattle.verdict.specs.declared.Verdict.the-variants.{Refuse, Select, Create, Delete, SetLife}
 use Rattle.verdict.specs.Words.{done}
 use Rattle.verdict.specs.Applied.{wordOf}
-use Rattle.judging.specs.Judge.{judgeOf}
+use Rattle.judge.specs.Judge.{judgeOf}
 use Rattle.card.specs.After.{recordAfter, dfAfter}
 use Rattle.card.specs.Demands.{Call}
 use Rattle.card.proofs.Tells.{Tells}
-use Rattle.card.proofs.Told.{judge-tells}
+use Rattle.card.proofs.Telling.{judge-tells}
 use Rattle.card.proofs.Speaks.{Spoken, judge-speaks}
 use Rattle.card.proofs.After.{records-after}
 use Rattle.card.proofs.Demands.{word-is, effect-and-no-other}
@@ -86,7 +86,7 @@ module _ (img c : List ℕ) (sound : Sound img) (w : ℕ → View) where
   unfolding said
   did (Refuse x) k a s after q e = rw (ne-eqb x done (λ z. s (inl z))) e
   did (Select d f x) k a s after q e = rw (nothing-said (Select d f x) a) e
-  did (Create s h p r from to) k a z after q e = rw a (one-more s h _ _ (k .1) after q e)
+  did (Create x) k a z after q e = rw a (one-more (x .slot) (x .head) _ _ (k .1) after q e)
   did (Delete s) k a z after q e = rw a (record {
     slot = s;
     low = k .low;
@@ -100,7 +100,10 @@ module _ (img c : List ℕ) (sound : Sound img) (w : ℕ → View) where
       cleared : (t : ℕ) (b : Bool) → viewOf (cond b freeBytes (recAt img t)) ≡ cond b gone (viewAt img t)
       cleared t true = view-free
       cleared t false = refl
-  did (Live s life) k a z after q e = rw a (λ t l. e t l ∙ ap viewOf (sym (records-after img c sound (Live s life) k t l)) ∙ view-lived img s life sound (k .0 .low) (k .0 .used) (k .1) t l)
+  did (SetLife s life) k a z after q e =
+      rw a
+      (λ t l. e t l ∙ ap viewOf (sym (records-after img c sound (SetLife s life) k t l))
+      ∙ view-lived img s life sound (k .0 .low) (k .0 .used) (k .1) t l)
 
 -- the table after a call, by what the ledger heard
 pub call-did : (img : List ℕ) (x : Call) → Sound img
@@ -111,5 +114,6 @@ call-did img x sound =
     let v = judgeOf img c (x .state) in
     let e = effect-and-no-other img c (x .state) sound in
     rw (word-is img c (x .state) sound)
-    (did img c sound (viewAt (imageAfter img x)) v (judge-tells img c sound (x .state)) (judge-announces img c (x .state)) (judge-speaks img c (x .state))
+    (did img c sound (viewAt (imageAfter img x)) v (judge-tells img c sound (x .state)) (judge-announces img c (x .state))
+    (judge-speaks img c (x .state))
     (currentDfOf (imageAfter img x)) (e .df) (λ t l. ap viewOf (e .records t l)))

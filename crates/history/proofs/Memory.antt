@@ -12,18 +12,19 @@ use Rattle.image.specs.Layout.{countOf, currentDfOf}
 use Rattle.sound.specs.Table.{viewAt}
 use Rattle.sound.specs.Sound.{Sound}
 use Rattle.sound.specs.Kinship.{freeSlot, identifierFree, nameFree, fitsRoom}
-use Rattle.template.specs.declared.Data.{Data}
-use Rattle.template.specs.declared.Data.the-variants.{Df, Ef, Bad}
-use Rattle.template.specs.Data.{dataOf}
+use Rattle.create_data.specs.declared.Data.{Data}
+use Rattle.create_data.specs.declared.Data.the-variants.{Df, Ef, Bad}
+use Rattle.create_data.specs.Data.{dataOf}
 use Rattle.verdict.specs.declared.State.{State}
-use Rattle.verdict.specs.Words.{done, notEnoughMemory, wrongData, securityNotSatisfied, conditionsNotSatisfied, identifierExists, nameExists}
+use Rattle.verdict.specs.Words.{done, notEnoughMemory, wrongData, securityNotSatisfied, conditionsNotSatisfied, identifierExists}
+use Rattle.verdict.specs.Words.{nameExists}
 use Rattle.verdict.specs.Applied.{wordOf, sentData}
-use Rattle.deciding.specs.Steps.{Step, step, allHold, Plan}
-use Rattle.deciding.specs.Target.{allowedAt, slotIn, isFile, creation, newIdentifier, newName, newSize, creating}
-use Rattle.creation.specs.Creation.{takesFiles, create}
-use Rattle.frame.specs.Frame.{instruction, createFile}
-use Rattle.judging.specs.Shared.{sharedSteps}
-use Rattle.judging.specs.Judge.{planFor, judgeOf}
+use Rattle.judge_target.specs.Steps.{Step, step, allHold, Plan}
+use Rattle.judge_target.specs.Target.{allowedAt, slotIn, describes, rightFor, newIdentifier, newName, newSize, creating}
+use Rattle.judge_create.specs.Creation.{takesFiles, create}
+use Rattle.apdu.specs.Apdu.{instruction, createFile}
+use Rattle.judge.specs.Shared.{sharedSteps}
+use Rattle.judge.specs.Judge.{planFor, judgeOf}
 use Rattle.card.specs.Steps.{stepsOf, effectOf, firstFailing}
 use Rattle.card.specs.Demands.{Call}
 use Rattle.card.proofs.Steps.{allWords}
@@ -43,20 +44,23 @@ module _ (m : Step) where
       let p = and-says (s .holds) (allHold ys) .0 h in
       and-says (s .holds) (allHold (ys ++ (m ∷ []))) .1 (p .0, last-holds ys (p .1) e)
 
-  last-fails : (ys : List Step) → allHold ys ≡ true → m .holds ≡ false → (allHold (ys ++ (m ∷ [])) ≡ false) × (firstFailing (ys ++ (m ∷ [])) ≡ m .word)
+  last-fails : (ys : List Step) → allHold ys ≡ true → m .holds ≡ false
+      → (allHold (ys ++ (m ∷ [])) ≡ false) × (firstFailing (ys ++ (m ∷ [])) ≡ m .word)
   last-fails [] h e = rw e (refl, refl)
   last-fails (s ∷ ys) h e =
       let p = and-says (s .holds) (allHold ys) .0 h in
       rw (p .0) (last-fails ys (p .1) e)
 
   -- one that fails among the others gives its word, whatever the last says
-  early-fails : (ys : List Step) → allHold ys ≡ false → (allHold (ys ++ (m ∷ [])) ≡ false) × (firstFailing (ys ++ (m ∷ [])) ≡ firstFailing ys)
+  early-fails :
+      (ys : List Step) → allHold ys ≡ false → (allHold (ys ++ (m ∷ [])) ≡ false) × (firstFailing (ys ++ (m ∷ [])) ≡ firstFailing ys)
   early-fails [] h = absurd (false≢true (sym h))
   early-fails (s ∷ ys) h = go (s .holds) h (λ q. early-fails ys q)
     where
       go : (b : Bool) → (b && allHold ys) ≡ false
           → (allHold ys ≡ false → (allHold (ys ++ (m ∷ [])) ≡ false) × (firstFailing (ys ++ (m ∷ [])) ≡ firstFailing ys))
-          → ((b && allHold (ys ++ (m ∷ []))) ≡ false) × (cond b (firstFailing (ys ++ (m ∷ []))) (s .word) ≡ cond b (firstFailing ys) (s .word))
+          → ((b && allHold (ys ++ (m ∷ []))) ≡ false)
+          × (cond b (firstFailing (ys ++ (m ∷ []))) (s .word) ≡ cond b (firstFailing ys) (s .word))
       go true q rec = rec q
       go false q rec = (refl, refl)
 
@@ -82,8 +86,8 @@ module _ (img c : List ℕ) (st : State) (e : instruction c ≡ createFile) wher
 
   earlier : List Step
   earlier = sharedSteps img c st ++ (
-      step (isFile new) wrongData
-      ∷ step (allowedAt img (currentDfOf img) (creation new) (st .sets)) securityNotSatisfied
+      step (describes new) wrongData
+      ∷ step (allowedAt img (currentDfOf img) (rightFor new) (st .sets)) securityNotSatisfied
       ∷ step (takesFiles img (currentDfOf img)) conditionsNotSatisfied
       ∷ step (identifierFree (countOf img) (viewAt img) (currentDfOf img) (newIdentifier new)) identifierExists
       ∷ step (nameFree (countOf img) (viewAt img) (newName (sentData c) new)) nameExists
@@ -104,14 +108,14 @@ module _ (img c : List ℕ) (st : State) (e : instruction c ≡ createFile) wher
   unfolding new
   effect-is = ap (λ (p : Plan). p .effect) plan-is
 
-  is-file : allHold earlier ≡ true → isFile new ≡ true
+  is-file : allHold earlier ≡ true → describes new ≡ true
   unfolding earlier
   is-file h = (simp and-says at h) .1 .1 .1 .1 .1 .1 .1 .1 .0
 
-  created-word : (d s : ℕ) (f : Data) → isFile f ≡ true → wordOf (creating img d s f) ≡ done
+  created-word : (d s : ℕ) (f : Data) → describes f ≡ true → wordOf (creating img d s f) ≡ done
   created-word d s Bad h = absurd (false≢true h)
-  created-word d s (Df k i l a b from to z) h = refl
-  created-word d s (Ef k i l m from to z) h = refl
+  created-word d s (Df x) h = refl
+  created-word d s (Ef x) h = refl
 
   module _ (sound : Sound img) (h : allHold (butLast (stepsOf img c st)) ≡ true) where
     hold : allHold earlier ≡ true
@@ -142,14 +146,22 @@ memory-decides img x sound r =
 -- a CREATE on a sound image is ready exactly when its word is 9000 or 6A84
 pub ready-exactly : ReadyExactly
 unfolding another
-ready-exactly img x sound e = (λ r. or-of (fitsRoom (countOf img) (viewAt img) (currentDfOf img) (sizeSent x)) (memory-decides img x sound r), back)
+ready-exactly img x sound e =
+    (λ r. or-of (fitsRoom (countOf img) (viewAt img) (currentDfOf img) (sizeSent x)) (memory-decides img x sound r), back)
   where
     or-of : (b : Bool) → wordFor img x ≡ cond b done notEnoughMemory → (wordFor img x ≡ done) ⊎ (wordFor img x ≡ notEnoughMemory)
     or-of true q = inl q
     or-of false q = inr q
 
     back : (wordFor img x ≡ done) ⊎ (wordFor img x ≡ notEnoughMemory) → Ready img x
-    back h = record { create = e; earlier = ap allHold (ap butLast (steps-are img (x .command) (x .state) e) ∙ but-last (earlier img (x .command) (x .state) e) (memory img (x .command) (x .state) e)) ∙ holds }
+    back h =
+        record {
+          create = e;
+          earlier = ap allHold
+              (ap butLast (steps-are img (x .command) (x .state) e)
+              ∙ but-last (earlier img (x .command) (x .state) e) (memory img (x .command) (x .state) e))
+              ∙ holds;
+        }
       where
         spoken : another (wordOf (judgeOf img (x .command) (x .state))) ≡ true → ⊥
         spoken a = not-says _ .0 a (or-says _ _ .1 (⊎-elim

@@ -42,7 +42,8 @@ module _ (n : ℕ) (v w : ℕ → View) (kin : Kin n v) (x z : ℕ) (isDf : Bool
   grown : (d : ℕ) → charged n w d ≡ charged n v d + chargeOf d (c .slot) (w (c .slot))
   unfolding charged
   grown d =
-      let e = sum-change n (λ s. chargeOf d s (w s)) (λ s. chargeOf d s (v s)) (c .slot) (c .low) (λ t h o. ap (chargeOf d t) (c .rest t h o)) in
+      let e = sum-change n (λ s. chargeOf d s (w s)) (λ s. chargeOf d s (v s)) (c .slot) (c .low)
+      (λ t h o. ap (chargeOf d t) (c .rest t h o)) in
       omega (arith, e, charge-free d (c .slot) (v (c .slot)) (c .free))
 
   -- a directory is not in the slot that was free
@@ -69,7 +70,10 @@ module _ (n : ℕ) (v w : ℕ → View) (kin : Kin n v) (x z : ℕ) (isDf : Bool
   made-spares : (d : ℕ) → Dir n v d → Spared n v w before d
   made-spares d k =
       let e = made-kept d k in
-      record { dir = record { low = k .low; dir = ap (λ (y : View). y .kind) e ∙ k .dir }; room = λ o. same-room n v w d e (made-elsewhere d o) }
+      record {
+        dir = record { low = k .low; dir = ap (λ (y : View). y .kind) e ∙ k .dir };
+        room = λ o. same-room n v w d e (made-elsewhere d o);
+      }
 
 module _ (n : ℕ) (v w : ℕ → View) (kin : Kin n v) (x before after : ℕ) (c : AllBeneathGone n v w x before after) where
   -- the deleted file costs nobody anything
@@ -82,7 +86,8 @@ module _ (n : ℕ) (v w : ℕ → View) (kin : Kin n v) (x before after : ℕ) (
   -- of the files of a directory that stays, only the deleted one goes
   module _ (d : ℕ) (k : Dir n v d) (stays : atOrBeneath v (c .slot) d ≡ false) where
     others-stay : (s : ℕ) → s < n → (s ≡ c .slot → ⊥) → chargeOf d s (w s) ≡ chargeOf d s (v s)
-    others-stay s h o = rw (c .rest s h) (slot-cases (chargeOf d s (cond (atOrBeneath v (c .slot) s) gone (v s)) ≡ chargeOf d s (v s)) s (v s)
+    others-stay s h o =
+        rw (c .rest s h) (slot-cases (chargeOf d s (cond (atOrBeneath v (c .slot) s) gone (v s)) ≡ chargeOf d s (v s)) s (v s)
         (λ e. charge-root d s _ e ∙ sym (charge-root d s (v s) e))
         (λ e. free e (atOrBeneath v (c .slot) s))
         (λ u y. at-file u y (atOrBeneath v (c .slot) s) refl))
@@ -91,13 +96,15 @@ module _ (n : ℕ) (v w : ℕ → View) (kin : Kin n v) (x before after : ℕ) (
         free e true = charge-free d s gone refl ∙ sym (charge-free d s (v s) e)
         free e false = refl
 
-        at-file : (v s .kind ≡ 0 → ⊥) → (s ≡ 0 → ⊥) → (b : Bool) → atOrBeneath v (c .slot) s ≡ b → chargeOf d s (cond b gone (v s)) ≡ chargeOf d s (v s)
+        at-file : (v s .kind ≡ 0 → ⊥) → (s ≡ 0 → ⊥) → (b : Bool) → atOrBeneath v (c .slot) s ≡ b
+            → chargeOf d s (cond b gone (v s)) ≡ chargeOf d s (v s)
         at-file u y false e = refl
         at-file u y true e = charge-free d s gone refl ∙ sym (charge-stranger d s (v s) (λ a b p. away p))
           where
             away : v s .parent ≡ d → ⊥
             away p =
-                let f : atOrBeneath v (c .slot) s ≡ false = beneath-step n v kin (c .slot) s h (u, y) ∙ rw (ne-eqb s (c .slot) o, p) stays in
+                let f : atOrBeneath v (c .slot) s ≡ false = beneath-step n v kin (c .slot) s h (u, y) ∙ rw (ne-eqb s (c .slot) o, p)
+                stays in
                 false≢true (sym f ∙ e)
 
     shrunk : charged n w d + chargeOf d (c .slot) (v (c .slot)) ≡ charged n v d
@@ -141,7 +148,8 @@ module _ (l : Ledger) (n : ℕ) (v w : ℕ → View) (ok : Agrees l n v) (kin : 
   spared (deletes x) before after c e = gone-spares n v w kin x before after c d k (sym (strikes-same x before after c) ∙ e)
   spared neither before after c e = record {
     dir = record { low = k .low; dir = ap (λ (y : View). y .kind) (c d (k .low)) ∙ k .dir };
-    room = λ o. same-room n v w d (c d (k .low)) (sum-cong n (λ s. chargeOf d s (w s)) (λ s. chargeOf d s (v s)) (λ s h. ap (chargeOf d s) (c s h)));
+    room = λ o. same-room n v w d (c d (k .low))
+        (sum-cong n (λ s. chargeOf d s (w s)) (λ s. chargeOf d s (v s)) (λ s h. ap (chargeOf d s) (c s h)));
   }
 
   pub struck : (a : Announced) (before after : ℕ) → Did n v w a before after → strikes l a before d ≡ true → Dir n w d → ⊥

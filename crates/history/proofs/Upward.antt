@@ -65,7 +65,8 @@ module _ (n : ℕ) (v : ℕ → View) (kin : Kin n v) where
   -- beyond the root stands the root
   up-past : (x : ℕ) → x < n → (v x .kind ≡ 0 → ⊥) → (j k : ℕ) → k ≡ v x .level + j → up v k x ≡ 0
   unfolding up
-  up-past x low used zero k e = let q : k ≡ v x .level = omega arith in rw q (⊎-elim (λ h. h) (λ z. absurd (deeper z)) (same-or (up v (v x .level) x) 0))
+  up-past x low used zero k e =
+      let q : k ≡ v x .level = omega arith in rw q (⊎-elim (λ h. h) (λ z. absurd (deeper z)) (same-or (up v (v x .level) x) 0))
     where
       r : Reached n v x (v x .level)
       r = reached n v kin x low used (v x .level) (omega arith)
@@ -91,7 +92,12 @@ module _ (n : ℕ) (v : ℕ → View) (kin : Kin n v) where
       lower : AtOrBeneath v t (v s .parent) → AtOrBeneath v t s
       lower b =
           let k : v s .level - v t .level ≡ suc (v (v s .parent) .level - v t .level) = omega (arith, b .deep, up-one) in
-          record { used = file .0; deep = omega (arith, b .deep, up-one); over = ap (λ (j : ℕ). up v j s) k ∙ sym (up-shift v (v (v s .parent) .level - v t .level) s) ∙ b .over }
+          record {
+            used = file .0;
+            deep = omega (arith, b .deep, up-one);
+            over = ap (λ (j : ℕ). up v j s) k
+                ∙ sym (up-shift v (v (v s .parent) .level - v t .level) s) ∙ b .over;
+          }
 
       higher : (s ≡ t → ⊥) → AtOrBeneath v t s → AtOrBeneath v t (v s .parent)
       higher z b = more (v s .level - v t .level) refl (b .over)
@@ -177,7 +183,8 @@ module _ (l : Ledger) (n : ℕ) (v : ℕ → View) (ok : Agrees l n v) (kin : Ki
         other : eqb s t ≡ false → (eqb (v s .parent) (v t .parent) && eqb (v s .identifier) (v t .identifier)) ≡ false
         other e = go (eqb (v s .parent) (v t .parent)) refl (eqb (v s .identifier) (v t .identifier)) refl
           where
-            go : (a : Bool) → eqb (v s .parent) (v t .parent) ≡ a → (b : Bool) → eqb (v s .identifier) (v t .identifier) ≡ b → (a && b) ≡ false
+            go : (a : Bool) → eqb (v s .parent) (v t .parent) ≡ a → (b : Bool) → eqb (v s .identifier) (v t .identifier) ≡ b
+                → (a && b) ≡ false
             go false p b q = refl
             go true p false q = refl
             go true p true q = absurd (⊎-elim

@@ -15,7 +15,7 @@ use Rattle.maker.specs.Making.{madeOf, leftBy}
 use Rattle.verdict.specs.Words.{done, notEnoughMemory}
 use Rattle.card.specs.Demands.{Call}
 use Rattle.history.specs.Ledger.{makes, deletes, livesIn, totalIn, chargedIn, roomIn, fileIn, strikes}
-use Rattle.history.specs.Story.{Story, begun, wordFor, heard, next, told, Ready, sizeSent}
+use Rattle.history.specs.Story.{Story, begun, wordFor, heard, next, played, Ready, sizeSent}
 
 -- the directory whose slot is current
 abbrev pub here : Story → ℕ
@@ -66,7 +66,7 @@ pub record History (st : Story) : Type 0 where
   pub rule : List ℕ
   pub calls : List Call
   pub made : madeOf buffer total rule ≡ Done
-  pub story : told (begun (leftBy Done buffer total rule) total) calls ≡ st
+  pub story : played (begun (leftBy Done buffer total rule) total) calls ≡ st
 
 abbrev pub Demand3Holds : Type 0
 Demand3Holds = (st : Story) → History st → Demand3 st
@@ -78,7 +78,7 @@ AllElsewhere st (x ∷ rest) d = (d ≡ here st → ⊥) × ((Strikes st x d →
 
 abbrev pub NothingElsewhere : Type 0
 NothingElsewhere = (st : Story) → History st → (d : ℕ) → Lives st d → (calls : List Call) → AllElsewhere st calls d
-    → Lives (told st calls) d × (room (told st calls) d ≡ room st d)
+    → Lives (played st calls) d × (room (played st calls) d ≡ room st d)
 
 -- a full file table never refuses a CREATE that has room: a free record is there, and the word is 9000
 abbrev pub FullTableNever : Type 0

@@ -1,5 +1,5 @@
 -- The ledger kept beside the card (01 "What the statements must tie down"): what a history has created and not
--- deleted since. It is written from the maker's call and from commands answered 9000; of the image it is told
+-- deleted since. It is written from the maker's call and from commands answered 9000; of the image it is played
 -- only which DF slot is current, before and after a command; it never reads a record.
 use mathlib.Core.Bool.{Bool, false, not, cond, _&&_, _||_}
 use mathlib.Core.List.{List, [], _∷_}
@@ -32,9 +32,9 @@ unfoldable pub someOf : (Entry → Bool) → List Entry → Bool
 someOf p [] = false
 someOf p (e ∷ l) = p e || someOf p l
 
-unfoldable pub firstOf : (Entry → Bool) → List Entry → Entry
-firstOf p [] = record { dir = 0; identifier = 0; size = 0; own = 0 }
-firstOf p (e ∷ l) = cond (p e) e (firstOf p l)
+unfoldable pub firstEntry : (Entry → Bool) → List Entry → Entry
+firstEntry p [] = record { dir = 0; identifier = 0; size = 0; own = 0 }
+firstEntry p (e ∷ l) = cond (p e) e (firstEntry p l)
 
 unfoldable pub keep : (Entry → Bool) → List Entry → List Entry
 keep p [] = []
@@ -50,7 +50,7 @@ livesIn l d = eqb d 0 || someOf (isOwn d) (l .files)
 
 -- the total announced for it
 unfoldable pub totalIn : Ledger → ℕ → ℕ
-totalIn l d = cond (eqb d 0) (l .total) (firstOf (isOwn d) (l .files) .size)
+totalIn l d = cond (eqb d 0) (l .total) (firstEntry (isOwn d) (l .files) .size)
 
 -- what an entry costs directory d: size plus 64, if it was created directly in it
 abbrev pub costTo : ℕ → Entry → ℕ
@@ -67,7 +67,7 @@ roomIn l d = totalIn l d - chargedIn l d
 
 -- the directory above d, the root being above itself; the one k steps up
 unfoldable pub aboveIn : Ledger → ℕ → ℕ
-aboveIn l d = cond (eqb d 0) 0 (firstOf (isOwn d) (l .files) .dir)
+aboveIn l d = cond (eqb d 0) 0 (firstEntry (isOwn d) (l .files) .dir)
 
 unfoldable pub upIn : Ledger → ℕ → ℕ → ℕ
 upIn l zero d = d
@@ -83,7 +83,7 @@ isNamed d x e = eqb (e .dir) d && eqb (e .identifier) x
 
 -- the file x of directory d
 unfoldable pub fileIn : Ledger → ℕ → ℕ → Entry
-fileIn l d x = firstOf (isNamed d x) (l .files)
+fileIn l d x = firstEntry (isNamed d x) (l .files)
 
 -- directory t is the file x of directory d, or lies beneath it; nothing lies beneath an EF
 unfoldable pub within : Ledger → ℕ → ℕ → ℕ → Bool
@@ -100,11 +100,11 @@ pub data Announced : Type 0 where
   neither : Announced
 
 -- the ledger after a command answered 9000, `before` and `after` being the current DF slots before and after it
-unfoldable pub noted : Ledger → Announced → ℕ → ℕ → Ledger
-noted l (makes x size isDf) before after =
+unfoldable pub entered : Ledger → Announced → ℕ → ℕ → Ledger
+entered l (makes x size isDf) before after =
     record { total = l .total; files = record { dir = before; identifier = x; size = size; own = cond isDf after 0 } ∷ l .files }
-noted l (deletes x) before after = record { total = l .total; files = keep (λ e. not (goesWith l before x e)) (l .files) }
-noted l neither before after = l
+entered l (deletes x) before after = record { total = l .total; files = keep (λ e. not (goesWith l before x e)) (l .files) }
+entered l neither before after = l
 
 -- the command deletes directory d, or one above it
 unfoldable pub strikes : Ledger → Announced → ℕ → ℕ → Bool

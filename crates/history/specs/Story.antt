@@ -8,28 +8,28 @@ use Prim.Native.Nat.{ℕ}
 use lib.Dec.{eqb}
 use Rattle.image.specs.Layout.{currentDfOf}
 use Rattle.sound.specs.Sound.{Sound}
-use Rattle.template.specs.declared.Data.{Data}
-use Rattle.template.specs.declared.Data.the-variants.{Df, Ef, Bad}
-use Rattle.template.specs.Data.{dataOf}
+use Rattle.create_data.specs.declared.Data.{Data}
+use Rattle.create_data.specs.declared.Data.the-variants.{Df, Ef, Bad}
+use Rattle.create_data.specs.Data.{dataOf}
 use Rattle.verdict.specs.Words.{done, notEnoughMemory}
 use Rattle.verdict.specs.Applied.{sentData}
-use Rattle.deciding.specs.Steps.{Step, allHold}
-use Rattle.deciding.specs.Target.{newSize}
-use Rattle.frame.specs.Frame.{instruction, sentIdentifier, createFile, deleteFile}
+use Rattle.judge_target.specs.Steps.{Step, allHold}
+use Rattle.judge_target.specs.Target.{newSize}
+use Rattle.apdu.specs.Apdu.{instruction, sentIdentifier, createFile, deleteFile}
 use Rattle.card.specs.Command.{answerWord, replyOf, imageOf}
 use Rattle.card.specs.Steps.{stepsOf}
 use Rattle.card.specs.Demands.{Call}
-use Rattle.history.specs.Ledger.{Ledger, Announced, makes, deletes, neither, noted, opened}
+use Rattle.history.specs.Ledger.{Ledger, Announced, makes, deletes, neither, entered, opened}
 
 -- what CREATE's data announce, and what a command does
-abbrev pub newFile : Data → Announced
-newFile Bad = neither
-newFile (Df descriptor identifier life a b c d total) = makes identifier total true
-newFile (Ef descriptor identifier life recordLength c d size) = makes identifier size false
+abbrev pub newEntry : Data → Announced
+newEntry Bad = neither
+newEntry (Df x) = makes (x .identifier) (x .size) true
+newEntry (Ef x) = makes (x .identifier) (x .size) false
 
 unfoldable pub announced : List ℕ → Announced
 announced c =
-    cond (eqb (instruction c) createFile) (newFile (dataOf (sentData c)))
+    cond (eqb (instruction c) createFile) (newEntry (dataOf (sentData c)))
     (cond (eqb (instruction c) deleteFile) (deletes (sentIdentifier c))
     neither)
 
@@ -57,13 +57,13 @@ heard img x = cond (eqb (wordFor img x) done) (announced (x .command)) neither
 unfoldable pub next : Story → Call → Story
 next st x = record {
   image = imageAfter (st .image) x;
-  ledger = noted (st .ledger) (heard (st .image) x) (currentDfOf (st .image)) (currentDfOf (imageAfter (st .image) x));
+  ledger = entered (st .ledger) (heard (st .image) x) (currentDfOf (st .image)) (currentDfOf (imageAfter (st .image) x));
 }
 
 -- any list of calls
-abbrev pub told : Story → List Call → Story
-told st [] = st
-told st (x ∷ rest) = told (next st x) rest
+abbrev pub played : Story → List Call → Story
+played st [] = st
+played st (x ∷ rest) = played (next st x) rest
 
 -- a list of steps short of the last
 abbrev pub butLast : List Step → List Step

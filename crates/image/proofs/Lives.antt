@@ -8,11 +8,13 @@ use native.Mathlib.Omega.{arith}
 use lib.ListN.{length, getD}
 use lib.Seq.{ext-getD}
 use Rattle.laws.specs.Lists.{part, splice}
-use Rattle.laws.proofs.Splices.{length-part, getD-part, length-splice, getD-splice-in, getD-splice-below, getD-splice-above, part-splice-other}
+use Rattle.laws.proofs.Splices.{length-part, getD-part, length-splice, getD-splice-in, getD-splice-below, getD-splice-above}
+use Rattle.laws.proofs.Splices.{part-splice-other}
 use Rattle.laws.proofs.Says.{same-or, apart}
 use Rattle.numbers.specs.Numbers.{u16At, u32At}
 use Rattle.numbers.proofs.Reading.{u16At-same}
-use Rattle.image.specs.Layout.{base, Within, recAt, withLife, setLife, kindOf, descriptorOf, lifeCycleOf, identifierOf, parentOf, levelOf, recordLengthOf, sizeOf, nameOf, ruleOf, fieldAt}
+use Rattle.image.specs.Layout.{base, Within, recAt, withLife, setLife, kindOf, descriptorOf, lifeCycleOf, identifierOf, parentOf}
+use Rattle.image.specs.Layout.{levelOf, recordLengthOf, sizeOf, nameOf, ruleOf, fieldAt}
 use Rattle.image.proofs.Places.{length-record}
 
 module _ (r : List ℕ) (x : ℕ) (whole : length r ≡ 64) where
@@ -52,9 +54,9 @@ module _ (r : List ℕ) (x : ℕ) (whole : length r ≡ 64) where
   unfolding levelOf
   level-kept = u16-kept 8 (omega arith)
 
-  pub stride-kept : recordLengthOf (withLife r x) ≡ recordLengthOf r
+  pub record-length-kept : recordLengthOf (withLife r x) ≡ recordLengthOf r
   unfolding recordLengthOf
-  stride-kept = u16-kept 10 (omega arith)
+  record-length-kept = u16-kept 10 (omega arith)
 
   pub size-kept : sizeOf (withLife r x) ≡ sizeOf r
   unfolding sizeOf u32At
@@ -97,7 +99,8 @@ module _ (img : List ℕ) (s x : ℕ) (within : Within img s) where
       ∙ sym (getD-splice-in (recAt img s) 2 (x ∷ []) (omega (arith, whole)) 0 (omega arith)))
   byte k l (inr z) =
       getD-part (setLife img s x) (base s) 64 k l
-      ∙ ⊎-elim (λ h. getD-splice-below img (base s + 2) (x ∷ []) (omega arith) (base s + k) (omega arith)) (λ h. getD-splice-above img (base s + 2) (x ∷ []) (omega arith) (base s + k) (omega arith)) (apart k 2 z)
+      ∙ ⊎-elim (λ h. getD-splice-below img (base s + 2) (x ∷ []) (omega arith) (base s + k) (omega arith))
+      (λ h. getD-splice-above img (base s + 2) (x ∷ []) (omega arith) (base s + k) (omega arith)) (apart k 2 z)
       ∙ sym (getD-part img (base s) 64 k l)
       ∙ sym (byte-kept (recAt img s) x whole k (⊎-elim (λ h. inl h) (λ h. inr (omega arith)) (apart k 2 z)))
 

@@ -8,7 +8,8 @@ use lib.Seq.{getD-at, drop-drop, take-at, drop-at, getD-append-add}
 use Rattle.laws.specs.Lists.{part}
 use Rattle.numbers.specs.Numbers.{u16At, u32At}
 use Rattle.image.specs.declared.Head.{Head}
-use Rattle.image.specs.Layout.{kindOf, descriptorOf, lifeCycleOf, identifierOf, parentOf, levelOf, recordLengthOf, sizeOf, nameOf, ruleOf, fieldAt, field, headBytes, recordBytes}
+use Rattle.image.specs.Layout.{kindOf, descriptorOf, lifeCycleOf, identifierOf, parentOf, levelOf, recordLengthOf, sizeOf, nameOf}
+use Rattle.image.specs.Layout.{ruleOf, fieldAt, field, headBytes, recordBytes}
 
 pub length-field : (v : List ℕ) → length v ≤ 16 → length (field v) ≡ 17
 unfolding field
@@ -32,7 +33,13 @@ unfolding field fieldAt part
 field-back a v b n e =
     let pad : List ℕ = replicate (16 - length v) 0 in
     let rest : List ℕ = v ++ pad ++ b in
-    rw (append-assoc a (length v ∷ (v ++ pad)) b, getD-at a (length v) rest 0 n e, ← drop-drop 1 n (a ++ (length v ∷ rest)), drop-at a (length v ∷ rest) n e)
+    rw (
+      append-assoc a (length v ∷ (v ++ pad)) b,
+      getD-at a (length v) rest 0 n e,
+      ← drop-drop 1 n (a ++ (length v ∷ rest)),
+      drop-at a
+          (length v ∷ rest) n e,
+    )
     (rw (append-assoc v pad b) (take-at v (pad ++ b) (length v) refl))
 
 -- what stands in the middle of three lists
@@ -99,9 +106,9 @@ module _ (h : Head) (name rule : List ℕ) where
   unfolding recordBytes headBytes levelOf u16At
   level-made = omega arith
 
-  pub stride-made : recordLengthOf (recordBytes h name rule) ≡ h .stride
+  pub record-length-made : recordLengthOf (recordBytes h name rule) ≡ h .«record_length»
   unfolding recordBytes headBytes recordLengthOf u16At
-  stride-made = omega arith
+  record-length-made = omega arith
 
   pub size-made : sizeOf (recordBytes h name rule) ≡ h .size
   unfolding recordBytes headBytes sizeOf u32At u16At

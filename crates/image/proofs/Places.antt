@@ -8,7 +8,8 @@ use Rattle.laws.specs.Lists.{part}
 use Rattle.laws.proofs.Splices.{getD-part, part-part, length-part}
 use Rattle.numbers.specs.Numbers.{u16At, u32At}
 use Rattle.numbers.proofs.Reading.{u16At-part, u32At-part}
-use Rattle.image.specs.Layout.{base, Within, recAt, kindOf, descriptorOf, lifeCycleOf, identifierOf, parentOf, levelOf, recordLengthOf, sizeOf, fieldAt}
+use Rattle.image.specs.Layout.{base, Within, recAt, kindOf, descriptorOf, lifeCycleOf, identifierOf, parentOf, levelOf}
+use Rattle.image.specs.Layout.{recordLengthOf, sizeOf, fieldAt}
 
 module _ (img : List ℕ) (s : ℕ) where
   pub byte-in : (k : ℕ) → k < 64 → getD (recAt img s) k 0 ≡ getD img (base s + k) 0
@@ -43,9 +44,9 @@ module _ (img : List ℕ) (s : ℕ) where
   unfolding levelOf
   level-in = u16-in 8 (omega arith)
 
-  pub stride-in : recordLengthOf (recAt img s) ≡ u16At img (base s + 10)
+  pub record-length-in : recordLengthOf (recAt img s) ≡ u16At img (base s + 10)
   unfolding recordLengthOf
-  stride-in = u16-in 10 (omega arith)
+  record-length-in = u16-in 10 (omega arith)
 
   pub size-in : sizeOf (recAt img s) ≡ u32At img (base s + 12)
   unfolding recAt sizeOf

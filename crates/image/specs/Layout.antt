@@ -91,7 +91,7 @@ ruleOf r = fieldAt r 33
 unfoldable pub headBytes : Head → List ℕ
 headBytes h =
     (h .kind ∷ h .descriptor ∷ h .life ∷ 0 ∷ [])
-    ++ be16 (h .identifier) ++ be16 (h .parent) ++ be16 (h .level) ++ be16 (h .stride) ++ be32 (h .size)
+    ++ be16 (h .identifier) ++ be16 (h .parent) ++ be16 (h .level) ++ be16 (h .«record_length») ++ be32 (h .size)
 
 -- a length and so many bytes, zero-padded to 16
 unfoldable pub field : List ℕ → List ℕ

@@ -2,7 +2,8 @@
 ghost use mathlib.Core.Path.{_≡_};
 ghost use Prim.Native.Nat.{_+_, _*_, _<_, _≤_};
 ghost use lib.ListN.{length, getD};
-ghost use Rattle.image.specs.Layout.{countOf, currentDfOf, currentEfOf, Within, recAt, kindOf, descriptorOf, lifeCycleOf, identifierOf, parentOf, levelOf, recordLengthOf, sizeOf, nameOf, ruleOf};
+ghost use Rattle.image.specs.Layout.{countOf, currentDfOf, currentEfOf, Within, recAt, kindOf, descriptorOf, lifeCycleOf};
+ghost use Rattle.image.specs.Layout.{identifierOf, parentOf, levelOf, recordLengthOf, sizeOf, fieldAt, nameOf, ruleOf};
 
 // The slot count N.
 pub fn count(image: &[u8]) -> usize
@@ -95,26 +96,31 @@ pub fn record(image: &[u8], s: usize) -> &[u8]
     &image[from..to]
 }
 
-// The name of record s, as a part of the image.
-pub fn name(image: &[u8], s: usize) -> &[u8]
-    requires { ⌜ Within (now image) s × (getD (recAt (now image) s) 16 0 ≤ 16) ⌝ }
-    ensures { λ r. ⌜ now r ≡ nameOf (recAt (now (image .entry)) s) ⌝ }
+// The field of record s at k, as a part of the image: a length, and so many bytes after it.
+fn field(image: &[u8], s: usize, k: usize) -> &[u8]
+    requires { ⌜ Within (now image) s × (k ≤ 33) ⌝ }
+    requires { ⌜ getD (recAt (now image) s) k 0 ≤ 16 ⌝ }
+    ensures { λ r. ⌜ now r ≡ fieldAt (recAt (now (image .entry)) s) k ⌝ }
 {
     let at = 16 + 64 * s;
-    let n = image[at + 16] as usize;
-    let from = at + 17;
+    let n = image[at + k] as usize;
+    let from = at + (k + 1);
     let to = from + n;
     &image[from..to]
 }
 
-// The rule of record s, as a part of the image.
+// The name of record s.
+pub fn name(image: &[u8], s: usize) -> &[u8]
+    requires { ⌜ Within (now image) s × (getD (recAt (now image) s) 16 0 ≤ 16) ⌝ }
+    ensures { λ r. ⌜ now r ≡ nameOf (recAt (now (image .entry)) s) ⌝ }
+{
+    field(image, s, 16)
+}
+
+// The rule of record s.
 pub fn rule(image: &[u8], s: usize) -> &[u8]
     requires { ⌜ Within (now image) s × (getD (recAt (now image) s) 33 0 ≤ 16) ⌝ }
     ensures { λ r. ⌜ now r ≡ ruleOf (recAt (now (image .entry)) s) ⌝ }
 {
-    let at = 16 + 64 * s;
-    let n = image[at + 33] as usize;
-    let from = at + 34;
-    let to = from + n;
-    &image[from..to]
+    field(image, s, 33)
 }

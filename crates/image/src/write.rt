@@ -19,7 +19,7 @@ fn put_head(image: &mut [u8], at: usize, h: Head)
     numbers::put16(image, at + 4, h.identifier);
     numbers::put16(image, at + 6, h.parent);
     numbers::put16(image, at + 8, h.level);
-    numbers::put16(image, at + 10, h.stride);
+    numbers::put16(image, at + 10, h.record_length);
     numbers::put32(image, at + 12, h.size);
 }
 

@@ -8,12 +8,12 @@ use lib.Dec.{eqb}
 use lib.Bits.{bitOr}
 
 -- bit j of a word
-unfoldable pub bit : ℕ → ℕ → ℕ
-bit w j = w / 2 ^ j % 2
+unfoldable pub bitIn : ℕ → ℕ → ℕ
+bitIn w j = w / 2 ^ j % 2
 
 -- the set has key k
 unfoldable pub marked : List ℕ → ℕ → Bool
-marked l k = eqb (bit (getD l (k / 64) 0) (k % 64)) 1
+marked l k = eqb (bitIn (getD l (k / 64) 0) (k % 64)) 1
 
 -- the set with key k
 unfoldable pub marking : List ℕ → ℕ → List ℕ

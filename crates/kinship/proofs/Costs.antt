@@ -28,7 +28,8 @@ pub charged-start : (img : List ℕ) (d : ℕ) → 0 ≡ chargedBelow img d 0
 unfolding chargedBelow
 charged-start img d = sym (sum-start _)
 
-pub charged-more : (img : List ℕ) (d s sum z : ℕ) → sum ≡ chargedBelow img d s → z ≡ chargeOf d s (viewAt img s) → sum + z ≡ chargedBelow img d (s + 1)
+pub charged-more :
+    (img : List ℕ) (d s sum z : ℕ) → sum ≡ chargedBelow img d s → z ≡ chargeOf d s (viewAt img s) → sum + z ≡ chargedBelow img d (s + 1)
 unfolding chargedBelow
 charged-more img d s sum z e f = omega (arith, sum-more (λ k. chargeOf d k (viewAt img k)) s)
 

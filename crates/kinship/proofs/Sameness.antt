@@ -18,8 +18,7 @@ use Rattle.laws.specs.declared.Found.{Found}
 use Rattle.laws.specs.declared.Found.the-variants.{At, Nothing}
 use Rattle.laws.proofs.Firsts.{first-is, no-first}
 use Rattle.laws.proofs.Walks.{each-all, all-not}
-use Rattle.sound.specs.Kinship.{isChildNamed, childNamed, identifierFree, nameFree}
-use Rattle.kinship.specs.Climb.{isNamedUp, namedUp}
+use Rattle.sound.specs.Kinship.{isChildNamed, childNamed, namedUp, identifierFree, nameFree}
 
 module _ (a b : List ℕ) where
   -- the first k bytes are the same
@@ -46,7 +45,8 @@ module _ (a b : List ℕ) where
   unfolding sameList
   same-stop k e l h = eq-and (length a) (length b) _ e (sym (all-fails _ (length a) k l (ne-eqb (getD a k 0) (getD b k 0) h)))
 
-  pub same-last : (k : ℕ) → length a ≡ length b → (length a ≡ 0 → ⊥) → k ≡ length a - 1 → (getD a k 0 ≡ getD b k 0 → ⊥) → false ≡ sameList a b
+  pub same-last :
+      (k : ℕ) → length a ≡ length b → (length a ≡ 0 → ⊥) → k ≡ length a - 1 → (getD a k 0 ≡ getD b k 0 → ⊥) → false ≡ sameList a b
   same-last k e z q h = same-stop k e (omega arith) h
 
   pub same-end : (k : ℕ) → length a ≡ length b → k ≤ length a → length a ≤ k → sameUpTo k ≡ true → true ≡ sameList a b
@@ -99,7 +99,7 @@ module _ (n : ℕ) (v : ℕ → View) (d x : ℕ) where
       and-off _ _ (all-fails (λ t. not (isChildNamed v d x t)) n s (f .low) (ap not (f .here))) refl
 
   pub identifier-above : {r : Found} {b : Bool} → r ≡ Nothing → r ≡ childNamed n v d x → b ≡ namedUp v x d → not b ≡ identifierFree n v d x
-  unfolding identifierFree childNamed namedUp isNamedUp
+  unfolding identifierFree childNamed
   identifier-above q e f =
       and-on _ _ (each-all (λ t. not (isChildNamed v d x t)) n (λ t l. ap not (no-first n (isChildNamed v d x) (sym e ∙ q) .none t l)))
-      (ap not f ∙ sym (all-not (suc (v d .level)) (λ k. eqb (v (up v k d) .identifier) x)))
+      (ap not f)

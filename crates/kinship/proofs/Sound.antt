@@ -13,7 +13,8 @@ use Rattle.sound.specs.Sound.{Sound, Header}
 use Rattle.kinship.specs.Climb.{Rooted, Stands, Paid}
 
 -- parents that stand where they must make the way up safe
-pub rooted-by : (img : List ℕ) (n : ℕ) → Sized img n → viewAt img 0 .parent ≡ 0 → viewAt img 0 .level ≡ 0 → ((s : ℕ) → s < n → File (viewAt img) s → Placed n (viewAt img) s) → Rooted img n
+pub rooted-by : (img : List ℕ) (n : ℕ) → Sized img n → viewAt img 0 .parent ≡ 0 → viewAt img 0 .level ≡ 0
+    → ((s : ℕ) → s < n → File (viewAt img) s → Placed n (viewAt img) s) → Rooted img n
 rooted-by img n sized top high placed =
     record {
       sized = sized;

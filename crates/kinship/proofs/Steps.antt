@@ -6,15 +6,13 @@ use mathlib.Core.List.{List}
 use Prim.Native.Nat.{ℕ, suc, _+_, _<_, _≤_}
 use native.Mathlib.Numerals.{add-one}
 use native.Mathlib.Omega.{arith}
-use lib.Dec.{eqb}
 use borrow.Author.Tests.{eq-eqb, ne-eqb}
-use Rattle.laws.specs.Walks.{anyBelow}
-use Rattle.laws.proofs.Walks.{any-turn, any-stop, any-end}
+use Rattle.laws.proofs.Walks.{any-zero, any-turn, any-stop, any-end}
 use Rattle.image.specs.Layout.{recAt, lifeCycleOf}
 use Rattle.rules.specs.Life.{isTerminated}
-use Rattle.sound.specs.Table.{viewAt, up}
-use Rattle.sound.specs.Kinship.{terminatedAt, terminatedUp}
-use Rattle.kinship.specs.Climb.{Rooted, Stands, isNamedUp, namedUp}
+use Rattle.sound.specs.Table.{viewAt, up, upward, hasIdentifier}
+use Rattle.sound.specs.Kinship.{terminatedAt, terminatedUp, namedUp}
+use Rattle.kinship.specs.Climb.{Rooted, Stands}
 
 -- where a walk up from s stands after i steps
 pub record Climbed (img : List ℕ) (n s i t : ℕ) : Type 0 where
@@ -33,46 +31,63 @@ climb-more img n s i t p rooted c e =
       stands = rw e (rooted .parent t (c .stands));
     }
 
--- asked on the way: is one of them terminated
-abbrev pub terminatedStep : List ℕ → ℕ → ℕ → Bool
-terminatedStep img s k = terminatedAt img (up (viewAt img) k s)
-
+-- a loop that asks p of each slot on the way up: a turn where p does not hold, the turn where it does, the end
 module _ (img : List ℕ) (n s i t : ℕ) (c : Climbed img n s i t) where
-  -- r is what the life-cycle byte x of slot t answered
-  terminated-is : (x : ℕ) (r b : Bool) → x ≡ lifeCycleOf (recAt img t) → r ≡ isTerminated x → r ≡ b → terminatedStep img s i ≡ b
+  asked-turn : (p : ℕ → Bool) → upward (viewAt img) p i s ≡ false → p t ≡ false → upward (viewAt img) p (i + 1) s ≡ false
+  unfolding upward
+  asked-turn p h f = any-turn (λ k. p (up (viewAt img) k s)) i false h (sym (ap p (sym (c .here)) ∙ f)) refl
+
+  asked-stop : (p : ℕ → Bool) (l : ℕ) → l ≡ viewAt img s .level → i < l + 1 → p t ≡ true
+      → true ≡ upward (viewAt img) p (suc (viewAt img s .level)) s
+  unfolding upward
+  asked-stop p l q h f =
+      any-stop (λ k. p (up (viewAt img) k s)) (suc (viewAt img s .level)) i true (omega arith) (sym (ap p (sym (c .here)) ∙ f)) refl
+
+  -- is one of them terminated: r is what the life-cycle byte x of slot t answered
+  pub terminated-turn :
+      (x : ℕ) (r : Bool) → upward (viewAt img) (terminatedAt img) i s ≡ false → x ≡ lifeCycleOf (recAt img t) → r ≡ isTerminated x
+      → r ≡ false → upward (viewAt img) (terminatedAt img) (i + 1) s ≡ false
   unfolding terminatedAt
-  terminated-is x r b e f g = rw (← c .here, ← e, ← f) g
+  terminated-turn x r h e f g = asked-turn (terminatedAt img) h (rw (← e, ← f) g)
 
-  pub terminated-turn : (x : ℕ) (r : Bool) → anyBelow i (terminatedStep img s) ≡ false → x ≡ lifeCycleOf (recAt img t) → r ≡ isTerminated x
-      → r ≡ false → anyBelow (i + 1) (terminatedStep img s) ≡ false
-  terminated-turn x r h e f g = any-turn (terminatedStep img s) i false h (sym (terminated-is x r false e f g)) refl
-
-  pub terminated-stop : (x l : ℕ) (r : Bool) → l ≡ viewAt img s .level → i < l + 1 → x ≡ lifeCycleOf (recAt img t) → r ≡ isTerminated x → r ≡ true
+  pub terminated-stop :
+      (x l : ℕ) (r : Bool) → l ≡ viewAt img s .level → i < l + 1 → x ≡ lifeCycleOf (recAt img t) → r ≡ isTerminated x → r ≡ true
       → true ≡ terminatedUp img s
-  unfolding terminatedUp
-  terminated-stop x l r q h e f g =
-      any-stop (terminatedStep img s) (suc (viewAt img s .level)) i true (omega arith) (sym (terminated-is x r true e f g)) refl
+  unfolding terminatedUp terminatedAt
+  terminated-stop x l r q h e f g = asked-stop (terminatedAt img) l q h (rw (← e, ← f) g)
 
-  -- asked on the way: has one of them identifier x; y is what stands in slot t
-  named-is : (x y : ℕ) → y ≡ viewAt img t .identifier → (b : Bool) → eqb y x ≡ b → isNamedUp (viewAt img) x s i ≡ b
-  unfolding isNamedUp
-  named-is x y e b f = rw (← c .here, ← e) f
+  -- has one of them identifier x: y is what stands in slot t
+  pub named-turn : (x y : ℕ) → upward (viewAt img) (hasIdentifier (viewAt img) x) i s ≡ false → y ≡ viewAt img t .identifier → (y ≡ x → ⊥)
+      → upward (viewAt img) (hasIdentifier (viewAt img) x) (i + 1) s ≡ false
+  named-turn x y h e f = asked-turn (hasIdentifier (viewAt img) x) h (rw (← e) (ne-eqb y x f))
 
-  pub named-turn : (x y : ℕ) → anyBelow i (isNamedUp (viewAt img) x s) ≡ false → y ≡ viewAt img t .identifier → (y ≡ x → ⊥)
-      → anyBelow (i + 1) (isNamedUp (viewAt img) x s) ≡ false
-  named-turn x y h e f = any-turn (isNamedUp (viewAt img) x s) i false h (sym (named-is x y e false (ne-eqb y x f))) refl
-
-  pub named-stop : (x y l : ℕ) → l ≡ viewAt img s .level → i < l + 1 → y ≡ viewAt img t .identifier → y ≡ x → true ≡ namedUp (viewAt img) x s
+  pub named-stop :
+      (x y l : ℕ) → l ≡ viewAt img s .level → i < l + 1 → y ≡ viewAt img t .identifier → y ≡ x → true ≡ namedUp (viewAt img) x s
   unfolding namedUp
-  named-stop x y l q h e f =
-      any-stop (isNamedUp (viewAt img) x s) (suc (viewAt img s .level)) i true (omega arith) (sym (named-is x y e true (eq-eqb y x f))) refl
+  named-stop x y l q h e f = asked-stop (hasIdentifier (viewAt img) x) l q h (rw (← e) (eq-eqb y x f))
 
-pub terminated-end : (img : List ℕ) (s i l : ℕ) → l ≡ viewAt img s .level → i ≤ l + 1 → l + 1 ≤ i → anyBelow i (terminatedStep img s) ≡ false
+asked-none : (img : List ℕ) (p : ℕ → Bool) (s : ℕ) → upward (viewAt img) p 0 s ≡ false
+unfolding upward
+asked-none img p s = any-zero _
+
+pub terminated-none : (img : List ℕ) (s : ℕ) → upward (viewAt img) (terminatedAt img) 0 s ≡ false
+terminated-none img s = asked-none img (terminatedAt img) s
+
+pub named-none : (img : List ℕ) (x s : ℕ) → upward (viewAt img) (hasIdentifier (viewAt img) x) 0 s ≡ false
+named-none img x s = asked-none img (hasIdentifier (viewAt img) x) s
+
+asked-end : (img : List ℕ) (p : ℕ → Bool) (s i l : ℕ) → l ≡ viewAt img s .level → i ≤ l + 1 → l + 1 ≤ i → upward (viewAt img) p i s ≡ false
+    → false ≡ upward (viewAt img) p (suc (viewAt img s .level)) s
+unfolding upward
+asked-end img p s i l q a b h = any-end (λ k. p (up (viewAt img) k s)) (suc (viewAt img s .level)) i (omega arith) (omega arith) h
+
+pub terminated-end :
+    (img : List ℕ) (s i l : ℕ) → l ≡ viewAt img s .level → i ≤ l + 1 → l + 1 ≤ i → upward (viewAt img) (terminatedAt img) i s ≡ false
     → false ≡ terminatedUp img s
 unfolding terminatedUp
-terminated-end img s i l q a b h = any-end (terminatedStep img s) (suc (viewAt img s .level)) i (omega arith) (omega arith) h
+terminated-end img s i l q a b h = asked-end img (terminatedAt img) s i l q a b h
 
-pub named-end : (img : List ℕ) (x s i l : ℕ) → l ≡ viewAt img s .level → i ≤ l + 1 → l + 1 ≤ i → anyBelow i (isNamedUp (viewAt img) x s) ≡ false
-    → false ≡ namedUp (viewAt img) x s
+pub named-end : (img : List ℕ) (x s i l : ℕ) → l ≡ viewAt img s .level → i ≤ l + 1 → l + 1 ≤ i
+    → upward (viewAt img) (hasIdentifier (viewAt img) x) i s ≡ false → false ≡ namedUp (viewAt img) x s
 unfolding namedUp
-named-end img x s i l q a b h = any-end (isNamedUp (viewAt img) x s) (suc (viewAt img s .level)) i (omega arith) (omega arith) h
+named-end img x s i l q a b h = asked-end img (hasIdentifier (viewAt img) x) s i l q a b h

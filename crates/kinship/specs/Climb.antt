@@ -1,12 +1,9 @@
--- What a walk up needs of an image, and the question that CREATE asks on the way.
+-- What a walk up needs of an image.
 use mathlib.Core.Path.{_≡_}
-use mathlib.Core.Bool.{Bool}
 use mathlib.Core.List.{List}
-use Prim.Native.Nat.{ℕ, suc, _+_, _<_, _≤_}
-use lib.Dec.{eqb}
-use Rattle.laws.specs.Walks.{anyBelow}
+use Prim.Native.Nat.{ℕ, _+_, _<_, _≤_}
 use Rattle.image.specs.Layout.{Sized}
-use Rattle.sound.specs.Table.{View, viewAt, up, charged}
+use Rattle.sound.specs.Table.{viewAt, charged}
 
 -- slot s holds a file
 pub record Stands (img : List ℕ) (n s : ℕ) : Type 0 where
@@ -22,11 +19,3 @@ pub record Rooted (img : List ℕ) (n : ℕ) : Type 0 where
 -- what its children cost directory d is within its total
 pub record Paid (img : List ℕ) (n d : ℕ) : Type 0 where
   pub within : charged n (viewAt img) d ≤ viewAt img d .size
-
--- the directory k steps up from s has identifier x
-unfoldable pub isNamedUp : (ℕ → View) → ℕ → ℕ → ℕ → Bool
-isNamedUp v x s k = eqb (v (up v k s) .identifier) x
-
--- s or a directory above it has identifier x
-unfoldable pub namedUp : (ℕ → View) → ℕ → ℕ → Bool
-namedUp v x s = anyBelow (suc (v s .level)) (isNamedUp v x s)

@@ -19,6 +19,6 @@ unfoldable pub dfNamed : ℕ → (ℕ → View) → ℕ → ℕ → Found
 dfNamed n v d x = firstBelow n (isDfNamed v d x)
 
 -- every record's name stands within its field
-pub record Named (img : List ℕ) (n : ℕ) : Type 0 where
+pub record NamesFit (img : List ℕ) (n : ℕ) : Type 0 where
   pub sized : Sized img n
   pub short : (s : ℕ) → s < n → getD (recAt img s) 16 0 ≤ 16

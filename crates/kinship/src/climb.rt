@@ -2,8 +2,8 @@
 // identifier (01 "CREATE" steps K and L, "DELETE", all life-cycle commands).
 ghost use mathlib.Core.Path.{_≡_};
 ghost use Rattle.sound.specs.Table.{viewAt};
-ghost use Rattle.sound.specs.Kinship.{terminatedUp};
-ghost use Rattle.kinship.specs.Climb.{Rooted, Stands, namedUp};
+ghost use Rattle.sound.specs.Kinship.{terminatedUp, namedUp};
+ghost use Rattle.kinship.specs.Climb.{Rooted, Stands};
 use image::fields;
 use rules::life_cycle;
 

@@ -4,7 +4,7 @@ ghost use Rattle.laws.specs.Lists.{sameList};
 ghost use Rattle.sound.specs.Table.{viewAt};
 ghost use Rattle.sound.specs.Kinship.{identifierFree, nameFree};
 ghost use Rattle.kinship.specs.Climb.{Rooted, Stands};
-ghost use Rattle.kinship.specs.Search.{Named};
+ghost use Rattle.kinship.specs.Search.{NamesFit};
 use crate::climb;
 use crate::search;
 use image::fields;
@@ -59,7 +59,7 @@ pub fn same(a: &[u8], b: &[u8]) -> bool
 
 // Whether no record has that name, if it is one.
 pub fn name_free(image: &[u8], n: usize, name: &[u8]) -> bool
-    requires { ⌜ Named (now image) n ⌝ }
+    requires { ⌜ NamesFit (now image) n ⌝ }
     ensures { λ r. ⌜ r ≡ nameFree n (viewAt (now (image .entry))) (now (name .entry)) ⌝ }
 {
     if name.len() == 0 {

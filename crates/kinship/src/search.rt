@@ -7,13 +7,14 @@ ghost use Rattle.sound.specs.Kinship.{isChild, isChildNamed, childNamed, freeSl
 ghost use Rattle.kinship.specs.Search.{isDfNamed, dfNamed};
 use image::fields;
 use laws::Found;
+use rules::descriptor;
 
 // A used record other than the root.
 pub fn is_file(image: &[u8], s: usize) -> bool
     requires { ⌜ Within (now image) s ⌝ }
     ensures { λ r. ⌜ r ≡ isFile (viewAt (now (image .entry))) s ⌝ }
 {
-    if fields::kind(image, s) == 0 {
+    if fields::kind(image, s) == image::FREE {
         return false;
     }
     s != 0
@@ -60,7 +61,7 @@ fn is_df_named(image: &[u8], d: usize, x: u16, s: usize) -> bool
     requires { ⌜ Within (now image) s ⌝ }
     ensures { λ r. ⌜ r ≡ isDfNamed (viewAt (now (image .entry))) d x s ⌝ }
 {
-    if fields::kind(image, s) != 1 {
+    if fields::kind(image, s) != descriptor::DF {
         return false;
     }
     is_child_named(image, d, x, s)
@@ -91,7 +92,7 @@ pub fn free_slot(image: &[u8], n: usize) -> Found
         if n <= s {
             break Found::Nothing;
         }
-        if fields::kind(image, s) == 0 {
+        if fields::kind(image, s) == image::FREE {
             break Found::At(s);
         }
         s += 1;

@@ -57,7 +57,11 @@ same-says a b = (to, from)
 
     from : a ≡ b → (eqb (length a) (length b) && allBelow (length a) (λ k. eqb (getD a k 0) (getD b k 0))) ≡ true
     from q =
-        and-says _ _ .1 (eq-eqb _ _ (ap length q), each-all (λ k. eqb (getD a k 0) (getD b k 0)) (length a) (λ i l. eq-eqb _ _ (ap (λ (x : List ℕ). getD x i 0) q)))
+        and-says _ _ .1 (
+          eq-eqb _ _ (ap length q),
+          each-all (λ k. eqb (getD a k 0) (getD b k 0)) (length a)
+              (λ i l. eq-eqb _ _ (ap (λ (x : List ℕ). getD x i 0) q)),
+        )
 
 pub ruleset says = (and-says, implies-says, either-says, not-says, or-says, eq-says, le-says, all-says, same-says)
 

@@ -6,7 +6,8 @@ use Prim.Native.Nat.{ℕ, _+_, _-_, _<_, _≤_}
 use native.Mathlib.Nat.{add-zero, add-assoc}
 use native.Mathlib.Omega.{arith}
 use native.Mathlib.Numerals.{add-one}
-use lib.ListN.{length, getD, set, take, drop, replicate, length-append, length-take, length-drop, take-append-drop, List·getD-append, length-replicate, replicate-append-replicate, drop-of-length-le}
+use lib.ListN.{length, getD, set, take, drop, replicate, length-append, length-take, length-drop, take-append-drop, List·getD-append}
+use lib.ListN.{length-replicate, replicate-append-replicate, drop-of-length-le}
 use lib.Seq.{length-take-le, take-at, drop-at, drop-drop, getD-append-add, getD-take, getD-drop, sets-eq, ext-getD, take-suc, take-all}
 use Rattle.laws.specs.Lists.{part, splice}
 

@@ -9,7 +9,7 @@ use lib.Dec.{eqb, leb}
 use lib.ListN.{length, replicate, length-append, length-replicate}
 use borrow.Author.Tests.{not-true, not-false, le-leb, lt-leb}
 use Rattle.laws.specs.Lists.{splice}
-use Rattle.laws.proofs.Says.{says}
+use Rattle.laws.proofs.Says.{says, untrue}
 use Rattle.laws.proofs.Settling.{settled, both-are}
 use Rattle.laws.proofs.Splices.{splice-step, splice-all}
 use Rattle.rules.specs.Rule.{fitsRecord}
@@ -24,6 +24,7 @@ use Rattle.sound.proofs.Fresh.{count, view-root, view-rest, sound-fresh}
 use Rattle.maker.specs.declared.Made.{Made}
 use Rattle.maker.specs.declared.Made.the-variants.{Done, BadLength, BadTotal, BadRule}
 use Rattle.maker.specs.Making.{slotsIn, fitsLength, fitsTotal, madeOf, madeNumber, leftBy, MakerPromises, MadeOnce, SoundMade}
+use Rattle.maker.specs.Making.{MakerAnswers}
 
 pub slots-short : (long : ℕ) → long < 16 → 0 ≡ slotsIn long
 unfolding slotsIn
@@ -78,8 +79,10 @@ fresh-written img a b z n total rule sized short e f g =
     let w = length-made (rootHead total) [] rule (omega arith) short in
     let l16 = header-long in
     let l80 : length (freshHeader n ++ recordBytes (rootHead total) [] rule) ≡ 80 = rw (length-append (freshHeader n), w, l16) in
-    let one = splice-step img 0 (freshHeader n) a 16 (recordBytes (rootHead total) [] rule) b e (omega (arith, l16, sized .long)) (omega (arith, l16)) f in
-    let two = splice-step img 0 (freshHeader n ++ recordBytes (rootHead total) [] rule) b 80 (replicate (64 * (n - 1)) 0) z one (omega (arith, l80, sized .long, sized .least)) (omega (arith, l80)) g in
+    let one = splice-step img 0 (freshHeader n) a 16 (recordBytes (rootHead total) [] rule) b e (omega (arith, l16, sized .long))
+    (omega (arith, l16)) f in
+    let two = splice-step img 0 (freshHeader n ++ recordBytes (rootHead total) [] rule) b 80 (replicate (64 * (n - 1)) 0) z one
+    (omega (arith, l80, sized .long, sized .least)) (omega (arith, l80)) g in
     two
     ∙ splice-all img (freshHeader n ++ recordBytes (rootHead total) [] rule ++ replicate (64 * (n - 1)) 0) (whole l80)
     ∙ append-assoc (freshHeader n) (recordBytes (rootHead total) [] rule) (replicate (64 * (n - 1)) 0)
@@ -104,10 +107,12 @@ length-done : BadLength ≡ Done → ⊥
 length-done e = let z : _≡_ {A = ℕ} 2 0 = ap madeNumber e in absurd (omega arith)
 
 -- an answer that is the one given has 01's number
-promised : (img : List ℕ) (total : ℕ) (rule : List ℕ) (r : Made) (left : List ℕ) → r ≡ madeOf img total rule → left ≡ leftBy r img total rule
+promised :
+    (img : List ℕ) (total : ℕ) (rule : List ℕ) (r : Made) (left : List ℕ) → r ≡ madeOf img total rule → left ≡ leftBy r img total rule
     → MakerPromises img total rule r left
 unfolding madeOf
-promised img total rule r left e f = (e, f, ap madeNumber e ∙ go (fitsLength (length img)) (fitsTotal (slotsIn (length img)) total) (fitsRecord rule))
+promised img total rule r left e f =
+    (e, f, ap madeNumber e ∙ go (fitsLength (length img)) (fitsTotal (slotsIn (length img)) total) (fitsRecord rule))
   where
     go : (a b c : Bool) → madeNumber (cond a (cond b (cond c Done BadRule) BadTotal) BadLength) ≡ cond a (cond b (cond c 0 4) 3) 2
     go true true true = refl
@@ -180,5 +185,46 @@ sound-made = made-sound
 
 -- the maker's statement settles answer and buffer
 pub made-once : MadeOnce
-made-once img total rule = settled (λ p. MakerPromises img total rule (p .0) (p .1)) (madeOf img total rule, leftBy (madeOf img total rule) img total rule)
+made-once img total rule =
+    settled (λ p. MakerPromises img total rule (p .0) (p .1)) (madeOf img total rule, leftBy (madeOf img total rule) img total rule)
     (λ p k. both-are _ _ p (k .0) (k .1 ∙ ap (λ (m : Made). leftBy m img total rule) (k .0)))
+
+-- the number of slots of a buffer that has some
+sized-slots : (img : List ℕ) (n : ℕ) → Sized img n → (fitsLength (length img) ≡ true) × (slotsIn (length img) ≡ n)
+sized-slots img n k =
+    let e = slots-are in
+    (length-says (length img) .1 (rw e (k .least, (k .most, k .long))), e)
+  where
+    slots-are : slotsIn (length img) ≡ n
+    slots-are = unfold slotsIn in omega (arith, k .long)
+
+pub maker-answers : MakerAnswers
+unfolding madeOf
+maker-answers img total rule r left p = record {
+  two = λ none.
+    let a = unfit none in
+    let q : madeOf img total rule ≡ BadLength = rw a in
+    (p .2 ∙ rw a, leaves q);
+  three = λ n k no.
+    let a = sized-slots img n k in
+    let b : fitsTotal n total ≡ false = untrue _ (λ t. no (total-says n total .0 t)) in
+    let q : madeOf img total rule ≡ BadTotal = rw (a .0, a .1, b) in
+    (p .2 ∙ rw (a .0, a .1, b), leaves q);
+  four = λ n k yes c.
+    let a = sized-slots img n k in
+    let b = total-says n total .1 yes in
+    let q : madeOf img total rule ≡ BadRule = rw (a .0, a .1, b, c) in
+    (p .2 ∙ rw (a .0, a .1, b, c), leaves q);
+  none = λ n k yes c.
+    let a = sized-slots img n k in
+    let b = total-says n total .1 yes in
+    let q : madeOf img total rule ≡ Done = rw (a .0, a .1, b, c) in
+    (p .2 ∙ rw (a .0, a .1, b, c), leaves q ∙ ap (λ (j : ℕ). fresh j total rule) (a .1));
+}
+  where
+    unfit : ((n : ℕ) → Sized img n → ⊥) → fitsLength (length img) ≡ false
+    unfit none = untrue _ (λ t. let h = length-says (length img) .0 t in
+        none (slotsIn (length img)) (record { long = h .1 .1; least = h .0; most = h .1 .0 }))
+
+    leaves : {m : Made} → madeOf img total rule ≡ m → left ≡ leftBy m img total rule
+    leaves q = p .1 ∙ ap (λ (k : Made). leftBy k img total rule) (p .0 ∙ q)

@@ -1,12 +1,13 @@
 -- The maker (01 "Making and reporting"): its answers in 01's order, and what it leaves of the buffer.
 use mathlib.Core.Path.{_≡_}
-use mathlib.Core.Bool.{Bool, cond, _&&_}
+use mathlib.Core.Bool.{Bool, true, false, cond, _&&_}
 use mathlib.Core.List.{List}
-use Prim.Native.Nat.{ℕ, _+_, _*_, _-_, _/_}
+use Prim.Native.Nat.{ℕ, _+_, _*_, _-_, _/_, _≤_}
 use lib.Dec.{eqb, leb}
 use lib.ListN.{length}
 use Rattle.laws.specs.Settled.{Settles}
 use Rattle.rules.specs.Rule.{fitsRecord}
+use Rattle.image.specs.Layout.{Sized}
 use Rattle.sound.specs.Sound.{Sound}
 use Rattle.sound.specs.Effects.{fresh}
 use Rattle.maker.specs.declared.Made.{Made}
@@ -61,3 +62,18 @@ MadeOnce = (img : List ℕ) (total : ℕ) (rule : List ℕ) → Settles (Made ×
 -- and what it makes is sound (`sound-made`)
 abbrev pub SoundMade : Type 0
 SoundMade = (img : List ℕ) (total : ℕ) (rule : List ℕ) → madeOf img total rule ≡ Done → Sound (leftBy Done img total rule)
+
+-- its answers are 01's numbers, in 01's order: 2 for a length that isn't 16 + 64N with N 2 to 1,023, 3 for a total outside 1 to
+-- 64(N-1), 4 for a rule that isn't 1 to 16 bytes or not well formed, each with the buffer as it came; else 0, and a fresh card
+-- (`maker-answers`)
+pub record MakerNumbers (img : List ℕ) (total : ℕ) (rule : List ℕ) (r : Made) (left : List ℕ) : Type 0 where
+  pub two : ((n : ℕ) → Sized img n → ⊥) → (madeNumber r ≡ 2) × (left ≡ img)
+  pub three : (n : ℕ) → Sized img n → ((1 ≤ total) × (total ≤ 64 * (n - 1)) → ⊥) → (madeNumber r ≡ 3) × (left ≡ img)
+  pub four : (n : ℕ) → Sized img n → (1 ≤ total) × (total ≤ 64 * (n - 1)) → fitsRecord rule ≡ false
+      → (madeNumber r ≡ 4) × (left ≡ img)
+  pub none : (n : ℕ) → Sized img n → (1 ≤ total) × (total ≤ 64 * (n - 1)) → fitsRecord rule ≡ true
+      → (madeNumber r ≡ 0) × (left ≡ fresh n total rule)
+
+abbrev pub MakerAnswers : Type 0
+MakerAnswers = (img : List ℕ) (total : ℕ) (rule : List ℕ) (r : Made) (left : List ℕ) → MakerPromises img total rule r left
+    → MakerNumbers img total rule r left

@@ -9,6 +9,8 @@ ghost use Rattle.sound.specs.Effects.{freshHeader, fresh};
 ghost use Rattle.maker.specs.Making.{slotsIn, fitsLength, fitsTotal, MakerPromises};
 use crate::Made;
 use image::Head;
+use rules::descriptor;
+use rules::life_cycle;
 
 // The number of slots that so many bytes may have.
 fn slots_in(long: usize) -> usize
@@ -57,7 +59,7 @@ fn put_header(image: &mut [u8], n: u16)
     numbers::put16(image, 3, 1);
     numbers::put16(image, 5, n);
     numbers::put16(image, 7, 0);
-    numbers::put16(image, 9, 0xFFFF);
+    numbers::put16(image, 9, image::NONE);
     numbers::zero_out(image, 11, 5);
 }
 
@@ -68,13 +70,13 @@ fn put_fresh(image: &mut [u8], n: usize, total: u32, rule: &[u8])
 {
     let name = &rule[0..0];
     let root = Head {
-        kind: 1,
+        kind: descriptor::DF,
         descriptor: 0x38,
-        life: 0x05,
+        life: life_cycle::ACTIVATED_BYTE,
         identifier: 0x3F00,
         parent: 0,
         level: 0,
-        stride: 0,
+        record_length: 0,
         size: total,
     };
     put_header(image, n as u16);

@@ -1,5 +1,4 @@
-// The maker of fresh images and the report (01 "Making and reporting"). It may use laws, numbers, rules, image,
-// sound, kinship, subtree and soundness.
+// The maker of fresh images and the report (01 "Making and reporting").
 //
 // Both calls take any bytes. An answer is an enum; specs/ gives 01's number and values for each of its cases.
 pub mod fresh;
@@ -22,7 +21,7 @@ pub struct Figures {
 }
 
 // What the report answers.
-pub enum Told {
+pub enum Reported {
     Numbers(Figures),
     Unsound,
 }

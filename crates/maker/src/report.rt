@@ -4,7 +4,7 @@ ghost use Rattle.image.specs.Layout.{Sized, countOf};
 ghost use Rattle.sound.specs.Sound.{Sound};
 ghost use Rattle.maker.specs.Reporting.{figuresOf, ReportPromises};
 use crate::Figures;
-use crate::Told;
+use crate::Reported;
 
 // The numbers of a sound image of n slots.
 fn figures(image: &[u8], n: usize) -> Figures
@@ -26,12 +26,12 @@ fn figures(image: &[u8], n: usize) -> Figures
 }
 
 // Reports on any bytes: the numbers of a sound image, or that it is not one.
-pub fn report(image: &[u8]) -> Told
+pub fn report(image: &[u8]) -> Reported
     ensures { λ r. ⌜ ReportPromises (now (image .entry)) r ⌝ }
 {
-    if !soundness::sound(image) {
-        return Told::Unsound;
+    if !sound_test::sound(image) {
+        return Reported::Unsound;
     }
     let n = image::fields::count(image);
-    Told::Numbers(figures(image, n))
+    Reported::Numbers(figures(image, n))
 }

@@ -1,8 +1,8 @@
-// Numbers and stretches of bytes in a slice: 16- and 32-bit numbers, high byte first, read and put; a
-// slice copied in; a stretch zeroed. It may use laws. It answers 01 "Image": numbers are big-endian.
+// Numbers and stretches of bytes in a slice: 16- and 32-bit numbers, high byte first, read and put; a slice copied in;
+// a stretch zeroed. It answers 01 "Image": numbers are big-endian.
 //
-// Every put is a splice of the list of bytes, so that one law carries all that is known of an image past
-// any write (laws, proofs/Splices).
+// Every put is a splice of the list of bytes, so that one law carries all that is known of an image past any write
+// (laws, proofs/Splices).
 ghost use mathlib.Core.Path.{_≡_};
 ghost use mathlib.Core.List.{[], _∷_};
 ghost use Prim.Native.Nat.{_+_, _≤_, _<_};

@@ -1,6 +1,6 @@
 // Reads CREATE's data from standard input and writes a line for each of its objects, where they stop, and how CREATE reads
 // them (01 "CREATE", data: why data is refused with 6A80). It reads one byte more than the longest data, which is enough
-// to see that it is too long. All that it decides is `listing::list`.
+// to see that it is too long. All that it decides is `objects_text::list`.
 //
 // What cannot be read or written is said on standard error: a program has no exit status to say it with.
 fn main() {
@@ -16,7 +16,7 @@ fn main() {
         }
     }
     let mut out = [0u8; 1292];
-    let long = listing::list(&buf[..n], &mut out);
+    let long = objects_text::list(&buf[..n], &mut out);
     if !io::write_all(libc::STDOUT_FILENO, &out[..long]) {
         io::write_all(
             libc::STDERR_FILENO,

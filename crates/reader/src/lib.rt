@@ -1,9 +1,9 @@
 // The object reader as a struct that holds the template and its place (01 "CREATE", data: "After the core stands, the
-// object reader is also wanted as a struct that holds the template and its place"). It may use template.
+// object reader is also wanted as a struct that holds the template and its place").
 //
-// Thin: each function over the struct takes it apart and calls a function on slice and place, or puts one together. The
-// borrow checker covers none of them, so each is proved by hand; the work stands in functions on a plain slice, which it
-// covers. Callers use `object` and `after`, whose parameters are plain.
+// Thin: each function over the struct takes it apart and calls a function on slice and place, or puts one together.
+// The borrow checker covers none of them, so each is proved by hand; the work stands in functions on a plain slice,
+// which it covers. Callers use `object` and `after`, whose parameters are plain.
 ghost use mathlib.Core.Path.{_≡_};
 ghost use Rattle.template.specs.Objects.{objectAt};
 ghost use Rattle.reader.specs.Places.{placeAfter};

@@ -1,6 +1,6 @@
 // Reads a stream of commands from standard input, carries it out on a fresh card, and writes a line for each word (01
 // "Replay"). It reads one byte more than the longest stream, which is enough to see that one is too long. All that it
-// decides is `stream::replay`.
+// decides is `replay_text::replay`.
 //
 // What cannot be read or written is said on standard error: a program has no exit status to say it with.
 fn main() {
@@ -16,7 +16,7 @@ fn main() {
         }
     }
     let mut out = [0u8; 98308];
-    let long = stream::replay(&buf[..n], &mut out);
+    let long = replay_text::replay(&buf[..n], &mut out);
     if !io::write_all(libc::STDOUT_FILENO, &out[..long]) {
         io::write_all(
             libc::STDERR_FILENO,

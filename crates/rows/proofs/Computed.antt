@@ -1,5 +1,6 @@
 -- Every row computes, whole calls among them; what stands behind `unfolding` is all that a call is made of.
-use mathlib.Core.Path.{refl}
+use mathlib.Core.Path.{_≡_, refl}
+use Rattle.rules.specs.declared.Sets.{Sets}
 use Rattle.laws.specs.Lists.{part, splice, sameList}
 use Rattle.laws.specs.Tests.{implies, either}
 use Rattle.laws.specs.Walks.{allBelow, anyBelow, firstBelow, sumBelow, countBelow}
@@ -10,28 +11,50 @@ use Rattle.rules.specs.Group.{scAt, slotsOf, nextOf, groupLength, someGroup}
 use Rattle.rules.specs.Life.{lifeOf, knownLife, newLife, canActivate}
 use Rattle.rules.specs.Rule.{malformedAt, wellFormed, fitsRecord, holdsAt, allowsOf, grantedOf}
 use Rattle.rules.specs.Value.{goodIdentifier, wholeRecords, goodLength}
-use Rattle.template.specs.Data.{isTemplate, bothGood, nameGood, newDf, newEf, dfOf, sizedEf, efOf, fileOf, dataOf}
-use Rattle.template.specs.Form.{lacks, has, onePrivate, firstForm, dfForm, efForm}
+use Rattle.create_data.specs.Data.{isTemplate, bothGood, nameGood, newFile, dfOf, sizedEf, efOf, fileOf, dataOf}
+use Rattle.create_data.specs.Form.{lacks, has, onePrivate, firstForm, dfForm, efForm}
 use Rattle.template.specs.Objects.{objectAt, takenAt, takenBelow, objectsOf}
 use Rattle.template.specs.Values.{pairOf, recordLengthOf as recordLengthIn, numberOf, fitsName}
-use Rattle.image.specs.Layout.{versionOf, countOf, currentDfOf, currentEfOf, recAt, kindOf, descriptorOf, lifeCycleOf, identifierOf, parentOf, levelOf, recordLengthOf, sizeOf, fieldAt, nameOf, ruleOf, headBytes, field, recordBytes, putRecord, withLife, setLife, setCurrent}
+use Rattle.image.specs.Layout.{versionOf, countOf, currentDfOf, currentEfOf, recAt, kindOf, descriptorOf, lifeCycleOf, identifierOf}
+use Rattle.image.specs.Layout.{parentOf, levelOf, recordLengthOf, sizeOf, fieldAt, nameOf, ruleOf, headBytes, field, recordBytes}
+use Rattle.image.specs.Layout.{putRecord, withLife, setLife, setCurrent}
 use Rattle.sound.specs.Effects.{created, clearBelow, deleted, freshHeader, fresh}
-use Rattle.sound.specs.Kin.{rootb, placedAt, placedb, apartAt, siblingsAt, siblingsb, otherUp, aboveAt, aboveb, sameName, namesAt, namesb, chargesAt, chargesb, kinb}
-use Rattle.sound.specs.Kinship.{isChild, isChildNamed, childNamed, freeSlot, atOrBeneath, beneath, childrenOf, filesBeneath, totalFor, roomFor, terminatedAt, terminatedUp, identifierFree, nameFree, fitsRoom}
-use Rattle.sound.specs.Own.{zerosb, paddedb, markedb, measuredb, namedb, ruledb, usedb, ownb}
+use Rattle.sound.specs.Kin.{rootb, placedAt, placedb, apartAt, siblingsAt, siblingsb, aboveAt, aboveb, sameName, namesAt, namesb}
+use Rattle.sound.specs.Kin.{chargesAt, chargesb, kinb}
+use Rattle.sound.specs.Kinship.{isChild, isChildNamed, childNamed, freeSlot, atOrBeneath, beneath, childrenOf, filesBeneath, totalFor}
+use Rattle.sound.specs.Kinship.{roomFor, terminatedAt, terminatedUp, namedUp, identifierFree, nameFree, fitsRoom}
+use Rattle.sound.specs.Own.{zerosb, paddedb, classedb, measuredb, nameb, ruledb, usedb, ownb}
 use Rattle.sound.specs.Sound.{headerb, recordsb, currentb, soundb}
-use Rattle.sound.specs.Table.{up, chargeOf, charged}
-use Rattle.kinship.specs.Climb.{isNamedUp, namedUp}
+use Rattle.sound.specs.Table.{up, upward, chargeOf, charged}
 use Rattle.kinship.specs.Search.{isDfNamed, dfNamed}
-use Rattle.deciding.specs.Steps.{followed}
-use Rattle.deciding.specs.Target.{currentFile, allowedAt, itself, selected}
-use Rattle.frame.specs.Frame.{isTerminate, isKnown, wantsAlone, otherChannel, crowded, wantedParameters, fitParameters, hasData, isSeven, fitLength, onOtherChannel}
-use Rattle.creation.specs.Creation.{takesFiles}
-use Rattle.commands.specs.Commands.{selectWord, selecting, mayDelete}
-use Rattle.judging.specs.Judge.{lifePlan, planFor, judgeFor, judgeOf}
+use Rattle.judge_target.specs.Steps.{followed}
+use Rattle.judge_target.specs.Target.{currentFile, allowedAt, itself, selected}
+use Rattle.apdu.specs.Apdu.{isTerminate, isKnown, wantsAlone, otherChannel, crowded, wantedParameters, fitParameters, hasData, isSeven}
+use Rattle.apdu.specs.Apdu.{fitLength, onOtherChannel}
+use Rattle.judge_create.specs.Creation.{takesFiles}
+use Rattle.judge_commands.specs.Commands.{selectWord, selecting, mayDelete}
+use Rattle.judge.specs.Judge.{lifePlan, planFor, judgeFor, judgeOf}
 use Rattle.card.specs.Command.{replyOf, imageOf}
-use Rattle.rows.specs.Rows.{BothSides}
+use Rattle.rows.specs.Rows.{rows, allGive, allSay, BothSides}
+use Rattle.rows.specs.Tries.{tried, found, SelectTries}
+
+computed : (x : Sets) → (allGive (rows x) ≡ allSay (rows x)) × (tried x ≡ found)
+unfolding part splice sameList implies either allBelow anyBelow firstBelow sumBelow countBelow u16At u32At met fulfilled oneOf allOf
+    holdsOf classOf hasRecords scAt slotsOf nextOf groupLength someGroup lifeOf knownLife newLife canActivate malformedAt wellFormed
+    fitsRecord holdsAt allowsOf grantedOf goodIdentifier wholeRecords goodLength isTemplate bothGood nameGood newFile dfOf sizedEf efOf
+    fileOf dataOf lacks has onePrivate firstForm dfForm efForm objectAt takenAt takenBelow objectsOf pairOf recordLengthIn numberOf
+    fitsName versionOf countOf currentDfOf currentEfOf recAt kindOf descriptorOf lifeCycleOf identifierOf parentOf levelOf
+    recordLengthOf sizeOf fieldAt nameOf ruleOf headBytes field recordBytes putRecord withLife setLife setCurrent created clearBelow
+    deleted freshHeader fresh rootb placedAt placedb apartAt siblingsAt siblingsb aboveAt aboveb sameName namesAt namesb chargesAt
+    chargesb kinb isChild isChildNamed childNamed freeSlot atOrBeneath beneath childrenOf filesBeneath totalFor roomFor terminatedAt
+    terminatedUp namedUp identifierFree nameFree fitsRoom zerosb paddedb classedb measuredb nameb ruledb usedb ownb headerb recordsb
+    currentb soundb up upward chargeOf charged isDfNamed dfNamed followed currentFile allowedAt itself selected isTerminate isKnown
+    wantsAlone otherChannel crowded wantedParameters fitParameters hasData isSeven fitLength onOtherChannel takesFiles selectWord
+    selecting mayDelete lifePlan planFor judgeFor judgeOf replyOf imageOf
+computed x = (refl, refl)
 
 pub both-sides : BothSides
-unfolding part splice sameList implies either allBelow anyBelow firstBelow sumBelow countBelow u16At u32At met fulfilled oneOf allOf holdsOf classOf hasRecords scAt slotsOf nextOf groupLength someGroup lifeOf knownLife newLife canActivate malformedAt wellFormed fitsRecord holdsAt allowsOf grantedOf goodIdentifier wholeRecords goodLength isTemplate bothGood nameGood newDf newEf dfOf sizedEf efOf fileOf dataOf lacks has onePrivate firstForm dfForm efForm objectAt takenAt takenBelow objectsOf pairOf recordLengthIn numberOf fitsName versionOf countOf currentDfOf currentEfOf recAt kindOf descriptorOf lifeCycleOf identifierOf parentOf levelOf recordLengthOf sizeOf fieldAt nameOf ruleOf headBytes field recordBytes putRecord withLife setLife setCurrent created clearBelow deleted freshHeader fresh rootb placedAt placedb apartAt siblingsAt siblingsb otherUp aboveAt aboveb sameName namesAt namesb chargesAt chargesb kinb isChild isChildNamed childNamed freeSlot atOrBeneath beneath childrenOf filesBeneath totalFor roomFor terminatedAt terminatedUp identifierFree nameFree fitsRoom zerosb paddedb markedb measuredb namedb ruledb usedb ownb headerb recordsb currentb soundb up chargeOf charged isNamedUp namedUp isDfNamed dfNamed followed currentFile allowedAt itself selected isTerminate isKnown wantsAlone otherChannel crowded wantedParameters fitParameters hasData isSeven fitLength onOtherChannel takesFiles selectWord selecting mayDelete lifePlan planFor judgeFor judgeOf replyOf imageOf
-both-sides x = refl
+both-sides x = computed x .0
+
+pub select-tries : SelectTries
+select-tries x = computed x .1

@@ -21,13 +21,16 @@ use Rattle.rules.specs.Group.{b7, b6, b5, b4, b3, b2, b1, groupLength, L
 abbrev spread : ℕ → ℕ
 spread am = bitAnd (am % 128 * 0x08040201 / 8) 0x11111111
 
-every-count : allBelow 256 (λ am. eqb (spread am * 0x11111111 / 0x10000000 % 16) (b7 am + b6 am + b5 am + b4 am + b3 am + b2 am + b1 am)) ≡ true
+every-count :
+    allBelow 256 (λ am. eqb (spread am * 0x11111111 / 0x10000000 % 16) (b7 am + b6 am + b5 am + b4 am + b3 am + b2 am + b1 am)) ≡ true
 unfolding allBelow
 every-count = refl
 
 pub count-bits : (am : ℕ) → am < 256 → spread am * 0x11111111 / 0x10000000 % 16 ≡ b7 am + b6 am + b5 am + b4 am + b3 am + b2 am + b1 am
 count-bits am h =
-    eqb-true _ _ (all-each (λ am. eqb (spread am * 0x11111111 / 0x10000000 % 16) (b7 am + b6 am + b5 am + b4 am + b3 am + b2 am + b1 am)) 256 am h every-count)
+    eqb-true _ _
+    (all-each (λ am. eqb (spread am * 0x11111111 / 0x10000000 % 16) (b7 am + b6 am + b5 am + b4 am + b3 am + b2 am + b1 am)) 256 am h
+    every-count)
 
 -- the two tables
 pub classes-by : (xs : List ℕ) → length xs ≡ 256 → T (everyEntry (entryOf classOf) 0 xs) → Classes xs

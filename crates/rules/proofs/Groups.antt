@@ -87,12 +87,15 @@ short-group am n a e = go (ltb am 128) refl e
     go false p q = absurd (omega arith)
 
 -- one group, by the table of lengths: i is the first AM byte, x what the table says of it
-pub one-formed : (rule table : List ℕ) (i x : ℕ) → Lengths table → 1 ≤ length rule → length rule ≤ 16 → i ≡ getD rule 0 0 → i < 256 → x ≡ getD table i 0
+pub one-formed : (rule table : List ℕ) (i x : ℕ) → Lengths table → 1 ≤ length rule → length rule ≤ 16 → i ≡ getD rule 0 0 → i < 256
+    → x ≡ getD table i 0
     → x ≡ length rule → true ≡ fitsRecord rule
 unfolding fitsRecord nextOf
 one-formed rule table i x t a b q l e h =
     rw (le-leb 1 (length rule) a, le-leb (length rule) 16 b)
-    (formed-end (formed-next (formed-start rule) {to = length rule} (omega arith) (rw q at (fills .1)) (omega (arith, fills .0, q)) (omega arith)) (omega arith))
+    (formed-end
+    (formed-next (formed-start rule) {to = length rule} (omega arith) (rw q at (fills .1)) (omega (arith, fills .0, q)) (omega arith))
+    (omega arith))
   where
     fills : (i ≤ 127) × (length rule ≡ 1 + b7 i + b6 i + b5 i + b4 i + b3 i + b2 i + b1 i)
     fills = short-group i (length rule) a (sym h ∙ e ∙ t .right i l)

@@ -4,24 +4,34 @@ use Prim.Native.Nat.{ℕ}
 use mathlib.Core.Bool.{Bool, not, cond, _&&_, _||_}
 use lib.Dec.{eqb}
 
--- the classes
+-- the classes: numbers that no byte has
 abbrev pub noLife : ℕ
-noLife = 0
+noLife = 0x100
 
 abbrev pub creation : ℕ
-creation = 1
+creation = 0x101
 
 abbrev pub initialisation : ℕ
-initialisation = 2
+initialisation = 0x102
 
 abbrev pub activated : ℕ
-activated = 3
+activated = 0x103
 
 abbrev pub deactivated : ℕ
-deactivated = 4
+deactivated = 0x104
 
 abbrev pub terminated : ℕ
-terminated = 5
+terminated = 0x105
+
+-- the bytes that the card itself writes
+abbrev pub activatedByte : ℕ
+activatedByte = 0x05
+
+abbrev pub deactivatedByte : ℕ
+deactivatedByte = 0x04
+
+abbrev pub terminatedByte : ℕ
+terminatedByte = 0x0C
 
 -- 01, 03, 04, 05 or 0C
 unfoldable pub lifeOf : ℕ → ℕ

@@ -3,7 +3,12 @@
 ghost use mathlib.Core.Path.{_≡_};
 ghost use Rattle.rules.specs.Descriptor.{classOf, Classes, hasRecords};
 
-// The class of each descriptor byte: 0 neither, 1 a DF, 2 an EF. The numbers are those of a record's kind.
+// The classes, by the numbers of a record's kind.
+pub const NEITHER: u8 = 0;
+pub const DF: u8 = 1;
+pub const EF: u8 = 2;
+
+// The class of each descriptor byte.
 const CLASS: [u8; 256] = [
     0, 2, 2, 0, 0, 0, 2, 0, 0, 2, 2, 0, 0, 0, 2, 0, // 00 working EFs, 08 internal EFs
     0, 0, 0, 0, 0, 0, 0, 0, 0, 0, 0, 0, 0, 0, 0, 0, // 10

@@ -1,7 +1,7 @@
-// Everything that a single value decides by itself, whatever card it stands on: the class of a descriptor
-// byte and of a life-cycle byte, identifiers and record lengths, security conditions, compact access rules.
-// It may use laws. It answers 01 "Descriptor and rules", and of "CREATE" what a descriptor, an
-// identifier, a life cycle, a size and a record length must obey wherever they stand.
+// Everything that a single value decides by itself, whatever card it stands on: the class of a descriptor byte and of
+// a life-cycle byte, identifiers and record lengths, security conditions, compact access rules. It answers 01
+// "Descriptor and rules", and of "CREATE" what a descriptor, an identifier, a life cycle, a size and a record length
+// must obey wherever they stand.
 //
 // Nobody compares a life-cycle byte, takes a descriptor apart or reads a rule but through this crate.
 pub mod condition;

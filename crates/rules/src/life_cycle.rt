@@ -2,15 +2,28 @@
 ghost use mathlib.Core.Path.{_≡_};
 ghost use Rattle.rules.specs.Life.{lifeOf, knownLife, newLife, isActivated, isDeactivated, isTerminated, canActivate};
 
-const NO_LIFE: u8 = 0;
-const CREATION: u8 = 1;
-const INITIALISATION: u8 = 2;
-const ACTIVATED: u8 = 3;
-const DEACTIVATED: u8 = 4;
-const TERMINATED: u8 = 5;
+// The bytes that the card itself writes.
+pub const ACTIVATED_BYTE: u8 = 0x05;
+
+pub const DEACTIVATED_BYTE: u8 = 0x04;
+
+pub const TERMINATED_BYTE: u8 = 0x0C;
+
+// The classes: numbers that no byte has.
+const NO_LIFE: u16 = 0x100;
+
+const CREATION: u16 = 0x101;
+
+const INITIALISATION: u16 = 0x102;
+
+const ACTIVATED: u16 = 0x103;
+
+const DEACTIVATED: u16 = 0x104;
+
+const TERMINATED: u16 = 0x105;
 
 // The class of a life-cycle byte. Only here is such a byte compared with a number.
-pub fn class(x: u8) -> u8
+pub fn class(x: u8) -> u16
     ensures { λ r. ⌜ r ≡ lifeOf x ⌝ }
 {
     if x == 0x01 {

@@ -96,7 +96,8 @@ module _ (n : ℕ) (a b : ℕ → View) (kin : Kin n a) (s d : ℕ)
       let o′ = other t (omega arith) z in
       kin .siblings u l (was u l f y) t m (was t (omega arith) g z) (rw (o, o′) at e) (rw (o, o′) at i)
 
-  above : (t : ℕ) → t < n → File b t → (k : ℕ) → k < b t .level → b (up b (suc k) t) .identifier ≡ b t .identifier → (t ≡ s) ⊎ (t ≡ s → ⊥) → ⊥
+  above : (t : ℕ) → t < n → File b t → (k : ℕ) → k < b t .level → b (up b (suc k) t) .identifier ≡ b t .identifier → (t ≡ s) ⊎ (t ≡ s → ⊥)
+      → ⊥
   above t l f k m i (inl e) =
       let h : k ≤ a d .level = omega (arith, rw e at m, fits .level) in
       let r = reached n a kin d (fits .low) here k h in

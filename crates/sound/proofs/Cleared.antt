@@ -62,7 +62,8 @@ module _ (img : List ℕ) (m : ℕ) (p : ℕ → Bool) (sized : Sized img m) whe
   unfolding clearBelow clearIf
   clear-out zero h t l k = refl
   clear-out (suc n) h t l k =
-      record-if-other (clearBelow n p img) n (within n (omega arith) n (omega arith)) (p n) t (within n (omega arith) t k) (λ e. omega arith)
+      record-if-other (clearBelow n p img) n (within n (omega arith) n (omega arith)) (p n) t (within n (omega arith) t k)
+      (λ e. omega arith)
       ∙ clear-out n (omega arith) t (omega arith) k
 
   -- below n each of which p holds is free, each other as it was
@@ -71,7 +72,8 @@ module _ (img : List ℕ) (m : ℕ) (p : ℕ → Bool) (sized : Sized img m) whe
   record-clear zero h t l = absurd (not-suc-le-zero l)
   record-clear (suc n) h t l =
       ⊎-elim (λ q. rw q here)
-      (λ k. record-if-other (clearBelow n p img) n (within n (omega arith) n (omega arith)) (p n) t (within n (omega arith) t (omega arith)) (λ e. omega arith)
+      (λ k. record-if-other (clearBelow n p img) n (within n (omega arith) n (omega arith)) (p n) t
+      (within n (omega arith) t (omega arith)) (λ e. omega arith)
       ∙ record-clear n (omega arith) t k)
       (split-lt l)
     where

@@ -1,8 +1,12 @@
 -- The way up from a file: each step ends at a used record, one level higher.
-use mathlib.Core.Path.{_≡_, refl, ap}
+use mathlib.Core.Path.{_≡_, refl, sym, ap, _∙_}
+use mathlib.Core.Bool.{Bool, true, not}
+use mathlib.Core.Logic.{_↔_}
 use Prim.Native.Nat.{ℕ, zero, suc, _+_, _<_, _≤_}
 use native.Mathlib.Omega.{arith}
-use Rattle.sound.specs.Table.{View, File, up}
+use Rattle.laws.proofs.Walks.{all-not}
+use Rattle.laws.proofs.Says.{not-says, all-says, eq-says}
+use Rattle.sound.specs.Table.{View, File, up, upward, hasIdentifier}
 use Rattle.sound.specs.Kin.{Placed, Kin}
 
 -- the slot k steps up: it is used, and so many levels up
@@ -40,3 +44,21 @@ pub up-shift : (v : ℕ → View) (k s : ℕ) → up v k (v s .parent) ≡ up v 
 unfolding up
 up-shift v zero s = refl
 up-shift v (suc k) s = ap (λ (x : ℕ). v x .parent) (up-shift v k s)
+
+-- nothing on the way up has p
+pub upward-says : (v : ℕ → View) (p : ℕ → Bool) (n s : ℕ) → (not (upward v p n s) ≡ true) ↔ ((k : ℕ) → k < n → p (up v k s) ≡ true → ⊥)
+unfolding upward
+upward-says v p n s = (
+  (λ h k l. not-says _ .0 (all-says _ _ .0 (all-not n (λ k. p (up v k s)) ∙ h) k l)),
+  (λ f. sym (all-not n (λ k. p (up v k s))) ∙ all-says _ _ .1 (λ k l. not-says _ .1 (f k l))),
+)
+
+-- the directories above s, counted from s or from its parent
+pub above-says : (v : ℕ → View) (x n s : ℕ) → (not (upward v (hasIdentifier v x) n (v s .parent)) ≡ true)
+    ↔ ((k : ℕ) → k < n → v (up v (suc k) s) .identifier ≡ x → ⊥)
+above-says v x n s = (
+  (λ h k l e. upward-says v (hasIdentifier v x) n (v s .parent) .0 h k l
+      (eq-says _ _ .1 (ap (λ (t : ℕ). v t .identifier) (up-shift v k s) ∙ e))),
+  (λ f. upward-says v (hasIdentifier v x) n (v s .parent) .1
+      (λ k l e. f k l (ap (λ (t : ℕ). v t .identifier) (sym (up-shift v k s)) ∙ eq-says _ _ .0 e))),
+)

@@ -8,7 +8,7 @@ use native.Mathlib.Omega.{arith}
 use lib.ListN.{length}
 use lib.Dec.{eqb}
 use borrow.Author.Tests.{eq-eqb, ne-eqb, eqb-true}
-use Rattle.laws.proofs.Says.{says, same-or}
+use Rattle.laws.proofs.Says.{says, eq-says, not-says, same-or}
 use Rattle.laws.proofs.Firsts.{first-is}
 use Rattle.laws.specs.Walks.{FirstAt}
 use Rattle.rules.specs.Descriptor.{classOf, isDf, isEf}
@@ -17,21 +17,27 @@ use Rattle.image.specs.Layout.{Within, recAt, putRecord, kindOf, recordBytes, c
 use Rattle.image.proofs.Records.{record-same, record-other}
 use Rattle.image.proofs.Made.{length-made}
 use Rattle.image.proofs.Headers.{header-put, same-front}
-use Rattle.sound.specs.Table.{View, File, up, viewAt, viewOf}
+use Rattle.sound.specs.Table.{View, File, up, hasIdentifier, viewAt, viewOf}
 use Rattle.sound.specs.Own.{Own}
 use Rattle.sound.specs.Kin.{Kin}
 use Rattle.sound.specs.Sound.{Current, Sound}
-use Rattle.sound.specs.Kinship.{isChild, isChildNamed, identifierFree, nameFree, freeSlot, totalFor, roomFor, fitsRoom}
+use Rattle.sound.specs.Kinship.{isChild, isChildNamed, namedUp, identifierFree, nameFree, freeSlot, totalFor, roomFor, fitsRoom}
 use Rattle.sound.specs.Effects.{Creates, created}
+use Rattle.sound.proofs.Climbing.{upward-says}
 use Rattle.sound.proofs.Added.{Fits, kin-added}
 use Rattle.sound.proofs.Front.{sound-set, sound-within}
 use Rattle.sound.proofs.Good.{viewMade, view-made, own-made}
 
 -- what the tests of CREATE say
 pub identifier-says : (n : ℕ) (v : ℕ → View) (d x : ℕ) → (identifierFree n v d x ≡ true)
-    ↔ (((t : ℕ) → t < n → (File v t × (v t .parent ≡ d)) × (v t .identifier ≡ x) → ⊥) × ((k : ℕ) → k < suc (v d .level) → v (up v k d) .identifier ≡ x → ⊥))
-unfolding identifierFree isChildNamed isChild
-identifier-says n v d x = simp says ((λ h. h), (λ h. h))
+    ↔
+    (((t : ℕ) → t < n → (File v t × (v t .parent ≡ d)) × (v t .identifier ≡ x) → ⊥)
+    × ((k : ℕ) → k < suc (v d .level) → v (up v k d) .identifier ≡ x → ⊥))
+unfolding identifierFree namedUp isChildNamed isChild
+identifier-says n v d x = simp says (
+  (λ h. (h .0, λ k l e. upward-says v (hasIdentifier v x) _ d .0 (not-says _ .1 (h .1)) k l (eq-says _ _ .1 e))),
+  (λ h. (h .0, not-says _ .0 (upward-says v (hasIdentifier v x) _ d .1 (λ k l e. h .1 k l (eq-says _ _ .0 e))))),
+)
 
 pub name-says : (n : ℕ) (v : ℕ → View) (name : List ℕ) → (nameFree n v name ≡ true)
     ↔ ((name ≡ [] → ⊥) → (t : ℕ) → t < n → v t .name ≡ name → ⊥)
@@ -73,12 +79,12 @@ module _ (img : List ℕ) (s : ℕ) (h : Head) (name rule : List ℕ) (sound : S
         level = c .level;
         fresh = λ t l f p e. i .0 t l ((f, p), e);
         above = λ k l. i .1 k (omega arith);
-        name = name-says (countOf img) (viewAt img) name .0 (c .named);
+        name = name-says (countOf img) (viewAt img) name .0 (c .name-free);
         room = omega (arith, r);
       }
 
   whole : length (recordBytes h name rule) ≡ 64
-  whole = length-made h name rule (c .good .named) (c .good .short)
+  whole = length-made h name rule (c .good .name-short) (c .good .rule-short)
 
   within : (t : ℕ) → t < countOf img → Within img t
   within = sound-within img sound
@@ -117,7 +123,9 @@ module _ (img : List ℕ) (s : ℕ) (h : Head) (name rule : List ℕ) (sound : S
       }))
       (λ f. rw (ne-eqb (h .kind) 1 f) (record {
         df-low = fits .low;
-        df-dir = ap (λ (x : View). x .kind) (ap viewOf (there (currentDfOf img) (fits .low) (λ e. omega (arith, fits .dir, free, ap (λ (x : ℕ). kindOf (recAt img x)) e)))) ∙ fits .dir;
+        df-dir = ap (λ (x : View). x .kind)
+            (ap viewOf (there (currentDfOf img) (fits .low) (λ e. omega (arith, fits .dir, free, ap (λ (x : ℕ). kindOf (recAt img x)) e))))
+            ∙ fits .dir;
         ef-low = λ z. found .low;
         ef-file = λ z. ap (λ (x : View). x .kind) seen ∙ two f;
         ef-child = λ z. ap (λ (x : View). x .parent) seen ∙ fits .parent;

@@ -47,13 +47,21 @@ module _ (img : List ℕ) (d : ℕ) (sound : Sound img) (c : Deletes img d) wher
   -- a file whose parent goes, goes
   orphan : (t : ℕ) → t < countOf img → File (viewAt img) t → p t ≡ false → p (viewAt img t .parent) ≡ false
   unfolding p
-  orphan t l f e = untrue _ (λ h. false≢true (sym e ∙ beneath-says (viewAt img) d t .1 (lower (beneath-says (viewAt img) d (viewAt img t .parent) .0 h))))
+  orphan t l f e =
+      untrue _
+      (λ h. false≢true (sym e ∙ beneath-says (viewAt img) d t .1 (lower (beneath-says (viewAt img) d (viewAt img t .parent) .0 h))))
     where
       lower : AtOrBeneath (viewAt img) d (viewAt img t .parent) → AtOrBeneath (viewAt img) d t
       lower b =
           let q = sound .kin .placed t l f .up in
-          let k : viewAt img t .level - viewAt img d .level ≡ suc (viewAt img (viewAt img t .parent) .level - viewAt img d .level) = omega (arith, b .deep) in
-          record { used = f .0; deep = omega (arith, b .deep); over = ap (λ (j : ℕ). up (viewAt img) j t) k ∙ sym (up-shift (viewAt img) (viewAt img (viewAt img t .parent) .level - viewAt img d .level) t) ∙ b .over }
+          let k : viewAt img t .level - viewAt img d .level ≡ suc (viewAt img (viewAt img t .parent) .level - viewAt img d .level) =
+          omega (arith, b .deep) in
+          record {
+            used = f .0;
+            deep = omega (arith, b .deep);
+            over = ap (λ (j : ℕ). up (viewAt img) j t) k
+                ∙ sym (up-shift (viewAt img) (viewAt img (viewAt img t .parent) .level - viewAt img d .level) t) ∙ b .over;
+          }
 
   -- what is not deeper than the current DF stays
   shallow : (t : ℕ) → viewAt img t .level ≤ viewAt img (currentDfOf img) .level → p t ≡ false
@@ -71,7 +79,8 @@ module _ (img : List ℕ) (d : ℕ) (sound : Sound img) (c : Deletes img d) wher
   same t l true e = inr (ap viewOf (clear t l e) ∙ view-free)
   same t l false e = inl (ap viewOf (kept t l e))
 
-  closed : (t : ℕ) → t < countOf img → File (viewAt after) t → (b : Bool) → p t ≡ b → viewAt after (viewAt img t .parent) ≡ viewAt img (viewAt img t .parent)
+  closed : (t : ℕ) → t < countOf img → File (viewAt after) t → (b : Bool) → p t ≡ b
+      → viewAt after (viewAt img t .parent) ≡ viewAt img (viewAt img t .parent)
   closed t l f true e = absurd (f .0 (ap (λ (x : View). x .kind) (ap viewOf (clear t l e) ∙ view-free)))
   closed t l f false e =
       let g : File (viewAt img) t = ((λ z. f .0 (ap kindOf (kept t l e) ∙ z)), f .1) in
@@ -91,7 +100,10 @@ module _ (img : List ℕ) (d : ℕ) (sound : Sound img) (c : Deletes img d) wher
       q = sound .current
 
       file : File (viewAt img) (currentEfOf img)
-      file = ((λ e. omega (arith, q .ef-file z)), (λ e. omega (arith, q .ef-file z, sound .kin .root-kind, ap (λ (x : ℕ). kindOf (recAt img x)) e)))
+      file = (
+        (λ e. omega (arith, q .ef-file z)),
+        (λ e. omega (arith, q .ef-file z, sound .kin .root-kind, ap (λ (x : ℕ). kindOf (recAt img x)) e)),
+      )
 
       deep : viewAt img (currentEfOf img) .level ≡ viewAt img (currentDfOf img) .level + 1
       deep = rw (q .ef-child z) at (sound .kin .placed (currentEfOf img) (q .ef-low z) file .up)
@@ -103,7 +115,14 @@ module _ (img : List ℕ) (d : ℕ) (sound : Sound img) (c : Deletes img d) wher
 
   current : Current (countOf img) (viewAt after) (currentDfOf img) (cond (eqb (currentEfOf img) d) none (currentEfOf img))
   current = ⊎-elim
-      (λ e. rw (eq-eqb (currentEfOf img) d e) (record { df-low = df .0; df-dir = df .1; ef-low = λ z. absurd (z refl); ef-file = λ z. absurd (z refl); ef-child = λ z. absurd (z refl) }))
+      (λ e. rw (eq-eqb (currentEfOf img) d e)
+      (record {
+        df-low = df .0;
+        df-dir = df .1;
+        ef-low = λ z. absurd (z refl);
+        ef-file = λ z. absurd (z refl);
+        ef-child = λ z. absurd (z refl);
+      }))
       (λ y. rw (ne-eqb (currentEfOf img) d y) (record {
         df-low = df .0;
         df-dir = df .1;
@@ -114,11 +133,16 @@ module _ (img : List ℕ) (d : ℕ) (sound : Sound img) (c : Deletes img d) wher
       (same-or (currentEfOf img) d)
     where
       df : (currentDfOf img < countOf img) × (viewAt after (currentDfOf img) .kind ≡ 1)
-      df = (sound .current .df-low, ap kindOf (kept (currentDfOf img) (sound .current .df-low) (shallow (currentDfOf img) (omega arith))) ∙ sound .current .df-dir)
+      df = (
+        sound .current .df-low,
+        ap kindOf (kept (currentDfOf img) (sound .current .df-low) (shallow (currentDfOf img) (omega arith)))
+            ∙ sound .current .df-dir,
+      )
 
   pub sound-deleted : Sound (deleted img d)
   unfolding deleted after
   sound-deleted =
       sound-set img after (currentDfOf img) (cond (eqb (currentEfOf img) d) none (currentEfOf img)) sound
-      (same-front img after (header-clear img (countOf img) (atOrBeneath (viewAt img) d) (sound-sized img sound) (countOf img) (omega arith)))
+      (same-front img after
+      (header-clear img (countOf img) (atOrBeneath (viewAt img) d) (sound-sized img sound) (countOf img) (omega arith)))
       (λ t l. own t l (p t) refl) kin current

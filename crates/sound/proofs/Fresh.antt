@@ -24,14 +24,16 @@ use Rattle.sound.specs.Table.{View, File, viewAt, viewOf, charged, charg
 use Rattle.sound.specs.Own.{Own}
 use Rattle.sound.specs.Kin.{Kin}
 use Rattle.sound.specs.Sound.{Header, Sound}
-use Rattle.sound.specs.Effects.{Good, rootHead, freshHeader, fresh}
+use Rattle.sound.specs.Effects.{GoodRecord, rootHead, freshHeader, fresh}
 use Rattle.sound.proofs.Kept.{gone}
 use Rattle.sound.proofs.Charges.{charge-free, charge-stranger}
 use Rattle.sound.proofs.Good.{viewMade, view-made, own-made, view-free, own-free}
 use Rattle.sound.specs.Theorems.{SoundFresh}
 
 -- a table whose only file is the root
-pub kin-alone : (n : ℕ) (v : ℕ → View) → v 0 .kind ≡ 1 → v 0 .identifier ≡ 0x3F00 → v 0 .parent ≡ 0 → v 0 .level ≡ 0 → v 0 .size ≤ 64 * (n - 1) → v 0 .name ≡ []
+pub kin-alone :
+    (n : ℕ) (v : ℕ → View) → v 0 .kind ≡ 1 → v 0 .identifier ≡ 0x3F00 → v 0 .parent ≡ 0 → v 0 .level ≡ 0 → v 0 .size ≤ 64 * (n - 1)
+    → v 0 .name ≡ []
     → ((t : ℕ) → t < n → (t ≡ 0 → ⊥) → v t ≡ gone) → Kin n v
 unfolding charged
 kin-alone n v kind id parent level size name free = record {
@@ -44,7 +46,11 @@ kin-alone n v kind id parent level size name free = record {
   siblings = λ s l f. absurd (nofile s l f);
   above = λ s l f. absurd (nofile s l f);
   names = λ s l t m w. absurd (w .0 (noname s l (same-or s 0)));
-  charges = λ d l e. rw (sum-none n (λ s. chargeOf d s (v s)) (λ s m. ⊎-elim (λ q. charge-stranger d s (v s) (λ u z w. z q)) (λ z. charge-free d s (v s) (ap (λ (x : View). x .kind) (free s m z))) (same-or s 0))) (omega arith);
+  charges = λ d l e. rw
+      (sum-none n (λ s. chargeOf d s (v s))
+      (λ s m. ⊎-elim (λ q. charge-stranger d s (v s) (λ u z w. z q)) (λ z. charge-free d s (v s) (ap (λ (x : View). x .kind) (free s m z)))
+      (same-or s 0)))
+      (omega arith);
 }
   where
     nofile : (s : ℕ) → s < n → File v s → ⊥
@@ -56,7 +62,7 @@ kin-alone n v kind id parent level size name free = record {
 
 module _ (n total : ℕ) (rule : List ℕ) (least : 2 ≤ n) (most : n ≤ 1023) (some : 1 ≤ total) (within : total ≤ 64 * (n - 1))
     (short : length rule ≤ 16) (formed : fitsRecord rule ≡ true) where
-  good : Good (rootHead total) [] rule
+  good : GoodRecord (rootHead total) [] rule
   unfolding classOf lifeOf knownLife goodIdentifier goodLength hasRecords either
   good = record {
     class = refl;
@@ -64,10 +70,10 @@ module _ (n total : ℕ) (rule : List ℕ) (least : 2 ≤ n) (most : n ≤ 1023)
     life = refl;
     identifier = refl;
     size = some;
-    stride = refl;
-    named = omega arith;
+    records = refl;
+    name-short = omega arith;
     nameless = λ e. refl;
-    short = short;
+    rule-short = short;
     formed = formed;
   }
 
@@ -76,14 +82,32 @@ module _ (n total : ℕ) (rule : List ℕ) (least : 2 ≤ n) (most : n ≤ 1023)
 
   long : length (fresh n total rule) ≡ 16 + 64 * n
   unfolding fresh freshHeader
-  long = rw (length-append (freshHeader n), length-append (recordBytes (rootHead total) [] rule), whole, length-replicate {A = ℕ} (64 * (n - 1)) 0) (omega arith)
+  long =
+      rw (
+        length-append (freshHeader n),
+        length-append (recordBytes (rootHead total) [] rule),
+        whole,
+        length-replicate {A = ℕ}
+            (64 * (n - 1)) 0,
+      )
+      (omega arith)
 
   pub count : countOf (fresh n total rule) ≡ n
   unfolding fresh freshHeader countOf u16At
   count = omega arith
 
   header : Header (fresh n total rule)
-  header = record { long = rw count long; least = rw count least; most = rw count most; mark-0 = m0; mark-1 = m1; mark-2 = m2; version = ver; zeros = zs }
+  header =
+      record {
+        long = rw count long;
+        least = rw count least;
+        most = rw count most;
+        mark-0 = m0;
+        mark-1 = m1;
+        mark-2 = m2;
+        version = ver;
+        zeros = zs;
+      }
     where
       first : List ℕ
       first = 0x55 ∷ 0x46 ∷ 0x54 ∷ 0 ∷ 1 ∷ n / 256 ∷ n % 256 ∷ 0 ∷ 0 ∷ 0xFF ∷ 0xFF ∷ []
@@ -104,7 +128,9 @@ module _ (n total : ℕ) (rule : List ℕ) (least : 2 ≤ n) (most : n ≤ 1023)
       ver = unfold fresh freshHeader versionOf u16At in refl
 
       zs : (k : ℕ) → k < 5 → getD (fresh n total rule) (11 + k) 0 ≡ 0
-      zs k l = unfold fresh freshHeader in getD-append-add first (replicate 5 0 ++ more) k 0 ∙ List·getD-append (replicate 5 0) more 0 k l ∙ getD-replicate 5 k 0 0 l
+      zs k l =
+          unfold fresh freshHeader in getD-append-add first (replicate 5 0 ++ more) k 0 ∙ List·getD-append (replicate 5 0) more 0 k l
+          ∙ getD-replicate 5 k 0 0 l
 
   root : recAt (fresh n total rule) 0 ≡ recordBytes (rootHead total) [] rule
   unfolding fresh freshHeader recAt part
@@ -123,12 +149,15 @@ module _ (n total : ℕ) (rule : List ℕ) (least : 2 ≤ n) (most : n ≤ 1023)
   tail i j e l =
       let f : i ≡ length (freshHeader n ++ recordBytes (rootHead total) [] rule) + j = omega (arith, front) in
       ap (λ (m : ℕ). getD (fresh n total rule) m 0) f
-      ∙ ap (λ (x : List ℕ). getD x (length (freshHeader n ++ recordBytes (rootHead total) [] rule) + j) 0) (sym (append-assoc (freshHeader n) (recordBytes (rootHead total) [] rule) (replicate (64 * (n - 1)) 0)))
+      ∙ ap (λ (x : List ℕ). getD x (length (freshHeader n ++ recordBytes (rootHead total) [] rule) + j) 0)
+      (sym (append-assoc (freshHeader n) (recordBytes (rootHead total) [] rule) (replicate (64 * (n - 1)) 0)))
       ∙ getD-append-add (freshHeader n ++ recordBytes (rootHead total) [] rule) (replicate (64 * (n - 1)) 0) j 0
       ∙ getD-replicate (64 * (n - 1)) j 0 0 l
 
   rest : (t : ℕ) → t < n → (t ≡ 0 → ⊥) → recAt (fresh n total rule) t ≡ freeBytes
-  rest t l z = ext-getD 0 (recAt (fresh n total rule) t) (freeBytes) cut (λ k m. byte k (omega (arith, cut)) ∙ sym (getD-replicate 64 k 0 0 (omega (arith, cut))))
+  rest t l z =
+      ext-getD 0 (recAt (fresh n total rule) t) (freeBytes) cut
+      (λ k m. byte k (omega (arith, cut)) ∙ sym (getD-replicate 64 k 0 0 (omega (arith, cut))))
     where
       cut : length (recAt (fresh n total rule) t) ≡ 64
       cut = length-record (fresh n total rule) t (omega (arith, long))
@@ -147,7 +176,9 @@ module _ (n total : ℕ) (rule : List ℕ) (least : 2 ≤ n) (most : n ≤ 1023)
   own t l (inr z) = rw (rest t l z) own-free
 
   kin : Kin n (viewAt (fresh n total rule))
-  kin = kin-alone n (viewAt (fresh n total rule)) (ap (λ (x : View). x .kind) view-root) (ap (λ (x : View). x .identifier) view-root) (ap (λ (x : View). x .parent) view-root) (ap (λ (x : View). x .level) view-root)
+  kin =
+      kin-alone n (viewAt (fresh n total rule)) (ap (λ (x : View). x .kind) view-root) (ap (λ (x : View). x .identifier) view-root)
+      (ap (λ (x : View). x .parent) view-root) (ap (λ (x : View). x .level) view-root)
       (rw (ap (λ (x : View). x .size) view-root) within) (ap (λ (x : View). x .name) view-root) view-rest
 
   df : currentDfOf (fresh n total rule) ≡ 0
@@ -163,7 +194,15 @@ module _ (n total : ℕ) (rule : List ℕ) (least : 2 ≤ n) (most : n ≤ 1023)
     header = header;
     records = rw count (λ s l. own s l (same-or s 0));
     kin = rw count kin;
-    current = rw (count, df, ef) (record { df-low = omega arith; df-dir = ap (λ (x : View). x .kind) view-root; ef-low = λ z. absurd (z refl); ef-file = λ z. absurd (z refl); ef-child = λ z. absurd (z refl) });
+    current = rw (count, df, ef)
+        (record {
+          df-low = omega arith;
+          df-dir = ap (λ (x : View). x .kind) view-root;
+          ef-low = λ z. absurd (z refl);
+          ef-file = λ z. absurd
+              (z refl);
+          ef-child = λ z. absurd (z refl);
+        });
   }
 
 pub sound-fresh : SoundFresh

@@ -52,17 +52,20 @@ sound-front a b sound front own kin cur =
     record { header = header-front a b front (sound .header); records = λ s l. own s (rw e at l); kin = rw e kin; current = rw e cur }
 
 -- .. and so it is with another current DF and EF that may be current
-pub sound-set : (a b : List ℕ) (df ef : ℕ) → Sound a → SameFront a b → ((s : ℕ) → s < countOf a → Own (recAt b s)) → Kin (countOf a) (viewAt b)
+pub sound-set :
+    (a b : List ℕ) (df ef : ℕ) → Sound a → SameFront a b → ((s : ℕ) → s < countOf a → Own (recAt b s)) → Kin (countOf a) (viewAt b)
     → Current (countOf a) (viewAt b) df ef → Sound (setCurrent b df ef)
 sound-set a b df ef sound front own kin cur =
     let h = sound .header in
     let fits : 16 ≤ length b = omega (arith, front .long, h .long) in
-    let rec : (s : ℕ) → s < countOf a → recAt (setCurrent b df ef) s ≡ recAt b s = λ s l. record-current b df ef fits s (omega (arith, front .long, h .long)) in
+    let rec : (s : ℕ) → s < countOf a → recAt (setCurrent b df ef) s ≡ recAt b s = λ s l. record-current b df ef fits s
+    (omega (arith, front .long, h .long)) in
     let same : (s : ℕ) → s < countOf a → viewAt (setCurrent b df ef) s ≡ viewAt b s = λ s l. ap viewOf (rec s l) in
     sound-front a (setCurrent b df ef) sound (front-trans a b (setCurrent b df ef) front (front-current b df ef fits))
     (λ s l. rw (rec s l) (own s l))
     (kin-same (countOf a) (viewAt b) (viewAt (setCurrent b df ef)) (omega (arith, h .least)) kin same)
-    (rw (df-current b df ef fits, ef-current b df ef fits) (current-same (countOf a) (viewAt b) (viewAt (setCurrent b df ef)) df ef cur same))
+    (rw (df-current b df ef fits, ef-current b df ef fits)
+    (current-same (countOf a) (viewAt b) (viewAt (setCurrent b df ef)) df ef cur same))
 
 -- SELECT
 pub sound-select : (img : List ℕ) (df ef : ℕ) → Sound img → Current (countOf img) (viewAt img) df ef → Sound (setCurrent img df ef)

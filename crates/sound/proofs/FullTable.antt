@@ -47,7 +47,12 @@ module _ (n : ℕ) (v : ℕ → View) (kin : Kin n v) (some : 0 < n) where
   deeper s l u zero h = omega arith
   deeper s l u (suc k) h =
       let r = reached n v kin s l u k (omega arith) in
-      omega (arith, deeper s l u k (omega arith), inside (up v k s) (r .low) (not-root n v kin (up v k s) (r .used) (omega (arith, r .level))))
+      omega (
+        arith,
+        deeper s l u k (omega arith),
+        inside (up v k s) (r .low)
+            (not-root n v kin (up v k s) (r .used) (omega (arith, r .level))),
+      )
 
   -- a file lies at most as deep as there are other records
   pub level-low : (s : ℕ) → s < n → (v s .kind ≡ 0 → ⊥) → v s .level < n
@@ -93,7 +98,8 @@ module _ (n : ℕ) (v : ℕ → View) (kin : Kin n v) (some : 0 < n) where
     holds : (e : ℕ) → e < n → charged n v e + ifSo (eqb d e) 64 ≤ v e .size
     holds e l = ⊎-elim
         (λ q. rw (← q, eq-eqb d d refl) room)
-        (λ z. rw (ne-eqb d e z) (⊎-elim (λ k. omega (arith, kin .charges e l k)) (λ k. omega (arith, charged-none n v kin e k)) (same-or (v e .kind) 1)))
+        (λ z. rw (ne-eqb d e z)
+        (⊎-elim (λ k. omega (arith, kin .charges e l k)) (λ k. omega (arith, charged-none n v kin e k)) (same-or (v e .kind) 1)))
         (same-or d e)
 
     pub full-never : ⊥

@@ -9,10 +9,12 @@ use Rattle.laws.specs.Lists.{part}
 use Rattle.numbers.specs.Numbers.{u16At, u32At}
 use Rattle.image.specs.declared.Head.{Head}
 use Rattle.image.specs.Layout.{kindOf, identifierOf, parentOf, levelOf, sizeOf, nameOf, fieldAt, recordBytes, freeBytes}
-use Rattle.image.proofs.Made.{kind-made, descriptor-made, life-made, zero-made, identifier-made, parent-made, level-made, stride-made, size-made, name-made, rule-made, name-length-made, name-zeros-made, rule-length-made, rule-zeros-made, spare-made}
+use Rattle.image.proofs.Made.{kind-made, descriptor-made, life-made, zero-made, identifier-made, parent-made, level-made}
+use Rattle.image.proofs.Made.{record-length-made, size-made, name-made, rule-made, name-length-made, name-zeros-made, rule-length-made}
+use Rattle.image.proofs.Made.{rule-zeros-made, spare-made}
 use Rattle.sound.specs.Table.{View, viewOf}
 use Rattle.sound.specs.Own.{Padded, Own}
-use Rattle.sound.specs.Effects.{Good}
+use Rattle.sound.specs.Effects.{GoodRecord}
 use Rattle.sound.proofs.Kept.{gone}
 
 -- what the new record says
@@ -29,7 +31,14 @@ viewMade h name = record {
 module _ (h : Head) (name rule : List ℕ) where
   pub view-made : viewOf (recordBytes h name rule) ≡ viewMade h name
   view-made =
-      rw (kind-made h name rule, identifier-made h name rule, parent-made h name rule, level-made h name rule, size-made h name rule, name-made h name rule)
+      rw (
+        kind-made h name rule,
+        identifier-made h name rule,
+        parent-made h name rule,
+        level-made h name rule,
+        size-made h name rule,
+        name-made h name rule,
+      )
 
   name-padded : length name ≤ 16 → Padded (recordBytes h name rule) 16
   name-padded a = record {
@@ -43,7 +52,7 @@ module _ (h : Head) (name rule : List ℕ) where
     zeros = rw (rule-length-made h name rule a b) (rule-zeros-made h name rule a b);
   }
 
-  pub own-made : Good h name rule → Own (recordBytes h name rule)
+  pub own-made : GoodRecord h name rule → Own (recordBytes h name rule)
   own-made g = record {
     free = λ e. absurd (g .some (sym (kind-made h name rule) ∙ e));
     used = λ z. record {
@@ -52,12 +61,12 @@ module _ (h : Head) (name rule : List ℕ) where
       zero = zero-made h name rule;
       identifier = rw (identifier-made h name rule) (g .identifier);
       size = rw (size-made h name rule) (g .size);
-      length = rw (descriptor-made h name rule, stride-made h name rule, size-made h name rule) (g .stride);
-      name = name-padded (g .named);
-      nameless = λ e. name-length-made h name rule (g .named) ∙ g .nameless (sym (kind-made h name rule) ∙ e);
-      rule = rule-padded (g .named) (g .short);
-      formed = rw (rule-made h name rule (g .named)) (g .formed);
-      spare = spare-made h name rule (g .named) (g .short);
+      length = rw (descriptor-made h name rule, record-length-made h name rule, size-made h name rule) (g .records);
+      name = name-padded (g .name-short);
+      nameless = λ e. name-length-made h name rule (g .name-short) ∙ g .nameless (sym (kind-made h name rule) ∙ e);
+      rule = rule-padded (g .name-short) (g .rule-short);
+      formed = rw (rule-made h name rule (g .name-short)) (g .formed);
+      spare = spare-made h name rule (g .name-short) (g .rule-short);
     };
   }
 

@@ -43,7 +43,10 @@ module _ (n : ℕ) (a b : ℕ → View) (kin : Kin n a)
 
   cost : (d : ℕ) → charged n b d ≤ charged n a d
   unfolding charged
-  cost d = sum-le n _ _ (λ t l. ⊎-elim (λ e. omega (arith, ap (chargeOf d t) e)) (λ e. omega (arith, charge-free d t (b t) (ap (λ (x : View). x .kind) e))) (same t l))
+  cost d =
+      sum-le n _ _
+      (λ t l. ⊎-elim (λ e. omega (arith, ap (chargeOf d t) e))
+      (λ e. omega (arith, charge-free d t (b t) (ap (λ (x : View). x .kind) e))) (same t l))
 
   pub kin-kept : Kin n b
   kin-kept = record {
@@ -57,7 +60,8 @@ module _ (n : ℕ) (a b : ℕ → View) (kin : Kin n a)
         let c = closed s l f in
         record { low = rw (kept s l (f .0)) (p .low); dir = rw (kept s l (f .0), c) (p .dir); up = rw (kept s l (f .0), c) (p .up) };
     siblings = λ s l f t m g e i.
-        kin .siblings s l (was s l f) t m (was t (omega arith) g) (rw (kept s l (f .0), kept t (omega arith) (g .0)) at e) (rw (kept s l (f .0), kept t (omega arith) (g .0)) at i);
+        kin .siblings s l (was s l f) t m (was t (omega arith) g) (rw (kept s l (f .0), kept t (omega arith) (g .0)) at e)
+        (rw (kept s l (f .0), kept t (omega arith) (g .0)) at i);
     above = λ s l f k m i.
         let h = rw (kept s l (f .0)) at m in
         let w = way s l f (suc k) (omega arith) in

@@ -11,7 +11,8 @@ use Rattle.rules.specs.Life.{knownLife}
 use Rattle.image.specs.Layout.{withLife, Within, recAt, kindOf, countOf, setLife}
 use Rattle.image.proofs.Places.{length-record}
 use Rattle.image.proofs.Headers.{SameHeader, header-life, same-front, same-df, same-ef}
-use Rattle.image.proofs.Lives.{byte-kept, life-set, kind-kept, descriptor-kept, identifier-kept, parent-kept, level-kept, stride-kept, size-kept, name-kept, rule-kept, life-same, life-other}
+use Rattle.image.proofs.Lives.{byte-kept, life-set, kind-kept, descriptor-kept, identifier-kept, parent-kept, level-kept}
+use Rattle.image.proofs.Lives.{record-length-kept, size-kept, name-kept, rule-kept, life-same, life-other}
 use Rattle.sound.specs.Table.{View, viewAt, viewOf}
 use Rattle.sound.specs.Own.{Padded, Used, Own}
 use Rattle.sound.specs.Sound.{Sound}
@@ -32,7 +33,7 @@ module _ (r : List ℕ) (x : ℕ) (whole : length r ≡ 64) where
     zero = byte-kept r x whole 3 (inr (omega arith)) ∙ u .zero;
     identifier = rw (identifier-kept r x whole) (u .identifier);
     size = rw (size-kept r x whole) (u .size);
-    length = rw (descriptor-kept r x whole, stride-kept r x whole, size-kept r x whole) (u .length);
+    length = rw (descriptor-kept r x whole, record-length-kept r x whole, size-kept r x whole) (u .length);
     name = padded-kept 16 (omega arith) (u .name);
     nameless = λ e. byte-kept r x whole 16 (inr (omega arith)) ∙ u .nameless (sym (kind-kept r x whole) ∙ e);
     rule = padded-kept 33 (omega arith) (u .rule);
@@ -42,7 +43,15 @@ module _ (r : List ℕ) (x : ℕ) (whole : length r ≡ 64) where
 
   view-kept : Padded r 16 → viewOf (withLife r x) ≡ viewOf r
   view-kept p =
-      rw (kind-kept r x whole, identifier-kept r x whole, parent-kept r x whole, level-kept r x whole, size-kept r x whole, name-kept r x whole (p .short))
+      rw (
+        kind-kept r x whole,
+        identifier-kept r x whole,
+        parent-kept r x whole,
+        level-kept r x whole,
+        size-kept r x whole,
+        name-kept r x
+            whole (p .short),
+      )
 
 module _ (img : List ℕ) (s x : ℕ) (sound : Sound img) (low : s < countOf img) (used : kindOf (recAt img s) ≡ 0 → ⊥)
     (good : knownLife x ≡ true) where

@@ -6,12 +6,14 @@ use mathlib.Core.Logic.{_↔_}
 use Prim.Native.Nat.{ℕ, suc, _<_, _≤_, _+_, _-_}
 use borrow.Author.Tests.{not-false}
 use Rattle.laws.proofs.Settling.{settled}
-use Rattle.laws.proofs.Says.{says}
+use Rattle.laws.proofs.Says.{says, not-says}
 use Rattle.sound.specs.Table.{View, File, up}
-use Rattle.sound.specs.Own.{zerosb, Padded, paddedb, Used, usedb, markedb, measuredb, namedb, ruledb, Own, ownb}
-use Rattle.sound.specs.Kin.{Kin, kinb, rootb, placedb, placedAt, siblingsb, siblingsAt, apartAt, aboveb, aboveAt, otherUp, namesb, namesAt, sameName, chargesb, chargesAt}
+use Rattle.sound.specs.Own.{zerosb, Padded, paddedb, Used, usedb, classedb, measuredb, nameb, ruledb, Own, ownb}
+use Rattle.sound.specs.Kin.{Kin, kinb, rootb, placedb, placedAt, siblingsb, siblingsAt, apartAt, aboveb, aboveAt, namesb, namesAt}
+use Rattle.sound.specs.Kin.{sameName, chargesb, chargesAt}
 use Rattle.sound.specs.Sound.{Header, headerb, Current, currentb, recordsb, Sound, soundb}
 use Rattle.sound.specs.Kinship.{atOrBeneath, isChild, isChildNamed}
+use Rattle.sound.proofs.Climbing.{above-says}
 use Rattle.sound.specs.Theorems.{SoundSays, SoundOnce}
 
 pub padded-says : (r : List ℕ) (n : ℕ) → (paddedb r n ≡ true) ↔ Padded r n
@@ -19,7 +21,7 @@ unfolding paddedb zerosb
 padded-says r n = simp says ((λ h. record { short = h .0; zeros = h .1 }), (λ p. (p .short, p .zeros)))
 
 pub used-says : (r : List ℕ) → (usedb r ≡ true) ↔ Used r
-unfolding usedb markedb measuredb namedb ruledb zerosb
+unfolding usedb classedb measuredb nameb ruledb zerosb
 used-says r = simp (says, padded-says) (
   (λ h. record {
     class = h .0 .0;
@@ -45,7 +47,7 @@ unfolding ownb zerosb
 own-says r = simp (says, used-says) ((λ h. record { free = h .0; used = h .1 }), (λ o. (o .free, o .used)))
 
 pub kin-says : (n : ℕ) (v : ℕ → View) → (kinb n v ≡ true) ↔ Kin n v
-unfolding kinb rootb placedb placedAt siblingsb siblingsAt apartAt aboveb aboveAt otherUp namesb namesAt sameName chargesb chargesAt
+unfolding kinb rootb placedb placedAt siblingsb siblingsAt apartAt aboveb aboveAt namesb namesAt sameName chargesb chargesAt
 kin-says n v = simp says (
   (λ h. record {
     root-kind = h .0 .0;
@@ -55,7 +57,7 @@ kin-says n v = simp says (
     root-size = h .0 .1 .1 .1 .1;
     placed = λ s l f. let p = h .1 .0 s l f in record { low = p .0; dir = p .1 .0; up = p .1 .1 };
     siblings = h .1 .1 .0;
-    above = h .1 .1 .1 .0;
+    above = λ s l f. above-says v (v s .identifier) (v s .level) s .0 (not-says _ .1 (h .1 .1 .1 .0 s l f));
     names = h .1 .1 .1 .1 .0;
     charges = h .1 .1 .1 .1 .1;
   }),
@@ -63,7 +65,13 @@ kin-says n v = simp says (
     (k .root-kind, (k .root-identifier, (k .root-parent, (k .root-level, k .root-size)))),
     (
       (λ s l f. let p = k .placed s l f in (p .low, (p .dir, p .up))),
-      (k .siblings, (k .above, (k .names, k .charges))),
+      (
+        k .siblings,
+        (
+          (λ s l f. not-says _ .0 (above-says v (v s .identifier) (v s .level) s .1 (k .above s l f))),
+          (k .names, k .charges),
+        ),
+      ),
     ),
   )),
 )

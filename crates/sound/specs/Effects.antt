@@ -9,7 +9,7 @@ use lib.ListN.{length, replicate}
 use Rattle.laws.specs.declared.Found.the-variants.{At}
 use Rattle.numbers.specs.Numbers.{be16}
 use Rattle.rules.specs.Descriptor.{classOf, df, ef}
-use Rattle.rules.specs.Life.{knownLife}
+use Rattle.rules.specs.Life.{knownLife, activatedByte}
 use Rattle.rules.specs.Value.{goodIdentifier, goodLength}
 use Rattle.rules.specs.Rule.{fitsRecord}
 use Rattle.image.specs.declared.Head.{Head}
@@ -25,25 +25,25 @@ created img s h name rule =
     (cond (eqb (h .kind) df) none s)
 
 -- what the data of a new file must satisfy by themselves
-pub record Good (h : Head) (name rule : List ℕ) : Type 0 where
+pub record GoodRecord (h : Head) (name rule : List ℕ) : Type 0 where
   pub class : classOf (h .descriptor) ≡ h .kind
   pub some : h .kind ≡ 0 → ⊥
   pub life : knownLife (h .life) ≡ true
   pub identifier : goodIdentifier (h .identifier) ≡ true
   pub size : 1 ≤ h .size
-  pub stride : goodLength (h .descriptor) (h .stride) (h .size) ≡ true
-  pub named : length name ≤ 16
+  pub records : goodLength (h .descriptor) (h .«record_length») (h .size) ≡ true
+  pub name-short : length name ≤ 16
   pub nameless : h .kind ≡ ef → length name ≡ 0
-  pub short : length rule ≤ 16
+  pub rule-short : length rule ≤ 16
   pub formed : fitsRecord rule ≡ true
 
 -- what CREATE has checked and found when it takes slot s, the lowest free one
 pub record Creates (img : List ℕ) (s : ℕ) (h : Head) (name rule : List ℕ) : Type 0 where
-  pub good : Good h name rule
+  pub good : GoodRecord h name rule
   pub parent : h .parent ≡ currentDfOf img
   pub level : h .level ≡ viewAt img (currentDfOf img) .level + 1
   pub identifier : identifierFree (countOf img) (viewAt img) (currentDfOf img) (h .identifier) ≡ true
-  pub named : nameFree (countOf img) (viewAt img) name ≡ true
+  pub name-free : nameFree (countOf img) (viewAt img) name ≡ true
   pub room : fitsRoom (countOf img) (viewAt img) (currentDfOf img) (h .size) ≡ true
   pub slot : freeSlot (countOf img) (viewAt img) ≡ At s
 
@@ -73,11 +73,11 @@ abbrev pub rootHead : ℕ → Head
 rootHead total = record {
   kind = df;
   descriptor = 0x38;
-  life = 0x05;
+  life = activatedByte;
   identifier = 0x3F00;
   parent = 0;
   level = 0;
-  stride = 0;
+  «record_length» = 0;
   size = total;
 }
 

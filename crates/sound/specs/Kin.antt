@@ -9,7 +9,7 @@ use Rattle.laws.specs.Walks.{allBelow}
 use Rattle.laws.specs.Lists.{sameList}
 use Rattle.laws.specs.Tests.{implies}
 use Rattle.rules.specs.Descriptor.{df}
-use Rattle.sound.specs.Table.{View, File, isFile, up, charged}
+use Rattle.sound.specs.Table.{View, File, isFile, up, upward, hasIdentifier, charged}
 
 -- where a file stands: its parent is a DF with level one less
 pub record Placed (n : ℕ) (v : ℕ → View) (s : ℕ) : Type 0 where
@@ -65,12 +65,9 @@ siblingsAt v s = implies (isFile v s) (allBelow s (apartAt v s))
 unfoldable pub siblingsb : ℕ → (ℕ → View) → Bool
 siblingsb n v = allBelow n (siblingsAt v)
 
--- the directory k + 1 steps up from s has another identifier
-unfoldable pub otherUp : (ℕ → View) → ℕ → ℕ → Bool
-otherUp v s k = not (eqb (v (up v (suc k) s) .identifier) (v s .identifier))
-
+-- no directory above s has its identifier
 unfoldable pub aboveAt : (ℕ → View) → ℕ → Bool
-aboveAt v s = implies (isFile v s) (allBelow (v s .level) (otherUp v s))
+aboveAt v s = implies (isFile v s) (not (upward v (hasIdentifier v (v s .identifier)) (v s .level) (v s .parent)))
 
 unfoldable pub aboveb : ℕ → (ℕ → View) → Bool
 aboveb n v = allBelow n (aboveAt v)

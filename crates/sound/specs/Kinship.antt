@@ -6,12 +6,12 @@ use mathlib.Core.Bool.{Bool, not, _&&_}
 use Prim.Native.Nat.{ℕ, suc, _+_, _-_, _<_, _≤_}
 use lib.Dec.{eqb, leb}
 use Rattle.laws.specs.declared.Found.{Found}
-use Rattle.laws.specs.Walks.{allBelow, anyBelow, firstBelow, countBelow}
+use Rattle.laws.specs.Walks.{allBelow, firstBelow, countBelow}
 use Rattle.laws.specs.Lists.{sameList}
 use Rattle.laws.specs.Tests.{implies}
 use Rattle.rules.specs.Life.{isTerminated}
 use Rattle.image.specs.Layout.{recAt, lifeCycleOf}
-use Rattle.sound.specs.Table.{View, isFile, viewAt, up, payer, charged}
+use Rattle.sound.specs.Table.{View, isFile, viewAt, up, upward, hasIdentifier, payer, charged}
 
 -- slot s holds a child of directory d
 unfoldable pub isChild : (ℕ → View) → ℕ → ℕ → Bool
@@ -63,12 +63,15 @@ unfoldable pub terminatedAt : List ℕ → ℕ → Bool
 terminatedAt img s = isTerminated (lifeCycleOf (recAt img s))
 
 unfoldable pub terminatedUp : List ℕ → ℕ → Bool
-terminatedUp img s = anyBelow (suc (viewAt img s .level)) (λ k. terminatedAt img (up (viewAt img) k s))
+terminatedUp img s = upward (viewAt img) (terminatedAt img) (suc (viewAt img s .level)) s
+
+-- s or a directory above it has identifier x
+unfoldable pub namedUp : (ℕ → View) → ℕ → ℕ → Bool
+namedUp v x s = upward v (hasIdentifier v x) (suc (v s .level)) s
 
 -- no child of d has identifier x, nor d, nor a directory above it (else 6A89)
 unfoldable pub identifierFree : ℕ → (ℕ → View) → ℕ → ℕ → Bool
-identifierFree n v d x =
-    allBelow n (λ s. not (isChildNamed v d x s)) && allBelow (suc (v d .level)) (λ k. not (eqb (v (up v k d) .identifier) x))
+identifierFree n v d x = allBelow n (λ s. not (isChildNamed v d x s)) && not (namedUp v x d)
 
 -- no record has that name, if it is one (else 6A8A)
 unfoldable pub nameFree : ℕ → (ℕ → View) → List ℕ → Bool

@@ -50,8 +50,8 @@ pub record Used (r : List ℕ) : Type 0 where
   -- 50..63 are 0
   pub spare : (k : ℕ) → k < 14 → getD r (50 + k) 0 ≡ 0
 
-unfoldable pub markedb : List ℕ → Bool
-markedb r =
+unfoldable pub classedb : List ℕ → Bool
+classedb r =
     eqb (classOf (descriptorOf r)) (kindOf r)
     && (knownLife (lifeCycleOf r)
     && (eqb (getD r 3 0) 0
@@ -60,14 +60,14 @@ markedb r =
 unfoldable pub measuredb : List ℕ → Bool
 measuredb r = leb 1 (sizeOf r) && goodLength (descriptorOf r) (recordLengthOf r) (sizeOf r)
 
-unfoldable pub namedb : List ℕ → Bool
-namedb r = paddedb r 16 && implies (eqb (kindOf r) ef) (eqb (getD r 16 0) 0)
+unfoldable pub nameb : List ℕ → Bool
+nameb r = paddedb r 16 && implies (eqb (kindOf r) ef) (eqb (getD r 16 0) 0)
 
 unfoldable pub ruledb : List ℕ → Bool
 ruledb r = paddedb r 33 && fitsRecord (ruleOf r)
 
 unfoldable pub usedb : List ℕ → Bool
-usedb r = markedb r && (measuredb r && (namedb r && (ruledb r && zerosb r 50 14)))
+usedb r = classedb r && (measuredb r && (nameb r && (ruledb r && zerosb r 50 14)))
 
 -- a free record is all zero; any other is a used one
 pub record Own (r : List ℕ) : Type 0 where

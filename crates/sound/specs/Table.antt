@@ -4,7 +4,7 @@ use mathlib.Core.Bool.{Bool, not, _&&_}
 use mathlib.Core.List.{List}
 use Prim.Native.Nat.{ℕ, zero, suc, _+_}
 use lib.Dec.{eqb}
-use Rattle.laws.specs.Walks.{sumBelow, ifSo}
+use Rattle.laws.specs.Walks.{anyBelow, sumBelow, ifSo}
 use Rattle.image.specs.Layout.{recAt, kindOf, identifierOf, parentOf, levelOf, sizeOf, nameOf}
 
 pub record View : Type 0 where
@@ -39,6 +39,14 @@ isFile v s = not (eqb (v s .kind) 0) && not (eqb s 0)
 unfoldable pub up : (ℕ → View) → ℕ → ℕ → ℕ
 up v zero s = s
 up v (suc k) s = v (up v k s) .parent
+
+-- p holds of one of the n slots on the way up from s, s itself being the first
+unfoldable pub upward : (ℕ → View) → (ℕ → Bool) → ℕ → ℕ → Bool
+upward v p n s = anyBelow n (λ k. p (up v k s))
+
+-- the file in slot s has identifier x
+abbrev pub hasIdentifier : (ℕ → View) → ℕ → ℕ → Bool
+hasIdentifier v x s = eqb (v s .identifier) x
 
 -- the directory that pays for what stands in directory d: d itself
 abbrev pub payer : ℕ → ℕ

@@ -19,7 +19,7 @@ use Rattle.sound.specs.Effects.{fresh}
 abbrev pub SoundSays : Type 0
 SoundSays = (img : List ℕ) → (soundb img ≡ true) ↔ Sound img
 
--- and any two answers of `soundness::sound`, which promises that test, are equal
+-- and any two answers of `sound_test::sound`, which promises that test, are equal
 abbrev pub SoundOnce : Type 0
 SoundOnce = (img : List ℕ) → Settles Bool (λ r. r ≡ soundb img)
 

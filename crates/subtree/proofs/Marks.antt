@@ -30,7 +30,8 @@ mark-no : (b : Bool) → (markOf b ≡ 1 → ⊥) → b ≡ false
 mark-no true e = absurd (e refl)
 mark-no false e = refl
 
-module _ (v : ℕ → View) (n d : ℕ) (marks : List ℕ) (h : Known v n d marks) (most : n ≤ 1023) (t m : ℕ) (low : t < n) (e : m ≡ markOf (atOrBeneath v d t)) where
+module _ (v : ℕ → View) (n d : ℕ) (marks : List ℕ) (h : Known v n d marks) (most : n ≤ 1023) (t m : ℕ) (low : t < n)
+    (e : m ≡ markOf (atOrBeneath v d t)) where
   pub known-set : Known v n d (set marks t m)
   known-set = record { long = simp length-set (h .long); right = λ k l z. ⊎-elim (λ q. here k q) (λ q. there k l z q) (same-or k t) }
     where
@@ -47,7 +48,10 @@ module _ (v : ℕ → View) (n d : ℕ) (marks : List ℕ) (h : Known v n d mark
   set-known y = mark-some (atOrBeneath v d t) (sym (getD-set-same marks t m 0 (omega (arith, h .long)) ∙ e) ∙ y)
 
   pub keeps-set : (old : List ℕ) → Keeps old marks → Keeps old (set marks t m)
-  keeps-set old g = record { kept = λ k z y. ⊎-elim (λ q. set-known (rw q at y)) (λ q. g .kept k z (sym (getD-set-other marks t k m 0 q) ∙ y)) (same-or k t) }
+  keeps-set old g =
+      record {
+        kept = λ k z y. ⊎-elim (λ q. set-known (rw q at y)) (λ q. g .kept k z (sym (getD-set-other marks t k m 0 q) ∙ y)) (same-or k t);
+      }
 
 pub keeps-all : (marks : List ℕ) → Keeps marks marks
 keeps-all marks = record { kept = λ k z. z }
@@ -57,16 +61,20 @@ module _ (img : List ℕ) (n d s t : ℕ) (h : Passed img n d s t) (marks : List
   pub find-known : (m : ℕ) → Known (viewAt img) n d marks → m ≡ getD marks t 0 → (m ≡ 0 → ⊥) → m ≡ markOf (atOrBeneath (viewAt img) d s)
   find-known m k e z = e ∙ k .right t (h .stands .low) (λ y. z (e ∙ y)) ∙ ap markOf (h .same)
 
-  module _ (high m : ℕ) (r : Bool) (l : high ≡ viewAt img d .level) (e : r ≡ isOpen (viewAt img) high marks t) (o : r ≡ false) (f : m ≡ getD marks t 0) (z : m ≡ 0) where
+  module _ (high m : ℕ) (r : Bool) (l : high ≡ viewAt img d .level) (e : r ≡ isOpen (viewAt img) high marks t) (o : r ≡ false)
+      (f : m ≡ getD marks t 0) (z : m ≡ 0) where
     pub find-here : t ≡ d → 1 ≡ markOf (atOrBeneath (viewAt img) d s)
     find-here q = ap markOf (sym (beneath-same (viewAt img) d t (h .stands .used) q) ∙ h .same)
 
     pub find-other : (t ≡ d → ⊥) → 2 ≡ markOf (atOrBeneath (viewAt img) d s)
     find-other q =
-        ap markOf (sym (beneath-other (viewAt img) d t (h .stands .used) (omega (arith, shut-high (viewAt img) high marks t r e o (sym f ∙ z))) q) ∙ h .same)
+        ap markOf
+        (sym (beneath-other (viewAt img) d t (h .stands .used) (omega (arith, shut-high (viewAt img) high marks t r e o (sym f ∙ z))) q)
+        ∙ h .same)
 
 -- t, which the way up from s passed, gets the mark m of s
-module _ (img : List ℕ) (n d s t : ℕ) (rooted : Rooted img n) (h : Passed img n d s t) (marks : List ℕ) (k : Known (viewAt img) n d marks) (m : ℕ) (e : m ≡ markOf (atOrBeneath (viewAt img) d s)) where
+module _ (img : List ℕ) (n d s t : ℕ) (rooted : Rooted img n) (h : Passed img n d s t) (marks : List ℕ)
+    (k : Known (viewAt img) n d marks) (m : ℕ) (e : m ≡ markOf (atOrBeneath (viewAt img) d s)) where
   pub spread-known : Known (viewAt img) n d (set marks t m)
   spread-known = known-set (viewAt img) n d marks k (rooted .sized .most) t m (h .stands .low) (e ∙ ap markOf (sym (h .same)))
 
@@ -78,7 +86,8 @@ module _ (v : ℕ → View) (n d s : ℕ) (marks : List ℕ) (h : Settled v n d 
   pub settled-known : (getD marks s 0 ≡ 0 → ⊥) → Settled v n d (s + 1) marks
   settled-known z = record { known = h .known; done = below-more (λ (k : ℕ). getD marks k 0 ≡ 0 → ⊥) s (h .done) z }
 
-  pub settled-new : n ≤ 1023 → s < n → (l : List ℕ) (m : ℕ) → Known v n d l → Keeps marks l → m ≡ markOf (atOrBeneath v d s) → Settled v n d (s + 1) (set l s m)
+  pub settled-new : n ≤ 1023 → s < n → (l : List ℕ) (m : ℕ) → Known v n d l → Keeps marks l → m ≡ markOf (atOrBeneath v d s)
+      → Settled v n d (s + 1) (set l s m)
   settled-new most low l m k g e =
       record {
         known = known-set v n d l k most s m low e;
@@ -93,7 +102,10 @@ module _ (v : ℕ → View) (n d s : ℕ) (marks : List ℕ) (h : Settled v n d 
 pub settled-none : (v : ℕ → View) (n d : ℕ) → n ≤ 1023 → Settled v n d 0 (replicate 1023 0)
 settled-none v n d most =
     record {
-      known = record { long = length-replicate {A = ℕ} 1023 0; right = λ k l z. absurd (z (getD-replicate {A = ℕ} 1023 k 0 0 (omega arith))) };
+      known = record {
+        long = length-replicate {A = ℕ} 1023 0;
+        right = λ k l z. absurd (z (getD-replicate {A = ℕ} 1023 k 0 0 (omega arith)));
+      };
       done = below-none _;
     }
 

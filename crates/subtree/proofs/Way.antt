@@ -43,13 +43,15 @@ module _ (v : ℕ → View) (d s : ℕ) where
         level : v s .level ≡ v d .level → atOrBeneath v d s ≡ false
         level e =
             let z : v s .level - v d .level ≡ 0 = omega arith in
-            beneath-deep (omega arith) ∙ ne-eqb (up v (v s .level - v d .level) s) d (λ q. n (sym (ap (λ (k : ℕ). up v k s) z ∙ up-none v s) ∙ q))
+            beneath-deep (omega arith)
+            ∙ ne-eqb (up v (v s .level - v d .level) s) d (λ q. n (sym (ap (λ (k : ℕ). up v k s) z ∙ up-none v s) ∙ q))
 
         high : (v s .level ≡ v d .level → ⊥) → atOrBeneath v d s ≡ false
         high e = beneath-high (⊎-elim (λ h. h) (λ h. absurd (omega arith)) (apart (v s .level) (v d .level) e))
 
 -- deeper than d: its parent p, one level higher
-pub beneath-parent : (v : ℕ → View) (d s p : ℕ) → (v s .kind ≡ 0 → ⊥) → (v p .kind ≡ 0 → ⊥) → p ≡ v s .parent → v s .level ≡ v p .level + 1 → v d .level < v s .level
+pub beneath-parent : (v : ℕ → View) (d s p : ℕ) → (v s .kind ≡ 0 → ⊥) → (v p .kind ≡ 0 → ⊥) → p ≡ v s .parent → v s .level ≡ v p .level + 1
+    → v d .level < v s .level
     → atOrBeneath v d p ≡ atOrBeneath v d s
 beneath-parent v d s p used w e l h =
     let k : ℕ = v p .level - v d .level in
@@ -94,7 +96,8 @@ pub pass-start : (img : List ℕ) (n d s : ℕ) → Stands img n s → Passed im
 pass-start img n d s h = record { stands = h; same = refl }
 
 -- t is open, so that the walk goes on to its parent p
-module _ (img : List ℕ) (n d s t p high : ℕ) (marks : List ℕ) (r : Bool) (rooted : Rooted img n) (h : Passed img n d s t) (q : p ≡ viewAt img t .parent) (l : high ≡ viewAt img d .level) (e : r ≡ isOpen (viewAt img) high marks t) (o : r ≡ true) where
+module _ (img : List ℕ) (n d s t p high : ℕ) (marks : List ℕ) (r : Bool) (rooted : Rooted img n) (h : Passed img n d s t)
+    (q : p ≡ viewAt img t .parent) (l : high ≡ viewAt img d .level) (e : r ≡ isOpen (viewAt img) high marks t) (o : r ≡ true) where
   step : viewAt img t .level ≡ viewAt img p .level + 1
   step = rw q (rooted .level t (h .stands) (omega (arith, open-deep (viewAt img) high marks t r e o)))
 
@@ -105,7 +108,9 @@ module _ (img : List ℕ) (n d s t p high : ℕ) (marks : List ℕ) (r : Bool) (
   pass-more =
       record {
         stands = parent-stands;
-        same = beneath-parent (viewAt img) d t p (h .stands .used) (parent-stands .used) q step (omega (arith, open-deep (viewAt img) high marks t r e o)) ∙ h .same;
+        same = beneath-parent (viewAt img) d t p (h .stands .used) (parent-stands .used) q step
+            (omega (arith, open-deep (viewAt img) high marks t r e o))
+            ∙ h .same;
       }
 
   pub pass-less : viewAt img p .level < viewAt img t .level

@@ -1,8 +1,8 @@
 // What stands at or beneath a directory, told of all slots at once (01 "DELETE": it and all beneath; "Making and
-// reporting": all files beneath). It may use laws, image, sound and kinship.
+// reporting": all files beneath).
 //
-// A walk over the slots: each climbs to a record that is known, or that stands no deeper than the directory; then
-// all that it passed are known too. So no record is passed by two climbs.
+// A walk over the slots: each climbs to a record that is known, or that stands no deeper than the directory; then all
+// that it passed are known too. So no record is passed by two climbs.
 ghost use mathlib.Core.Path.{_≡_};
 ghost use Prim.Native.Nat.{_+_, _<_};
 ghost use Rattle.image.specs.Layout.{Within};
@@ -71,7 +71,7 @@ fn settle(marks: &mut [u8; 1023], image: &[u8], n: usize, d: usize, s: usize)
     if marks[s] != 0 {
         return;
     }
-    if fields::kind(image, s) == 0 {
+    if fields::kind(image, s) == image::FREE {
         marks[s] = 2;
         return;
     }

@@ -1,11 +1,3 @@
 pub mod Gathering
-pub mod Lists
 pub mod Holding
-pub mod Good
 pub mod Reading
-pub mod Told
-pub mod Order
-pub mod Meaning
-pub mod Forms
-pub mod Taken
-pub mod Grammar

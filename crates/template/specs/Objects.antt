@@ -10,6 +10,7 @@ use Rattle.laws.specs.Lists.{part}
 use Rattle.template.specs.declared.Object.{Object}
 use Rattle.template.specs.declared.Object.the-variants.{Whole, Broken}
 use Rattle.template.specs.declared.Objects.{Objects}
+use Rattle.template.specs.declared.Span.{Span}
 
 -- the data object at a place: a tag, a length of one byte, 00-7F, and as many bytes; the value's place
 unfoldable pub objectAt : List ℕ → ℕ → Object
@@ -35,6 +36,10 @@ lengthIn o k = endIn o k - startIn o k
 
 abbrev pub valueIn : List ℕ → Objects → ℕ → List ℕ
 valueIn s o k = part s (startIn o k) (lengthIn o k)
+
+-- the bytes of a stretch
+abbrev pub bytesAt : List ℕ → Span → List ℕ
+bytesAt s p = part s (p .start) (p .end - p .start)
 
 -- object k noted, and the place after it
 abbrev pub noted : Objects → ℕ → ℕ → ℕ → Objects

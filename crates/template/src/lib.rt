@@ -1,7 +1,7 @@
-// CREATE's data (01 "CREATE", data): a template 62 of data objects. It may use laws, numbers and rules.
+// CREATE's data (01 "CREATE", data): a template 62 of data objects.
 //
-// `gather` notes which objects of 01's list stand in the template and where, as one value that judges nothing;
-// `value` reads a value. What the whole must obey is judged above, in `describing`.
+// `gather` notes which objects of 01's list stand in the template and where, as one value that judges nothing; `value`
+// reads a value. What the whole must obey is judged above, in `create_data`.
 pub mod gather;
 pub mod value;
 
@@ -19,27 +19,8 @@ pub struct Objects {
     pub next: usize,
 }
 
-// What CREATE's data says: the numbers of the new file, and where its name (an empty stretch for none) and
-// its rule stand in the data.
-pub enum Data {
-    Df {
-        descriptor: u8,
-        identifier: u16,
-        life: u8,
-        name_start: usize,
-        name_end: usize,
-        rule_start: usize,
-        rule_end: usize,
-        total: u32,
-    },
-    Ef {
-        descriptor: u8,
-        identifier: u16,
-        life: u8,
-        record_length: u16,
-        rule_start: usize,
-        rule_end: usize,
-        size: u32,
-    },
-    Bad,
+// A stretch of CREATE's data, where a value stands: from start to end.
+pub struct Span {
+    pub start: usize,
+    pub end: usize,
 }

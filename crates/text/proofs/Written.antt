@@ -52,4 +52,5 @@ counted {r} {o} {y} t w =
 
 pub wrote-once : WroteOnce
 wrote-once before text =
-    settled (λ p. Wrote (p .0) before (p .1) text) (length text, splice before 0 text) (λ p w. both-are _ _ p (w .long ∙ zero-add _) (w .bytes))
+    settled (λ p. Wrote (p .0) before (p .1) text) (length text, splice before 0 text)
+    (λ p w. both-are _ _ p (w .long ∙ zero-add _) (w .bytes))

@@ -1,5 +1,5 @@
 // Text in a buffer that the caller lends: capital hex digits, and a text written from a place on (01 "Replay": "One
-// line of four capital hex digits a command"). It may use laws and numbers.
+// line of four capital hex digits a command").
 ghost use mathlib.Core.Path.{_≡_};
 ghost use Prim.Native.Nat.{_+_, _<_, _≤_};
 ghost use lib.ListN.{length};

@@ -119,7 +119,7 @@ fn all_names(slots: usize) -> Card {
 }
 
 /// The same, but all names share the key by which soundness tells most names
-/// apart (crates/naming), and their last byte too, so that each is compared
+/// apart (crates/sound_names), and their last byte too, so that each is compared
 /// with all before it.
 fn names_of_one_key(slots: usize) -> Card {
     let mut filling = Filling::new(slots);

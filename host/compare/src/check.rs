@@ -164,7 +164,7 @@ impl Books {
         let fits = self.model.agrees(command, word, before)
             && word_fits(&self.stated, here, command, word);
         let told = heard(command, word);
-        let next = self.stated.noted(told, here, there);
+        let next = self.stated.entered(told, here, there);
         self.model.enter(command, word, before, after);
         let given = Given { ledger: &self.stated, next: &next, told, before: here, after: there };
         let complaint = (!fits)

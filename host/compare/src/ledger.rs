@@ -64,7 +64,7 @@ impl Ledger {
         Ledger { total: u64::from(total), files: Vec::new() }
     }
 
-    fn first_of(&self, has: impl Fn(&Entry) -> bool) -> Entry {
+    fn first_entry(&self, has: impl Fn(&Entry) -> bool) -> Entry {
         self.files.iter().copied().find(|entry| has(entry)).unwrap_or_default()
     }
 
@@ -78,7 +78,7 @@ impl Ledger {
         if d == 0 {
             self.total
         } else {
-            self.first_of(|entry| entry.own == d).size
+            self.first_entry(|entry| entry.own == d).size
         }
     }
 
@@ -96,7 +96,7 @@ impl Ledger {
         if d == 0 {
             0
         } else {
-            self.first_of(|entry| entry.own == d).dir
+            self.first_entry(|entry| entry.own == d).dir
         }
     }
 
@@ -115,7 +115,7 @@ impl Ledger {
 
     /// `fileIn`: the file x of directory d.
     pub fn file_in(&self, d: u64, x: u64) -> Entry {
-        self.first_of(|entry| entry.dir == d && entry.identifier == x)
+        self.first_entry(|entry| entry.dir == d && entry.identifier == x)
     }
 
     fn within(&self, d: u64, x: u64, t: u64) -> bool {
@@ -127,9 +127,9 @@ impl Ledger {
         (entry.dir == d && entry.identifier == x) || self.within(d, x, entry.dir)
     }
 
-    /// `noted`: the ledger after a command, with the current DF slots before
+    /// `entered`: the ledger after a command, with the current DF slots before
     /// and after it.
-    pub fn noted(&self, told: Announced, before: u64, after: u64) -> Ledger {
+    pub fn entered(&self, told: Announced, before: u64, after: u64) -> Ledger {
         let files = match told {
             Announced::Makes(identifier, size, is_df) => {
                 let own = if is_df { after } else { 0 };

@@ -22,13 +22,20 @@ same-length : tie.Need-same-length
 same-length c = search needs
 
 returns : tie.Need-returns
-returns c = (word-alone _ ∙ by-case packed (c .before .reply .given .1) (c .before .before .before .before .before .command .ensures .0), c .before .before .before .before .before .command .ensures .1)
+returns c = (
+  word-alone _
+      ∙ by-case packed (c .before .reply .given .1) (c .before .before .before .before .before .command .ensures .0),
+  c .before .before .before .before .before .command .ensures .1,
+)
 
 same-length-2 : tie.Need-same-length-2
 same-length-2 c = search needs
 
 returns-2 : tie.Need-returns-2
-returns-2 c = (by-case packed (c .enum-told .given .1) (c .before .before .before .before .command .ensures .0), c .before .before .before .before .command .ensures .1)
+returns-2 c = (
+  by-case packed (c .enum-told .given .1) (c .before .before .before .before .command .ensures .0),
+  c .before .before .before .before .command .ensures .1,
+)
 
 pub hull-command-spec : {M : Type 1} → statement M
 hull-command-spec =

@@ -20,13 +20,18 @@ judge-requires : tie.Need-judge-requires
 judge-requires c κs = search call-sound
 
 apply-requires : tie.Need-apply-requires
-apply-requires c κs = call-applies _ _ _ (c .before .before .before .before .before .before .sound .ensures) (c .before .before .before .before .before .if1 .left) (c .before .judge .ensures) (c .before .before .before .count .ensures .0)
+apply-requires c κs =
+    call-applies _ _ _ (c .before .before .before .before .before .before .sound .ensures)
+    (c .before .before .before .before .before .if1 .left) (c .before .judge .ensures) (c .before .before .before .count .ensures .0)
 
 same-length-2 : tie.Need-same-length-2
 same-length-2 c = search needs
 
 returns-2 : tie.Need-returns-2
-returns-2 c = call-done _ _ _ (c .before .before .before .before .before .before .before .before .before .sound .ensures) (c .before .before .before .before .before .before .before .before .if1 .left) (c .before .before .before .before .judge .ensures) (c .before .before .apply .ensures .0) (c .before .before .apply .ensures .1)
+returns-2 c =
+    call-done _ _ _ (c .before .before .before .before .before .before .before .before .before .sound .ensures)
+    (c .before .before .before .before .before .before .before .before .if1 .left) (c .before .before .before .before .judge .ensures)
+    (c .before .before .apply .ensures .0) (c .before .before .apply .ensures .1)
 
 pub command-spec : {M : Type 1} → statement M
 command-spec =

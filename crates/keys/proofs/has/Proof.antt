@@ -1,6 +1,6 @@
--- `has`: the bit of the key in its word.
+-- `has`: the bitIn of the key in its word.
 use mathlib.Core.Path.{refl}
-use Rattle.keys.specs.Marks.{marked, bit}
+use Rattle.keys.specs.Marks.{marked, bitIn}
 use borrow.Author.Needs.{needs}
 use Rattle.keys.proofs.has.Statement.{statement}
 use Rattle.keys.proofs.has.Tie as tie
@@ -21,7 +21,7 @@ shr-result : tie.Need-shr-result
 shr-result c = search needs
 
 returns : tie.Need-returns
-unfolding marked bit
+unfolding marked bitIn
 returns c = refl
 
 pub has-spec : {M : Type 1} → statement M

@@ -1,4 +1,4 @@
--- `put`: the bit of the key goes on in its word.
+-- `put`: the bitIn of the key goes on in its word.
 use Prim.Native.Nat.{_%_}
 use native.Mathlib.Omega.{arith}
 use Rattle.keys.specs.Marks.{marking}

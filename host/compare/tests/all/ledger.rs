@@ -11,11 +11,11 @@ use Announced::{Deletes, Makes, Neither};
 /// directory another of 100 in slot 3 with an EF of 5.
 fn nested() -> Ledger {
     Ledger::opened(1000)
-        .noted(Makes(0x7F10, 300, true), 0, 1)
-        .noted(Neither, 1, 0)
-        .noted(Makes(0x6F01, 10, false), 0, 0)
-        .noted(Makes(0x7F20, 100, true), 1, 3)
-        .noted(Makes(0x6F02, 5, false), 3, 3)
+        .entered(Makes(0x7F10, 300, true), 0, 1)
+        .entered(Neither, 1, 0)
+        .entered(Makes(0x6F01, 10, false), 0, 0)
+        .entered(Makes(0x7F20, 100, true), 1, 3)
+        .entered(Makes(0x6F02, 5, false), 3, 3)
 }
 
 #[test]
@@ -31,21 +31,21 @@ fn a_directory_goes_with_all_beneath_it() {
     let ledger = nested();
     assert!(ledger.strikes(Deletes(0x7F10), 0, 1) && ledger.strikes(Deletes(0x7F10), 0, 3));
     assert!(!ledger.strikes(Deletes(0x7F10), 0, 0) && !ledger.strikes(Deletes(0x6F01), 0, 1));
-    let left = ledger.noted(Deletes(0x7F10), 0, 0);
+    let left = ledger.entered(Deletes(0x7F10), 0, 0);
     assert_eq!(left.files.len(), 1);
     assert_eq!((left.room_in(0), left.lives_in(1), left.lives_in(3)), (1000 - 74, false, false));
 }
 
 #[test]
 fn an_identifier_that_comes_back_is_charged_anew() {
-    let once = Ledger::opened(1000).noted(Makes(0x6F01, 10, false), 0, 0);
-    let back = once.noted(Deletes(0x6F01), 0, 0).noted(Makes(0x6F01, 400, false), 0, 0);
+    let once = Ledger::opened(1000).entered(Makes(0x6F01, 10, false), 0, 0);
+    let back = once.entered(Deletes(0x6F01), 0, 0).entered(Makes(0x6F01, 400, false), 0, 0);
     assert_eq!((once.room_in(0), back.room_in(0)), (1000 - 74, 1000 - 464));
 }
 
 #[test]
 fn a_slot_that_is_given_out_again_begins_with_its_whole_total() {
-    let again = nested().noted(Deletes(0x7F10), 0, 0).noted(Makes(0x7F10, 200, true), 0, 1);
+    let again = nested().entered(Deletes(0x7F10), 0, 0).entered(Makes(0x7F10, 200, true), 0, 1);
     assert_eq!((again.total_in(1), again.room_in(1)), (200, 200));
 }
 
@@ -86,11 +86,11 @@ fn said(next: &Ledger, told: Announced) -> Option<String> {
 fn wrong_entries_are_found_out() {
     let opened = Ledger::opened(448);
     assert_eq!(said(&opened, Neither), None);
-    let charged = opened.noted(Makes(0x6F01, 10, false), 0, 0);
+    let charged = opened.entered(Makes(0x6F01, 10, false), 0, 0);
     let found = [
         (said(&charged, Makes(0x6F01, 10, false)), "rooms"),
         (said(&charged, Neither), "took room"),
-        (said(&opened.noted(Makes(0x7F10, 1, true), 0, 5), Makes(0x7F10, 1, true)), "rooms"),
+        (said(&opened.entered(Makes(0x7F10, 1, true), 0, 5), Makes(0x7F10, 1, true)), "rooms"),
         (said(&Ledger::opened(512), Neither), "took room"),
     ];
     for (complaint, expected) in found {

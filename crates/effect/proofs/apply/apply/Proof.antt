@@ -1,5 +1,5 @@
 -- `apply::apply`: the effect of each case is the one that its function makes.
-use Rattle.effect.proofs.Cases.{create-sent, create-fits, delete-fits, live-fits, applied, applied-create}
+use Rattle.effect.proofs.Cases.{create-sent, create-fits, delete-fits, set-life-fits, applied, applied-create}
 use borrow.Author.Needs.{needs}
 use Rattle.effect.proofs.apply.apply.Statement.{statement}
 use Rattle.effect.proofs.apply.apply.Tie as tie
@@ -17,25 +17,31 @@ enum-known-verdict-3 : tie.Need-enum-known-verdict-3
 enum-known-verdict-3 c = search needs
 
 sent-requires : tie.Need-sent-requires
-sent-requires c κs = create-sent _ _ _ _ (c .before .before .before .before .before .pre) _ _ _ _ _ _ (c .before .verdict3 .given .1) .name
+sent-requires c κs = create-sent _ _ _ _ (c .before .before .before .before .before .pre) _ (c .before .verdict3 .given .1) .name
 
 sent-requires-2 : tie.Need-sent-requires-2
-sent-requires-2 c κs = create-sent _ _ _ _ (c .before .before .before .before .before .before .pre) _ _ _ _ _ _ (c .before .before .verdict3 .given .1) .rule
+sent-requires-2 c κs =
+    create-sent _ _ _ _ (c .before .before .before .before .before .before .pre) _ (c .before .before .verdict3 .given .1) .rule
 
 create-requires : tie.Need-create-requires
-create-requires c κs = create-fits _ _ _ _ (c .before .before .before .before .before .before .before .before .pre) _ _ _ _ _ _ (c .before .before .before .before .verdict3 .given .1) _ _ (c .before .before .sent .ensures) (c .before .sent2 .ensures)
+create-requires c κs =
+    create-fits _ _ _ _ (c .before .before .before .before .before .before .before .before .before .pre) _
+    (c .before .before .before .before .before .verdict3 .given .1) _ _ (c .before .before .before .sent .ensures)
+    (c .before .before .sent2 .ensures)
 
 enum-known-verdict-4 : tie.Need-enum-known-verdict-4
 enum-known-verdict-4 c = search needs
 
 delete-requires : tie.Need-delete-requires
-delete-requires c κs = delete-fits _ _ _ _ (c .before .before .before .before .before .before .pre) _ (c .before .before .verdict4 .given .1)
+delete-requires c κs =
+    delete-fits _ _ _ _ (c .before .before .before .before .before .before .pre) _ (c .before .before .verdict4 .given .1)
 
 enum-known-verdict-5 : tie.Need-enum-known-verdict-5
 enum-known-verdict-5 c = search needs
 
-live-requires : tie.Need-live-requires
-live-requires c κs = live-fits _ _ _ _ (c .before .before .before .before .before .before .pre) _ _ (c .before .before .verdict5 .given .1)
+set-life-requires : tie.Need-set-life-requires
+set-life-requires c κs =
+    set-life-fits _ _ _ _ (c .before .before .before .before .before .before .pre) _ _ (c .before .before .verdict5 .given .1)
 
 returns : tie.Need-returns
 returns c = search needs
@@ -50,7 +56,10 @@ same-length-2 : tie.Need-same-length-2
 same-length-2 c = search needs
 
 returns-3 : tie.Need-returns-3
-returns-3 c = applied-create _ _ _ _ _ _ _ _ _ _ _ _ _ (c .before .before .before .before .before .before .before .verdict3 .given .1) (c .before .before .before .before .before .sent .ensures) (c .before .before .before .before .sent2 .ensures) (c .before .before .create .ensures)
+returns-3 c =
+    applied-create _ _ _ _ _ _ _ _ (c .before .before .before .before .before .before .before .before .verdict3 .given .1)
+    (c .before .before .before .before .before .before .sent .ensures) (c .before .before .before .before .before .sent2 .ensures)
+    (c .before .before .create .ensures)
 
 same-length-3 : tie.Need-same-length-3
 same-length-3 c = search needs
@@ -62,7 +71,7 @@ same-length-4 : tie.Need-same-length-4
 same-length-4 c = search needs
 
 returns-5 : tie.Need-returns-5
-returns-5 c = applied _ _ _ _ _ _ (c .before .before .before .before .before .verdict5 .given .1) (c .before .before .live .ensures)
+returns-5 c = applied _ _ _ _ _ _ (c .before .before .before .before .before .verdict5 .given .1) (c .before .before .set-life .ensures)
 
 pub apply-spec : {M : Type 1} → statement M
 apply-spec =
@@ -78,7 +87,7 @@ apply-spec =
     enum-known-verdict-4
     delete-requires
     enum-known-verdict-5
-    live-requires
+    set-life-requires
     returns
     same-length
     returns-2

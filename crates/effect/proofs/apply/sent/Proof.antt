@@ -1,4 +1,4 @@
--- `apply::sent` gives the value that stands in the data from start to end.
+-- `apply::sent` gives the value that stands at a place of the data.
 use Rattle.effect.proofs.Sent.{part-sent}
 use borrow.Author.Needs.{needs}
 use Rattle.effect.proofs.apply.sent.Statement.{statement}
@@ -20,7 +20,7 @@ part-result-end : tie.Need-part-result-end
 part-result-end c = search needs
 
 returns : tie.Need-returns
-returns c = part-sent _ (c .before .args .start) (c .before .args .end)
+returns c = part-sent _ (c .before .before .before .args .place)
 
 pub sent-spec : {M : Type 1} → statement M
 sent-spec =

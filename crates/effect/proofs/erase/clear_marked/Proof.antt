@@ -11,7 +11,8 @@ use Rattle.effect.proofs.erase.clear_marked.Statement.{statement}
 use Rattle.effect.proofs.erase.clear_marked.Tie as tie
 
 abbrev Inv-loop : tie.InvT-loop
-Inv-loop image₀ n marks s₀ image s = ((s ≤ n) × (length image ≡ length image₀)) × (image ≡ clearBelow s (λ k. eqb (getD marks k 0) 1) image₀)
+Inv-loop image₀ n marks s₀ image s =
+    ((s ≤ n) × (length image ≡ length image₀)) × (image ≡ clearBelow s (λ k. eqb (getD marks k 0) 1) image₀)
 
 abbrev μ-loop : tie.MeasureT-loop
 μ-loop image₀ n marks s₀ image s = n - s
@@ -32,7 +33,11 @@ loop-less : tie.Need-loop-less Inv-loop μ-loop
 loop-less c = search needs
 
 loop-again : tie.Need-loop-again Inv-loop μ-loop
-loop-again c = (search needs, clear-turn _ _ _ _ _ (c .before .before .before .before .before .before .loop .inv .1) (c .before .before .clear-if .ensures))
+loop-again c = (
+  search needs,
+  clear-turn _ _ _ _ _ (c .before .before .before .before .before .before .loop .inv .1)
+      (c .before .before .clear-if .ensures),
+)
 
 same-length : tie.Need-same-length Inv-loop μ-loop
 same-length c = search needs

@@ -1,6 +1,6 @@
 -- `fields::record_length` gives the record length of record s.
 use mathlib.Core.Path.{sym, _∙_}
-use Rattle.image.proofs.Places.{stride-in}
+use Rattle.image.proofs.Places.{record-length-in}
 use borrow.Author.Needs.{needs}
 use Rattle.image.proofs.fields.record_length.Statement.{statement}
 use Rattle.image.proofs.fields.record_length.Tie as tie
@@ -18,7 +18,7 @@ u16-at-requires : tie.Need-u16-at-requires
 u16-at-requires c κs = search needs
 
 returns : tie.Need-returns
-returns c = c .u16-at .ensures ∙ sym (stride-in _ _)
+returns c = c .u16-at .ensures ∙ sym (record-length-in _ _)
 
 pub record-length-spec : {M : Type 1} → statement M
 record-length-spec =

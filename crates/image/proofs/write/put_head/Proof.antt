@@ -56,7 +56,13 @@ put16-requires-4 : tie.Need-put16-requires-4
 put16-requires-4 c κs = search needs
 
 add-put32 : tie.Need-add-put32
-add-put32 c = omega (arith, c .before .before .before .before .before .before .before .before .before .before .before .before .before .before .before .before .before .before .before .before .before .before .before .before .before .before .before .before .before .before .before .before .before .before)
+add-put32 c =
+    omega (
+      arith,
+      c .before .before .before .before .before .before .before .before .before .before .before .before .before .before .before .before
+      .before .before .before .before .before .before .before .before .before .before .before .before .before .before .before .before
+      .before .before,
+    )
 
 put32-requires : tie.Need-put32-requires
 put32-requires c κs = search needs
@@ -67,7 +73,10 @@ same-length c = search needs
 returns : tie.Need-returns
 unfolding headBytes
 returns c =
-    let start = c .before .before .before .before .before .before .before .before .before .before .before .before .before .before .before .before .before .before .before .before .before .before .before .before .before .before .before .before .before .before .before .before .before .before .before .before .before in
+    let start =
+    c .before .before .before .before .before .before .before .before .before .before .before .before .before .before .before .before
+    .before .before .before .before .before .before .before .before .before .before .before .before .before .before .before .before
+    .before .before .before .before .before in
     let p : start .args .at + 16 ≤ length (now (start .args .image)) = start .pre in
     splice-step _ _ _ _ _ _ _
     (splice-step _ _ _ _ _ _ _
@@ -77,12 +86,23 @@ returns c =
     (splice-step _ _ _ _ _ _ _
     (splice-step _ _ _ _ _ _ _
     (splice-step _ _ _ _ _ _ _
-    (c .before .before .before .before .before .before .before .before .before .before .before .before .before .before .before .before .before .before .before .before .before .before .before .before .before .before .before .before .before .before .before .before .before .before .put8 .ensures)
-    (omega arith) refl (c .before .before .before .before .before .before .before .before .before .before .before .before .before .before .before .before .before .before .before .before .before .before .before .before .before .before .before .before .before .before .put82 .ensures))
-    (omega arith) refl (c .before .before .before .before .before .before .before .before .before .before .before .before .before .before .before .before .before .before .before .before .before .before .before .before .before .before .put83 .ensures))
-    (omega arith) refl (c .before .before .before .before .before .before .before .before .before .before .before .before .before .before .before .before .before .before .before .before .before .before .put84 .ensures))
-    (omega arith) refl (c .before .before .before .before .before .before .before .before .before .before .before .before .before .before .before .before .before .before .put16 .ensures))
-    (omega arith) refl (c .before .before .before .before .before .before .before .before .before .before .before .before .before .before .put162 .ensures))
+    (c .before .before .before .before .before .before .before .before .before .before .before .before .before .before .before .before
+    .before .before .before .before .before .before .before .before .before .before .before .before .before .before .before .before
+    .before .before .put8 .ensures)
+    (omega arith) refl
+    (c .before .before .before .before .before .before .before .before .before .before .before .before .before .before .before .before
+    .before .before .before .before .before .before .before .before .before .before .before .before .before .before .put82 .ensures))
+    (omega arith) refl
+    (c .before .before .before .before .before .before .before .before .before .before .before .before .before .before .before .before
+    .before .before .before .before .before .before .before .before .before .before .put83 .ensures))
+    (omega arith) refl
+    (c .before .before .before .before .before .before .before .before .before .before .before .before .before .before .before .before
+    .before .before .before .before .before .before .put84 .ensures))
+    (omega arith) refl
+    (c .before .before .before .before .before .before .before .before .before .before .before .before .before .before .before .before
+    .before .before .put16 .ensures))
+    (omega arith) refl
+    (c .before .before .before .before .before .before .before .before .before .before .before .before .before .before .put162 .ensures))
     (omega arith) refl (c .before .before .before .before .before .before .before .before .before .before .put163 .ensures))
     (omega arith) refl (c .before .before .before .before .before .before .put164 .ensures))
     (omega arith) refl (c .before .before .put32 .ensures)

@@ -42,8 +42,12 @@ same-length c = search needs
 returns : tie.Need-returns
 unfolding putRecord recordBytes
 returns c =
-    let a = c .before .before .before .before .before .before .before .before .before .before .before .before .before .before .before .before .before .before .before .args in
-    let p = c .before .before .before .before .before .before .before .before .before .before .before .before .before .before .before .before .before .before .before .pre in
+    let a =
+    c .before .before .before .before .before .before .before .before .before .before .before .before .before .before .before .before
+    .before .before .before .args in
+    let p =
+    c .before .before .before .before .before .before .before .before .before .before .before .before .before .before .before .before
+    .before .before .before .pre in
     let l16 = length-head (a .h) in
     let l33 = length-to-rule (a .h) (now (a .name)) (p .1 .0) in
     let l50 = length-to-pad (a .h) (now (a .name)) (now (a .rule)) (p .1 .0) (p .1 .1) in

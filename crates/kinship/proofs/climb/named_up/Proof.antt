@@ -3,16 +3,14 @@ use borrow.Author.Needs.{needs}
 use Prim.Native.Nat.{_-_, _+_, _≤_}
 use mathlib.Core.Path.{_≡_}
 use mathlib.Core.Bool.{false}
-use Rattle.laws.specs.Walks.{anyBelow}
-use Rattle.laws.proofs.Walks.{any-zero}
-use Rattle.sound.specs.Table.{viewAt}
-use Rattle.kinship.specs.Climb.{isNamedUp}
-use Rattle.kinship.proofs.Steps.{Climbed, climb-start, climb-more, named-turn, named-stop, named-end}
+use Rattle.sound.specs.Table.{viewAt, upward, hasIdentifier}
+use Rattle.kinship.proofs.Steps.{Climbed, climb-start, climb-more, named-none, named-turn, named-stop, named-end}
 use Rattle.kinship.proofs.climb.named_up.Statement.{statement}
 use Rattle.kinship.proofs.climb.named_up.Tie as tie
 
 abbrev Inv-loop : tie.InvT-loop
-Inv-loop image n x s level t₀ i₀ t i = (i ≤ level + 1) × (Climbed image n s i t × (anyBelow i (isNamedUp (viewAt image) x s) ≡ false))
+Inv-loop image n x s level t₀ i₀ t i =
+    (i ≤ level + 1) × (Climbed image n s i t × (upward (viewAt image) (hasIdentifier (viewAt image) x) i s ≡ false))
 
 abbrev μ-loop : tie.MeasureT-loop
 μ-loop image n x s level t₀ i₀ t i = level + 1 - i
@@ -21,7 +19,7 @@ level-requires : tie.Need-level-requires Inv-loop μ-loop
 level-requires c κs = search needs
 
 loop-holds : tie.Need-loop-holds Inv-loop μ-loop
-loop-holds c = (search needs, (search climb-start, any-zero _))
+loop-holds c = (search needs, (search climb-start, named-none _ _ _))
 
 add-loop : tie.Need-add-loop Inv-loop μ-loop
 add-loop c = search needs

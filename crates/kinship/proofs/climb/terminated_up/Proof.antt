@@ -3,14 +3,14 @@ use borrow.Author.Needs.{needs}
 use Prim.Native.Nat.{_-_, _+_, _≤_}
 use mathlib.Core.Path.{_≡_}
 use mathlib.Core.Bool.{false}
-use Rattle.laws.specs.Walks.{anyBelow}
-use Rattle.laws.proofs.Walks.{any-zero}
-use Rattle.kinship.proofs.Steps.{Climbed, climb-start, climb-more, terminatedStep, terminated-turn, terminated-stop, terminated-end}
+use Rattle.sound.specs.Table.{viewAt, upward}
+use Rattle.sound.specs.Kinship.{terminatedAt}
+use Rattle.kinship.proofs.Steps.{Climbed, climb-start, climb-more, terminated-none, terminated-turn, terminated-stop, terminated-end}
 use Rattle.kinship.proofs.climb.terminated_up.Statement.{statement}
 use Rattle.kinship.proofs.climb.terminated_up.Tie as tie
 
 abbrev Inv-loop : tie.InvT-loop
-Inv-loop image n s level t₀ i₀ t i = (i ≤ level + 1) × (Climbed image n s i t × (anyBelow i (terminatedStep image s) ≡ false))
+Inv-loop image n s level t₀ i₀ t i = (i ≤ level + 1) × (Climbed image n s i t × (upward (viewAt image) (terminatedAt image) i s ≡ false))
 
 abbrev μ-loop : tie.MeasureT-loop
 μ-loop image n s level t₀ i₀ t i = level + 1 - i
@@ -19,7 +19,7 @@ level-requires : tie.Need-level-requires Inv-loop μ-loop
 level-requires c κs = search needs
 
 loop-holds : tie.Need-loop-holds Inv-loop μ-loop
-loop-holds c = (search needs, (search climb-start, any-zero _))
+loop-holds c = (search needs, (search climb-start, terminated-none _ _))
 
 add-loop : tie.Need-add-loop Inv-loop μ-loop
 add-loop c = search needs

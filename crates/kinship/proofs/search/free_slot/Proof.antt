@@ -32,7 +32,11 @@ loop-less : tie.Need-loop-less Inv-loop μ-loop
 loop-less c = search needs
 
 loop-again : tie.Need-loop-again Inv-loop μ-loop
-loop-again c = (search needs, first-more _ _ (c .before .before .before .loop .inv .1) (ne-eqb _ _ (λ e. c .if2 .left (c .before .kind .ensures ∙ e))))
+loop-again c = (
+  search needs,
+  first-more _ _ (c .before .before .before .loop .inv .1)
+      (ne-eqb _ _ (λ e. c .if2 .left (c .before .kind .ensures ∙ e))),
+)
 
 returns : tie.Need-returns Inv-loop μ-loop
 unfolding freeSlot
@@ -40,7 +44,10 @@ returns c = search (first-end, needs)
 
 returns-2 : tie.Need-returns-2 Inv-loop μ-loop
 unfolding freeSlot
-returns-2 c = sym (first-at _ _ _ (search needs) (c .before .before .before .loop .inv .1) (eq-eqb _ _ (sym (c .before .kind .ensures) ∙ c .if2 .taken)))
+returns-2 c =
+    sym
+    (first-at _ _ _ (search needs) (c .before .before .before .loop .inv .1)
+    (eq-eqb _ _ (sym (c .before .kind .ensures) ∙ c .if2 .taken)))
 
 pub free-slot-spec : {M : Type 1} → statement M
 free-slot-spec =

@@ -40,7 +40,14 @@ same-length c = search needs
 returns : tie.Need-returns
 unfolding freshHeader
 returns c =
-    let p : 16 ≤ length (now (c .before .before .before .before .before .before .before .before .before .before .before .before .before .before .before .before .before .before .before .before .before .before .before .before .before .before .before .before .before .before .before .before .before .args .image)) = c .before .before .before .before .before .before .before .before .before .before .before .before .before .before .before .before .before .before .before .before .before .before .before .before .before .before .before .before .before .before .before .before .before .pre in
+    let p : 16 ≤ length
+    (now
+    (c .before .before .before .before .before .before .before .before .before .before .before .before .before .before .before .before
+    .before .before .before .before .before .before .before .before .before .before .before .before .before .before .before .before
+    .before .args .image)) =
+    c .before .before .before .before .before .before .before .before .before .before .before .before .before .before .before .before
+    .before .before .before .before .before .before .before .before .before .before .before .before .before .before .before .before
+    .before .pre in
     splice-step _ _ _ _ _ _ _
     (splice-step _ _ _ _ _ _ _
     (splice-step _ _ _ _ _ _ _
@@ -48,11 +55,19 @@ returns c =
     (splice-step _ _ _ _ _ _ _
     (splice-step _ _ _ _ _ _ _
     (splice-step _ _ _ _ _ _ _
-    (c .before .before .before .before .before .before .before .before .before .before .before .before .before .before .before .before .before .before .before .before .before .before .before .before .before .before .before .before .before .before .put8 .ensures)
-    (omega arith) refl (c .before .before .before .before .before .before .before .before .before .before .before .before .before .before .before .before .before .before .before .before .before .before .before .before .before .before .put82 .ensures))
-    (omega arith) refl (c .before .before .before .before .before .before .before .before .before .before .before .before .before .before .before .before .before .before .before .before .before .before .put83 .ensures))
-    (omega arith) refl (c .before .before .before .before .before .before .before .before .before .before .before .before .before .before .before .before .before .before .put16 .ensures))
-    (omega arith) refl (c .before .before .before .before .before .before .before .before .before .before .before .before .before .before .put162 .ensures))
+    (c .before .before .before .before .before .before .before .before .before .before .before .before .before .before .before .before
+    .before .before .before .before .before .before .before .before .before .before .before .before .before .before .put8 .ensures)
+    (omega arith) refl
+    (c .before .before .before .before .before .before .before .before .before .before .before .before .before .before .before .before
+    .before .before .before .before .before .before .before .before .before .before .put82 .ensures))
+    (omega arith) refl
+    (c .before .before .before .before .before .before .before .before .before .before .before .before .before .before .before .before
+    .before .before .before .before .before .before .put83 .ensures))
+    (omega arith) refl
+    (c .before .before .before .before .before .before .before .before .before .before .before .before .before .before .before .before
+    .before .before .put16 .ensures))
+    (omega arith) refl
+    (c .before .before .before .before .before .before .before .before .before .before .before .before .before .before .put162 .ensures))
     (omega arith) refl (c .before .before .before .before .before .before .before .before .before .before .put163 .ensures))
     (omega arith) refl (c .before .before .before .before .before .before .put164 .ensures))
     (omega arith) refl (c .before .before .zero-out .ensures)

@@ -20,7 +20,8 @@ array-read-if1 : tie.Need-array-read-if1
 array-read-if1 c = search needs
 
 returns-2 : tie.Need-returns-2
-returns-2 c = taken-other _ _ _ _ (c .before .before .before .before .object-at .ensures) _ _ _ (c .before .before .tag .given .1) (c .if1 .taken)
+returns-2 c =
+    taken-other _ _ _ _ (c .before .before .before .before .object-at .ensures) _ _ _ (c .before .before .tag .given .1) (c .if1 .taken)
 
 mul-more : tie.Need-mul-more
 mul-more c = search needs
@@ -35,7 +36,8 @@ element-write-more-2 : tie.Need-element-write-more-2
 element-write-more-2 c = search needs
 
 returns-3 : tie.Need-returns-3
-returns-3 c = taken-noted _ _ _ _ (c .before .before .before .before .object-at .ensures) _ _ _ (c .before .before .tag .given .1) (c .if1 .left)
+returns-3 c =
+    taken-noted _ _ _ _ (c .before .before .before .before .object-at .ensures) _ _ _ (c .before .before .tag .given .1) (c .if1 .left)
 
 pub take-spec : {M : Type 1} → statement M
 take-spec =

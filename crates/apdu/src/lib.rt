@@ -1,0 +1,167 @@
+// The bytes of a command and the tests of the steps A to G, which all commands share (01 "The order in which a command
+// is judged"), and the parts of a command.
+ghost use mathlib.Core.Path.{_≡_};
+ghost use Prim.Native.Nat.{_≤_};
+ghost use lib.ListN.{length};
+ghost use Rattle.verdict.specs.Applied.{sentData};
+ghost use Rattle.apdu.specs.Apdu.{isTerminate, isKnown, wantsAlone, otherChannel, crowded, wantedParameters, fitParameters};
+ghost use Rattle.apdu.specs.Apdu.{isSeven, hasData, fitLength, onOtherChannel, sentIdentifier};
+use verdict::State;
+
+// The instructions of 01 by their names, the same as in specs/Apdu.
+pub const SELECT_FILE: u8 = 0xA4;
+
+pub const CREATE_FILE: u8 = 0xE0;
+
+pub const DELETE_FILE: u8 = 0xE4;
+
+pub const ACTIVATE_FILE: u8 = 0x44;
+
+pub const DEACTIVATE_FILE: u8 = 0x04;
+
+pub const TERMINATE_EF: u8 = 0xE8;
+
+pub const TERMINATE_DF: u8 = 0xE6;
+
+pub const TERMINATE_CARD: u8 = 0xFE;
+
+fn is_terminate(i: u8) -> bool
+    ensures { λ r. ⌜ r ≡ isTerminate i ⌝ }
+{
+    if i == TERMINATE_EF {
+        return true;
+    }
+    if i == TERMINATE_DF {
+        return true;
+    }
+    i == TERMINATE_CARD
+}
+
+pub fn is_known(i: u8) -> bool
+    ensures { λ r. ⌜ r ≡ isKnown i ⌝ }
+{
+    if i == SELECT_FILE {
+        return true;
+    }
+    if i == CREATE_FILE {
+        return true;
+    }
+    if i == DELETE_FILE {
+        return true;
+    }
+    if i == ACTIVATE_FILE {
+        return true;
+    }
+    if i == DEACTIVATE_FILE {
+        return true;
+    }
+    is_terminate(i)
+}
+
+fn wants_alone(i: u8) -> bool
+    ensures { λ r. ⌜ r ≡ wantsAlone i ⌝ }
+{
+    if i == CREATE_FILE {
+        return true;
+    }
+    if i == DELETE_FILE {
+        return true;
+    }
+    is_terminate(i)
+}
+
+fn other_channel(state: State) -> bool
+    ensures { λ r. ⌜ r ≡ otherChannel state ⌝ }
+{
+    state.channels / 2 % 8 != 0
+}
+
+// Whether another channel stands in the way (step E).
+pub fn is_crowded(i: u8, state: State) -> bool
+    ensures { λ r. ⌜ r ≡ crowded i state ⌝ }
+{
+    if !wants_alone(i) {
+        return false;
+    }
+    other_channel(state)
+}
+
+// P1 P2 as the instruction wants them.
+fn wanted_parameters(i: u8) -> u16
+    ensures { λ r. ⌜ r ≡ wantedParameters i ⌝ }
+{
+    if i == SELECT_FILE {
+        return 0x000C;
+    }
+    0x0000
+}
+
+pub fn fit_parameters(command: &[u8]) -> bool
+    requires { ⌜ 4 ≤ length (now command) ⌝ }
+    ensures { λ r. ⌜ r ≡ fitParameters (now (command .entry)) ⌝ }
+{
+    let i = command[1];
+    numbers::u16_at(command, 2) == wanted_parameters(i)
+}
+
+// Seven bytes with Lc 2: SELECT and DELETE.
+fn is_seven(command: &[u8]) -> bool
+    ensures { λ r. ⌜ r ≡ isSeven (now (command .entry)) ⌝ }
+{
+    if command.len() != 7 {
+        return false;
+    }
+    command[4] == 2
+}
+
+// 5 + Lc bytes with Lc at least 1: CREATE.
+fn has_data(command: &[u8]) -> bool
+    ensures { λ r. ⌜ r ≡ hasData (now (command .entry)) ⌝ }
+{
+    if command.len() < 6 {
+        return false;
+    }
+    command.len() == 5 + (numbers::wide(command[4]) as usize)
+}
+
+pub fn fit_length(command: &[u8]) -> bool
+    requires { ⌜ 4 ≤ length (now command) ⌝ }
+    ensures { λ r. ⌜ r ≡ fitLength (now (command .entry)) ⌝ }
+{
+    let i = command[1];
+    if i == CREATE_FILE {
+        return has_data(command);
+    }
+    if i == SELECT_FILE {
+        return is_seven(command);
+    }
+    if i == DELETE_FILE {
+        return is_seven(command);
+    }
+    command.len() == 4
+}
+
+pub fn on_other_channel(class: u8) -> bool
+    ensures { λ r. ⌜ r ≡ onOtherChannel class ⌝ }
+{
+    if class < 1 {
+        return false;
+    }
+    class <= 3
+}
+
+// The identifier that SELECT and DELETE send.
+pub fn sent_identifier(command: &[u8]) -> u16
+    requires { ⌜ 7 ≤ length (now command) ⌝ }
+    ensures { λ r. ⌜ r ≡ sentIdentifier (now (command .entry)) ⌝ }
+{
+    numbers::u16_at(command, 5)
+}
+
+// CREATE's data: a part of the command.
+pub fn sent_data(command: &[u8]) -> &[u8]
+    requires { ⌜ 5 ≤ length (now command) ⌝ }
+    ensures { λ r. ⌜ now r ≡ sentData (now (command .entry)) ⌝ }
+{
+    &command[5..]
+}

@@ -1,0 +1,200 @@
+-- The two theorems on CREATE's data: what a DF's and an EF's data, as the grammar writes them, are read as; and that no
+-- other data are taken.
+use mathlib.Core.Path.{_≡_, refl, sym, ap, subst, _∙_}
+use mathlib.Core.Bool.{Bool, true, false, cond, _||_}
+use mathlib.Core.List.{List, [], _∷_, _++_, append-nil}
+use mathlib.Core.Logic.{⊎-elim}
+use Prim.Native.Nat.{ℕ, _+_, _-_, _≤_}
+use native.Mathlib.Omega.{arith}
+use lib.ListN.{length, getD, drop, length-append}
+use lib.Dec.{eqb, lit<}
+use borrow.Author.Tests.{eq-eqb, ne-eqb, le-leb}
+use Rattle.rules.specs.Descriptor.{classOf, df, ef}
+use Rattle.rules.specs.Value.{goodLength}
+use Rattle.template.specs.declared.Objects.{Objects}
+use Rattle.create_data.specs.declared.Data.{Data}
+use Rattle.create_data.specs.declared.Data.the-variants.{Bad}
+use Rattle.template.specs.Objects.{valueIn, objectsOf}
+use Rattle.create_data.specs.Form.{t82, t83, t84, t8A, t8C, t80, t81, dfForm, efForm}
+use Rattle.template.specs.Values.{firstOf, pairOf, recordLengthOf, numberOf}
+use Rattle.create_data.specs.Data.{isTemplate, nameGood, bothGood, newFile, dfOf, sizedEf, efOf, fileOf, dataOf}
+use Rattle.create_data.specs.Grammar.{Optional, absent, sent, object, optional, template, valueOf, first, number}
+use Rattle.create_data.specs.Grammar.{Private, neither, in85, inA5, privately}
+use Rattle.create_data.specs.Grammar.{FileData, DfData, EfData, DfRead, EfRead, DataExactly, DataRead}
+use Rattle.create_data.proofs.Noting.{isAbsent, Noted, standing-noted}
+use Rattle.create_data.proofs.Order.{run, written-told, written-ends}
+use Rattle.create_data.proofs.Meaning.{and, each, first-is, pair-is, number-is, name-says, file-to, layout-to, layout-length}
+use Rattle.create_data.proofs.Forms.{value-is, lacks-is, df-form, ef-form}
+use Rattle.create_data.proofs.Taken.{taken}
+
+-- past a test
+on : (P : Data → Type 0) (b : Bool) (x y : Data) → b ≡ true → P x → P (cond b x y)
+on P b x y e h = rw e h
+
+off : (P : Data → Type 0) (b : Bool) (x y : Data) → b ≡ false → P y → P (cond b x y)
+off P b x y e h = rw e h
+
+-- 85 and A5 as two of the ten
+abbrev as85 : Private → Optional
+as85 neither = absent
+as85 (in85 v) = sent v
+as85 (inA5 v) = absent
+
+abbrev asA5 : Private → Optional
+asA5 neither = absent
+asA5 (in85 v) = absent
+asA5 (inA5 v) = sent v
+
+private-one : (p : Private) → (isAbsent (as85 p) || isAbsent (asA5 p)) ≡ true
+private-one neither = refl
+private-one (in85 v) = refl
+private-one (inA5 v) = refl
+
+private-bytes : (p : Private) → privately p ≡ optional 0x85 (as85 p) ++ (optional 0xA5 (asA5 p) ++ [])
+private-bytes neither = refl
+private-bytes (in85 v) = sym (append-nil (object 0x85 v))
+private-bytes (inA5 v) = sym (append-nil (object 0xA5 v))
+
+-- the ten, by their numbers
+abbrev ten : List Optional → ℕ → Optional
+ten xs k = getD xs k absent
+
+abbrev dfTen : {s : List ℕ} → DfData s → ℕ → Optional
+dfTen t =
+    ten (sent (t .descriptor) ∷ sent (t .identifier) ∷ t .name ∷ sent (t .life) ∷ sent (t .rule)
+    ∷ absent ∷ sent (t .total) ∷ sent (t .security) ∷ as85 (t .private) ∷ asA5 (t .private) ∷ [])
+
+abbrev efTen : {s : List ℕ} → EfData s → ℕ → Optional
+efTen t =
+    ten (sent (t .descriptor) ∷ sent (t .identifier) ∷ absent ∷ sent (t .life) ∷ sent (t .rule)
+    ∷ sent (t .size) ∷ absent ∷ absent ∷ as85 (t .private) ∷ asA5 (t .private) ∷ [])
+
+-- data that are ten such objects, some of them absent
+module _ (s : List ℕ) (x : ℕ → Optional) (w : s ≡ template (run 10 0 x)) (short : length s ≤ 2 + 0x7F) where
+  long : 2 ≤ length s
+  long = omega (arith, ap length w)
+
+  body : drop 2 s ≡ run 10 0 x
+  body = ap (λ (l : List ℕ). drop 2 l) w
+
+  is-template : isTemplate s ≡ true
+  unfolding isTemplate
+  is-template =
+      let os : List ℕ = run 10 0 x in
+      rw w
+      (and (le-leb 2 (length (template os)) (omega arith))
+      (and refl
+      (and (le-leb (length os) 0x7F (omega (arith, ap length w))) (eq-eqb (length (template os) - 2) (length os) (omega arith)))))
+
+  noted-as : Noted s x (objectsOf s)
+  noted-as k l = rw (written-told s short x long body k l) at (standing-noted s long k l)
+
+  -- the reader goes on to tell a DF from an EF
+  opened : (P : Data → Type 0) → let d : ℕ = firstOf (valueIn s (objectsOf s) t82) in
+      P (cond (eqb (classOf d) df) (dfOf s (objectsOf s)) (cond (eqb (classOf d) ef) (efOf s (objectsOf s) d) Bad)) → P (dataOf s)
+  unfolding dataOf fileOf
+  opened P h =
+      on P (isTemplate s) _ _ is-template
+      (on P (eqb (objectsOf s .next) (length s)) _ _ (eq-eqb _ _ (written-ends s short x long body)) h)
+
+  class-is : (v : List ℕ) (k : ℕ) → valueOf (x t82) ≡ v → classOf (first v) ≡ k → classOf (firstOf (valueIn s (objectsOf s) t82)) ≡ k
+  class-is v k e h = ap classOf (ap firstOf (value-is s x (objectsOf s) noted-as t82 (lit< tt) ∙ e) ∙ first-is v) ∙ h
+
+-- identifier, life cycle and rule are good, o being what was noted
+both-good : (s : List ℕ) (x : ℕ → Optional) (o : Objects) → Noted s x o
+    → FileData (valueOf (x t83)) (valueOf (x t8A)) (valueOf (x t8C)) → bothGood s o ≡ true
+unfolding bothGood
+both-good s x o g f =
+    let v = value-is s x o g in
+    rw (v t83 (lit< tt), v t8A (lit< tt), v t8C (lit< tt)) (file-to _ _ _ f)
+
+-- what is read of a DF's objects
+module _ (s : List ℕ) (t : DfData s) where
+  security-short : length (t .security) ≤ 0x7F
+  security-short = omega (arith, t .short, simp length-append at (ap length (t .written)))
+
+  df-read : (o : Objects) → Noted s (dfTen t) o → DfRead s t (dfOf s o)
+  unfolding dfOf newFile nameGood
+  df-read o g =
+      let P = DfRead s t in
+      let x = dfTen t in
+      let v = value-is s x o g in
+      let z : numberOf (valueIn s o t81) ≡ number (t .total) = ap numberOf (v t81 (lit< tt)) ∙ number-is (t .total) (t .total-long) in
+      on P (dfForm o) _ _
+      (df-form s x o g .1 (record {
+        descriptor = omega (arith, t .descriptor-long);
+        identifier = omega (arith, t .file .identifier-long);
+        life = omega (arith, t .file .life-long);
+        total = t .total-long;
+        security = (t .security-long, security-short);
+        private = private-one (t .private);
+        no-size = refl;
+      }))
+      (on P (nameGood s o) _ _ (rw (lacks-is s x o g t84 (lit< tt), v t84 (lit< tt)) (name-says (t .name) .1 (t .name-long)))
+      (on P (bothGood s o) _ _ (both-good s x o g (t .file))
+      (off P (eqb (numberOf (valueIn s o t81)) 0) _ _ (ne-eqb _ 0 (λ y. t .total-some (sym z ∙ y))) (
+        ap firstOf (v t82 (lit< tt)) ∙ first-is (t .descriptor),
+        ap pairOf (v t83 (lit< tt)) ∙ pair-is (t .identifier) (t .file .identifier-long),
+        ap firstOf (v t8A (lit< tt)) ∙ first-is (t .life),
+        v t84 (lit< tt),
+        v t8C (lit< tt),
+        z,
+      ))))
+
+-- and of an EF's
+module _ (s : List ℕ) (t : EfData s) where
+  ef-read : (o : Objects) → Noted s (efTen t) o → EfRead s t (efOf s o (firstOf (valueIn s o t82)))
+  unfolding efOf sizedEf newFile
+  ef-read o g =
+      let P = EfRead s t in
+      let x = efTen t in
+      let v = value-is s x o g in
+      let d : ℕ = firstOf (valueIn s o t82) in
+      let z : numberOf (valueIn s o t80) ≡ number (t .size) = ap numberOf (v t80 (lit< tt)) ∙ number-is (t .size) (t .size-long) in
+      let l = each (layout-to (t .descriptor) (number (t .size)) (t .layout)) in
+      on P (efForm o d) _ _
+      (ef-form s x o g .1 (record {
+        descriptor = l .0;
+        identifier = omega (arith, t .file .identifier-long);
+        life = omega (arith, t .file .life-long);
+        size = t .size-long;
+        private = private-one (t .private);
+        no-name = refl;
+        no-total = refl;
+        no-security = refl;
+      }))
+      (on P (bothGood s o) _ _ (both-good s x o g (t .file))
+      (off P (eqb (numberOf (valueIn s o t80)) 0) _ _ (ne-eqb _ 0 (λ y. t .size-some (sym z ∙ y)))
+      (on P (goodLength d (recordLengthOf (valueIn s o t82)) (numberOf (valueIn s o t80))) _ _ (rw (v t82 (lit< tt), z) (l .1)) (
+        ap firstOf (v t82 (lit< tt)) ∙ first-is (t .descriptor),
+        ap pairOf (v t83 (lit< tt)) ∙ pair-is (t .identifier) (t .file .identifier-long),
+        ap firstOf (v t8A (lit< tt)) ∙ first-is (t .life),
+        ap recordLengthOf (v t82 (lit< tt)) ∙ layout-length (t .descriptor) (number (t .size)) (t .layout),
+        v t8C (lit< tt),
+        z,
+      ))))
+
+pub data-read : DataRead
+data-read s = (of-df, of-ef)
+  where
+    of-df : (t : DfData s) → DfRead s t (dataOf s)
+    of-df t =
+        let x = dfTen t in
+        let w : s ≡ template (run 10 0 x) = rw (private-bytes (t .private)) at (t .written) in
+        let k : classOf (firstOf (valueIn s (objectsOf s) t82)) ≡ df = class-is s x w (t .short) (t .descriptor) df refl (t .class) in
+        opened s x w (t .short) (DfRead s t)
+        (on (DfRead s t) (eqb (classOf (firstOf (valueIn s (objectsOf s) t82))) df) _ _ (rw k)
+        (df-read s t (objectsOf s) (noted-as s x w (t .short))))
+
+    of-ef : (t : EfData s) → EfRead s t (dataOf s)
+    of-ef t =
+        let x = efTen t in
+        let w : s ≡ template (run 10 0 x) = rw (private-bytes (t .private)) at (t .written) in
+        let k : classOf (firstOf (valueIn s (objectsOf s) t82)) ≡ ef = class-is s x w (t .short) (t .descriptor) ef refl (t .class) in
+        opened s x w (t .short) (EfRead s t)
+        (off (EfRead s t) (eqb (classOf (firstOf (valueIn s (objectsOf s) t82))) df) _ _ (rw k)
+        (on (EfRead s t) (eqb (classOf (firstOf (valueIn s (objectsOf s) t82))) ef) _ _ (rw k)
+        (ef-read s t (objectsOf s) (noted-as s x w (t .short)))))
+
+pub data-exactly : DataExactly
+data-exactly s = (taken s, ⊎-elim (λ t e. subst (DfRead s t) e (data-read s .0 t)) (λ t e. subst (EfRead s t) e (data-read s .1 t)))

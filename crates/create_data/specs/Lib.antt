@@ -1,0 +1,5 @@
+pub mod Form
+pub mod Data
+pub mod Good
+pub mod Grammar
+pub mod Lines

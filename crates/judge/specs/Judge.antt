@@ -1,0 +1,41 @@
+-- The order in which a command is judged (01): the shared steps A to G, then the command's own.
+use Prim.Native.Nat.{ℕ}
+use mathlib.Core.Bool.{cond}
+use mathlib.Core.List.{List}
+use lib.Dec.{eqb}
+use Rattle.rules.specs.declared.Sets.{Sets}
+use Rattle.image.specs.Layout.{countOf, currentDfOf, currentEfOf}
+use Rattle.verdict.specs.declared.State.{State}
+use Rattle.verdict.specs.declared.Verdict.{Verdict}
+use Rattle.verdict.specs.Applied.{sentData}
+use Rattle.judge_target.specs.Steps.{Plan, judged, followed}
+use Rattle.apdu.specs.Apdu.{instruction, sentIdentifier, selectFile, createFile, deleteFile, activateFile, deactivateFile, terminateEf}
+use Rattle.apdu.specs.Apdu.{terminateDf}
+use Rattle.judge.specs.Shared.{sharedSteps}
+use Rattle.judge_target.specs.Target.{currentFile}
+use Rattle.judge_create.specs.Creation.{create}
+use Rattle.judge_commands.specs.Commands.{select, delete, activate, deactivate, terminateTheEf, terminateTheDf, terminateTheCard}
+
+-- the plan of a life-cycle command i: the current EF, else the current DF; the current EF; the current DF d; the root
+unfoldable pub lifePlan : List ℕ → ℕ → ℕ → Sets → Plan
+lifePlan img d i x =
+    cond (eqb i activateFile) (activate img (currentFile img) x)
+    (cond (eqb i deactivateFile) (deactivate img (currentFile img) x)
+    (cond (eqb i terminateEf) (terminateTheEf img (currentEfOf img) x)
+    (cond (eqb i terminateDf) (terminateTheDf img d x)
+    (terminateTheCard img x))))
+
+-- the command's own plan, by its instruction: n is the slot count, d the current DF
+unfoldable pub planFor : List ℕ → ℕ → ℕ → List ℕ → State → Plan
+planFor img n d c st =
+    cond (eqb (instruction c) selectFile) (select img n d (sentIdentifier c))
+    (cond (eqb (instruction c) createFile) (create img n d (sentData c) (st .sets))
+    (cond (eqb (instruction c) deleteFile) (delete img n d (sentIdentifier c) (st .sets))
+    (lifePlan img d (instruction c) (st .sets))))
+
+unfoldable pub judgeFor : List ℕ → ℕ → ℕ → List ℕ → State → Verdict
+judgeFor img n d c st = judged (sharedSteps img c st) (followed (planFor img n d c st))
+
+-- the verdict on command c, for an image and what the caller hands over
+unfoldable pub judgeOf : List ℕ → List ℕ → State → Verdict
+judgeOf img c st = judgeFor img (countOf img) (currentDfOf img) c st

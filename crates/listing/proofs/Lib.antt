@@ -1,4 +1,0 @@
-pub mod Marks
-pub mod Found
-pub mod Walking
-pub mod Told

@@ -1,8 +1,0 @@
-// What the bytes of an image must satisfy place by place, before any record looks at another: the header, and
-// each record by itself (01 "Image"). It may use laws, numbers, rules, image and sound.
-//
-// It is the larger part of the test that every command makes of the whole image, so each test is in the shape
-// that runs fast.
-pub mod blank;
-pub mod header;
-pub mod own;

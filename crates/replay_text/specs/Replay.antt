@@ -1,0 +1,74 @@
+-- The text of a stream (01 "Replay"): `UFS`, version 1, N, total, then commands each after a 16-bit length; root rule 7F
+-- and seven 00; sets full, no other channel.
+use Prim.Native.Nat.{ℕ, zero, suc, _+_, _*_}
+use mathlib.Core.Bool.{Bool, cond, _&&_, _||_}
+use mathlib.Core.List.{List, [], _∷_, _++_}
+use lib.Dec.{eqb, ltb, leb}
+use lib.ListN.{length, getD, replicate}
+use Rattle.laws.specs.Lists.{part}
+use Rattle.numbers.specs.Numbers.{u16At, u32At}
+use Rattle.verdict.specs.declared.State.{State}
+use Rattle.maker.specs.Making.{madeOf, madeNumber, leftBy}
+use Rattle.card.specs.Command.{replyOf, imageOf, answerWord}
+use Rattle.text.specs.Written.{big}
+use Rattle.replay_text.specs.Text.{lineOf, bad, cut}
+
+-- sets full, no other channel
+abbrev pub full : State
+full = record {
+  sets = record { messaging = 0xFFFF; external = 0xFFFF; user = 0xFFFF };
+  channels = 0;
+}
+
+-- the root's rule
+abbrev pub rootRule : List ℕ
+rootRule = 0x7F ∷ 0 ∷ 0 ∷ 0 ∷ 0 ∷ 0 ∷ 0 ∷ 0 ∷ []
+
+-- the command whose length stands at `at`, and where the next begins
+abbrev pub sentAt : List ℕ → ℕ → List ℕ
+sentAt s at = part s (at + 2) (u16At s at)
+
+abbrev pub endOf : List ℕ → ℕ → ℕ
+endOf s at = at + 2 + u16At s at
+
+-- the length, or the command after it, is cut short
+unfoldable pub cutShort : List ℕ → ℕ → Bool
+cutShort s at = ltb (length s) (at + 2) || ltb (length s) (endOf s at)
+
+-- what that command gives on an image: its word, and the image afterwards
+unfoldable pub wordAt : List ℕ → ℕ → List ℕ → ℕ
+wordAt s at img = answerWord (replyOf img (sentAt s at) full)
+
+unfoldable pub imageAt : List ℕ → ℕ → List ℕ → List ℕ
+imageAt s at img = imageOf img (sentAt s at) full
+
+-- the lines from `at` on, of commands on one image in turn. A command has two bytes at least, its length, so that as many
+-- turns as the stream has bytes are enough
+unfoldable pub runOf : ℕ → List ℕ → ℕ → List ℕ → List ℕ
+runOf zero s at img = []
+runOf (suc turns) s at img =
+    cond (ltb at (length s))
+    (cond (cutShort s at)
+    cut
+    (lineOf (wordAt s at img) ++ runOf turns s (endOf s at) (imageAt s at img)))
+    []
+
+-- all eleven bytes of a header: the mark, version 1
+unfoldable pub goodHeader : List ℕ → Bool
+goodHeader s =
+    leb 11 (length s)
+    && (eqb (getD s 0 0) 0x55 && (eqb (getD s 1 0) 0x46 && (eqb (getD s 2 0) 0x53 && eqb (u16At s 3) 1)))
+
+-- a fresh card made in the buffer img, and the commands on it; or the maker refuses
+unfoldable pub performOf : List ℕ → List ℕ → List ℕ
+performOf s img =
+    cond (eqb (madeNumber (madeOf img (u32At s 7) rootRule)) 0)
+    (runOf (length s) s 11 (leftBy (madeOf img (u32At s 7) rootRule) img (u32At s 7) rootRule))
+    bad
+
+-- over 32,768 bytes; a bad header; a card of N slots
+unfoldable pub replayOf : List ℕ → List ℕ
+replayOf s =
+    cond (ltb 32768 (length s))
+    big
+    (cond (goodHeader s) (performOf s (replicate (16 + 64 * u16At s 5) 0)) bad)

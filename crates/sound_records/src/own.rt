@@ -1,0 +1,155 @@
+// Each record by itself, as a slice of 64 bytes: all zero, or kind, descriptor, life cycle, identifier, size,
+// record length, name, rule and zero bytes as they must be (01 "Image"). The two tables are made once for all
+// records, and lent.
+ghost use mathlib.Core.Path.{_≡_};
+ghost use mathlib.Core.Bool.{_&&_};
+ghost use lib.Dec.{leb};
+ghost use lib.ListN.{length};
+ghost use Rattle.rules.specs.Descriptor.{Classes};
+ghost use Rattle.rules.specs.Group.{Lengths};
+ghost use Rattle.rules.specs.Value.{wholeRecords};
+ghost use Rattle.image.specs.Layout.{Sized, Within, recAt, recordLengthOf, sizeOf};
+ghost use Rattle.sound.specs.Own.{zerosb, classedb, measuredb, nameb, ruledb, usedb, ownb};
+ghost use Rattle.sound.specs.Sound.{recordsb};
+use crate::blank;
+
+// Kind, descriptor, life cycle, zero byte, identifier.
+fn classed(r: &[u8], classes: &[u8; 256]) -> bool
+    requires { ⌜ length (now r) ≡ 64 ⌝ }
+    requires { ⌜ Classes (now classes) ⌝ }
+    ensures { λ b. ⌜ b ≡ classedb (now (r .entry)) ⌝ }
+{
+    let d = numbers::wide(r[1]) as usize;
+    if classes[d] != r[0] {
+        return false;
+    }
+    if !rules::life_cycle::is_known(r[2]) {
+        return false;
+    }
+    if r[3] != 0 {
+        return false;
+    }
+    rules::value::good_identifier(numbers::u16_at(r, 4))
+}
+
+// Size and record length of a file with records.
+fn recorded(r: &[u8]) -> bool
+    requires { ⌜ length (now r) ≡ 64 ⌝ }
+    ensures { λ b. ⌜ b ≡ (leb 1 (sizeOf (now (r .entry))) && wholeRecords (recordLengthOf (now (r .entry))) (sizeOf (now (r .entry)))) ⌝ }
+{
+    let size = numbers::u32_at(r, 12);
+    if size < 1 {
+        return false;
+    }
+    rules::value::whole_records(numbers::u16_at(r, 10), size)
+}
+
+// Size and record length. Where there are no records both are only compared with zero.
+fn measured(r: &[u8]) -> bool
+    requires { ⌜ length (now r) ≡ 64 ⌝ }
+    ensures { λ b. ⌜ b ≡ measuredb (now (r .entry)) ⌝ }
+{
+    if rules::descriptor::has_records(r[1]) {
+        return recorded(r);
+    }
+    if numbers::u16_at(r, 10) != 0 {
+        return false;
+    }
+    numbers::u32_at(r, 12) != 0
+}
+
+// The name; an EF has none.
+fn name_fits(r: &[u8]) -> bool
+    requires { ⌜ length (now r) ≡ 64 ⌝ }
+    ensures { λ b. ⌜ b ≡ nameb (now (r .entry)) ⌝ }
+{
+    if blank::name(r) {
+        return true;
+    }
+    let n = numbers::wide(r[16]) as usize;
+    if n > 16 {
+        return false;
+    }
+    if r[0] == 2 {
+        return false;
+    }
+    blank::after_name(r, n)
+}
+
+// The rule, and zeros after it to the end.
+fn ruled(r: &[u8], lengths: &[u8; 256]) -> bool
+    requires { ⌜ length (now r) ≡ 64 ⌝ }
+    requires { ⌜ Lengths (now lengths) ⌝ }
+    ensures { λ b. ⌜ b ≡ (ruledb (now (r .entry)) && zerosb (now (r .entry)) 50 14) ⌝ }
+{
+    let n = numbers::wide(r[33]) as usize;
+    if n < 1 {
+        return false;
+    }
+    if n > 16 {
+        return false;
+    }
+    if !blank::after_rule(r, n) {
+        return false;
+    }
+    let to = 34 + n;
+    rules::rule::fits_by(&r[34..to], lengths)
+}
+
+// Whether a used record is good by itself.
+fn used(r: &[u8], classes: &[u8; 256], lengths: &[u8; 256]) -> bool
+    requires { ⌜ length (now r) ≡ 64 ⌝ }
+    requires { ⌜ Classes (now classes) × Lengths (now lengths) ⌝ }
+    ensures { λ b. ⌜ b ≡ usedb (now (r .entry)) ⌝ }
+{
+    if !classed(r, classes) {
+        return false;
+    }
+    if !measured(r) {
+        return false;
+    }
+    if !name_fits(r) {
+        return false;
+    }
+    ruled(r, lengths)
+}
+
+// Whether 64 bytes are a free record, or a used one that is good by itself.
+fn good(r: &[u8], classes: &[u8; 256], lengths: &[u8; 256]) -> bool
+    requires { ⌜ length (now r) ≡ 64 ⌝ }
+    requires { ⌜ Classes (now classes) × Lengths (now lengths) ⌝ }
+    ensures { λ b. ⌜ b ≡ ownb (now (r .entry)) ⌝ }
+{
+    if r[0] == 0 {
+        return blank::record(r);
+    }
+    used(r, classes, lengths)
+}
+
+// Whether the record in slot s is.
+fn good_at(image: &[u8], s: usize, classes: &[u8; 256], lengths: &[u8; 256]) -> bool
+    requires { ⌜ Within (now image) s ⌝ }
+    requires { ⌜ Classes (now classes) × Lengths (now lengths) ⌝ }
+    ensures { λ b. ⌜ b ≡ ownb (recAt (now (image .entry)) s) ⌝ }
+{
+    let from = 16 + 64 * s;
+    let to = from + 64;
+    good(&image[from..to], classes, lengths)
+}
+
+// Whether each record is good by itself.
+pub fn records(image: &[u8], n: usize) -> bool
+    requires { ⌜ Sized (now image) n ⌝ }
+    ensures { λ b. ⌜ b ≡ recordsb (now (image .entry)) n ⌝ }
+{
+    let classes = rules::descriptor::classes();
+    let lengths = rules::group::lengths();
+    let mut s = 0;
+    while s < n {
+        if !good_at(image, s, &classes, &lengths) {
+            return false;
+        }
+        s += 1;
+    }
+    true
+}
