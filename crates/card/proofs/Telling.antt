@@ -55,7 +55,7 @@ use Rattle.judge_target.specs.Target.{creating, selected}
 use Rattle.judge_create.specs.Creation.{admission, create}
 use Rattle.judge_commands.specs.Commands.{selecting, select, delete, activate, deactivate, terminateTheEf, terminateTheDf, terminateTheCard}
 use Rattle.judge.specs.Judge.{lifePlan, planFor, judgeFor, judgeOf}
-use Rattle.judge_target.proofs.Readied.{ready, selected-by, selected-stands}
+use Rattle.judge_target.proofs.FromSound.{judgeable, selected-by, selected-stands}
 use Rattle.judge.proofs.Plans.{current-stands, create-long}
 use Rattle.card.proofs.Steps.{cond-by, judged-by, followed-by, chosen-by, anyWord}
 use Rattle.card.proofs.Tells.{Tells}
@@ -146,7 +146,7 @@ module _ (img c : List ℕ) (sound : Sound img) where
           → Tells img c (selecting img (currentDfOf img) (slotIn (selected img (countOf img) (currentDfOf img) x)))
       found e =
           let s : ℕ = slotIn (selected img (countOf img) (currentDfOf img) x) in
-          let h = selected-stands img (countOf img) (currentDfOf img) x s (ready img sound) e in
+          let h = selected-stands img (countOf img) (currentDfOf img) x s (judgeable img sound) e in
           cond-by (Tells img c) (eqb (viewAt img s .kind) df) _ _
           (λ q. record {
             df-low = h .low;
@@ -273,7 +273,7 @@ module _ (img c : List ℕ) (sound : Sound img) where
   known-12 = refl
 
   current-file : Stands img (countOf img) (currentFile img)
-  current-file = current-stands img (countOf img) (currentDfOf img) (currentFile img) (ready img sound) refl refl
+  current-file = current-stands img (countOf img) (currentDfOf img) (currentFile img) (judgeable img sound) refl refl
 
   life-tells : (i : ℕ) (sets : Sets) → Tells img c (followed (lifePlan img (currentDfOf img) i sets))
   unfolding lifePlan
@@ -284,10 +284,10 @@ module _ (img c : List ℕ) (sound : Sound img) where
       (λ e. followed-by (Tells img c) anyWord refused _ refl (λ a. (current-file, known-4)))
       (λ z. chosen-by (λ (p : Plan). Tells img c (followed p)) i _ _ _
       (λ e. followed-by (Tells img c) anyWord refused _ refl
-      (λ a. (ready img sound .ef (λ e. not-says _ .0 (and-says _ _ .0 a .0) (eq-eqb _ _ e)), known-12)))
+      (λ a. (judgeable img sound .ef (λ e. not-says _ .0 (and-says _ _ .0 a .0) (eq-eqb _ _ e)), known-12)))
       (λ z. chosen-by (λ (p : Plan). Tells img c (followed p)) i _ _ _
-      (λ e. followed-by (Tells img c) anyWord refused _ refl (λ a. (ready img sound .df, known-12)))
-      (λ z. followed-by (Tells img c) anyWord refused _ refl (λ a. (ready img sound .root, known-12))))))
+      (λ e. followed-by (Tells img c) anyWord refused _ refl (λ a. (judgeable img sound .df, known-12)))
+      (λ z. followed-by (Tells img c) anyWord refused _ refl (λ a. (judgeable img sound .root, known-12))))))
 
   plan-tells : fitLength c ≡ true → (st : State) → Tells img c (followed (planFor img (countOf img) (currentDfOf img) c st))
   unfolding planFor

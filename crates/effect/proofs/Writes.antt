@@ -14,7 +14,7 @@ use Rattle.sound.specs.Kinship.{atOrBeneath}
 use Rattle.sound.specs.Effects.{created, clearBelow, deleted}
 use Rattle.sound.proofs.Cleared.{clear-cong}
 use Rattle.subtree.specs.Known.{Settled}
-use Rattle.subtree.proofs.Marks.{told-marked}
+use Rattle.subtree.proofs.Marks.{chosen-beneath}
 
 module _ (img x y : List ℕ) (s : ℕ) (h : Head) (name rule : List ℕ) (e : x ≡ putRecord img s (recordBytes h name rule)) where
   pub created-df : h .kind ≡ 1 → y ≡ setCurrent x s 0xFFFF → y ≡ created img s h name rule
@@ -26,18 +26,18 @@ module _ (img x y : List ℕ) (s : ℕ) (h : Head) (name rule : List ℕ) (e : x
   created-ef d i f g = rw (ne-eqb (h .kind) 1 f, ← e, ← i) g
 
 -- DELETE: the slots below n that are marked; df, old and ef are the current DF, and the current EF before and after
-pub deleted-marked : (img x y marks : List ℕ) (n d df old ef : ℕ) → n ≡ countOf img → df ≡ currentDfOf img → old ≡ currentEfOf img
+pub deleted-chosen : (img x y marks : List ℕ) (n d df old ef : ℕ) → n ≡ countOf img → df ≡ currentDfOf img → old ≡ currentEfOf img
     → ef ≡ cond (eqb old d) none old → Settled (viewAt img) n d n marks
     → x ≡ clearBelow n (λ k. eqb (getD marks k 0) 1) img → y ≡ setCurrent x df ef → y ≡ deleted img d
 unfolding deleted
-deleted-marked img x y marks n d df old ef e f g h m i k =
+deleted-chosen img x y marks n d df old ef e f g h m i k =
     rw (
       ← e,
       ← f,
       ← g,
       ← h,
       ← clear-cong n (λ k. eqb (getD marks k 0) 1) (atOrBeneath (viewAt img) d) img
-          (λ s l. told-marked (viewAt img) n d s marks m l),
+          (λ s l. chosen-beneath (viewAt img) n d s marks m l),
       ← i,
     )
     k

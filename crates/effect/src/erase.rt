@@ -12,18 +12,18 @@ ghost use Rattle.kinship.specs.Climb.{Rooted};
 use image::fields;
 use image::write;
 
-// Makes the record in slot s a free one, if it is marked.
-fn clear_if(image: &mut [u8], s: usize, marked: bool)
+// Makes the record in slot s a free one, if it goes.
+fn clear_if(image: &mut [u8], s: usize, goes: bool)
     requires { ⌜ Within (now image) s ⌝ }
-    ensures { λ _. ⌜ now (image .exit) ≡ clearIf marked (now (image .entry)) s ⌝ }
+    ensures { λ _. ⌜ now (image .exit) ≡ clearIf goes (now (image .entry)) s ⌝ }
 {
-    if marked {
+    if goes {
         write::clear_record(image, s);
     }
 }
 
 // Each record below n that is marked with 1 becomes a free one.
-fn clear_marked(image: &mut [u8], n: usize, marks: &[u8; 1023])
+fn clear_chosen(image: &mut [u8], n: usize, marks: &[u8; 1023])
     requires { ⌜ Sized (now image) n ⌝ }
     ensures { λ _. ⌜ now (image .exit) ≡ clearBelow n (λ k. eqb (getD (now (marks .entry)) k 0) 1) (now (image .entry)) ⌝ }
 {
@@ -55,6 +55,6 @@ pub fn erase(image: &mut [u8], n: usize, d: usize)
     let ef = ef_left(fields::current_ef(image), d);
     let mut marks = [0u8; 1023];
     subtree::settle_all(&mut marks, image, n, d);
-    clear_marked(image, n, &marks);
+    clear_chosen(image, n, &marks);
     write::set_current(image, df as u16, ef);
 }

@@ -16,7 +16,7 @@ use Rattle.sound.specs.Table.{View, viewAt, viewOf}
 use Rattle.sound.specs.Sound.{Sound}
 use Rattle.sound.specs.Kinship.{atOrBeneath, freeSlot}
 use Rattle.sound.specs.Effects.{Creates}
-use Rattle.sound.proofs.Good.{viewMade, view-made, view-free}
+use Rattle.sound.proofs.NewRecords.{viewMade, view-made, view-free}
 use Rattle.sound.proofs.Kept.{gone}
 use Rattle.sound.proofs.Lived.{view-lived}
 use Rattle.sound.proofs.Created.{class-low}

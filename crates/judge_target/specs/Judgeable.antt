@@ -1,4 +1,4 @@
--- What judging needs of an image; a sound image gives it (proofs/Readied, `ready`).
+-- What judging needs of an image; a sound image gives it (proofs/FromSound, `judgeable`).
 use mathlib.Core.Path.{_≡_}
 use mathlib.Core.List.{List}
 use Prim.Native.Nat.{ℕ, _<_, _≤_}

@@ -26,7 +26,7 @@ use Rattle.sound.specs.Effects.{Creates, created}
 use Rattle.sound.proofs.Climbing.{upward-says}
 use Rattle.sound.proofs.Added.{Fits, kin-added}
 use Rattle.sound.proofs.Front.{sound-set, sound-within}
-use Rattle.sound.proofs.Good.{viewMade, view-made, own-made}
+use Rattle.sound.proofs.NewRecords.{viewMade, view-made, own-made}
 
 -- what the tests of CREATE say
 pub identifier-says : (n : ℕ) (v : ℕ → View) (d x : ℕ) → (identifierFree n v d x ≡ true)

@@ -19,7 +19,7 @@ use Rattle.sound.specs.Effects.{Deletes, clearBelow, deleted}
 use Rattle.sound.proofs.Says.{AtOrBeneath, beneath-says}
 use Rattle.sound.proofs.Climbing.{up-none, up-shift}
 use Rattle.sound.proofs.Kept.{gone, kin-kept}
-use Rattle.sound.proofs.Good.{view-free, own-free}
+use Rattle.sound.proofs.NewRecords.{view-free, own-free}
 use Rattle.sound.proofs.Front.{sound-set, sound-sized}
 use Rattle.sound.proofs.Cleared.{header-clear, record-clear}
 

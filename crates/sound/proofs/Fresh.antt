@@ -27,7 +27,7 @@ use Rattle.sound.specs.Sound.{Header, Sound}
 use Rattle.sound.specs.Effects.{GoodRecord, rootHead, freshHeader, fresh}
 use Rattle.sound.proofs.Kept.{gone}
 use Rattle.sound.proofs.Charges.{charge-free, charge-stranger}
-use Rattle.sound.proofs.Good.{viewMade, view-made, own-made, view-free, own-free}
+use Rattle.sound.proofs.NewRecords.{viewMade, view-made, own-made, view-free, own-free}
 use Rattle.sound.specs.Theorems.{SoundFresh}
 
 -- a table whose only file is the root

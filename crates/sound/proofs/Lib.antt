@@ -5,7 +5,7 @@ pub mod Kept
 pub mod Added
 pub mod FullTable
 pub mod Front
-pub mod Good
+pub mod NewRecords
 pub mod Created
 pub mod Cleared
 pub mod Deleted

@@ -125,8 +125,8 @@ module _ (v : ℕ → View) (n d s : ℕ) (marks : List ℕ) (h : Settled v n d 
   unfolding beneath
   told-yes z r e = and-on (atOrBeneath v d s) (not (eqb s d)) (mark-yes (atOrBeneath v d s) (sym told ∙ z)) e
 
-  pub told-marked : eqb (getD marks s 0) 1 ≡ atOrBeneath v d s
-  told-marked = ap (λ (m : ℕ). eqb m 1) told ∙ same (atOrBeneath v d s)
+  pub chosen-beneath : eqb (getD marks s 0) 1 ≡ atOrBeneath v d s
+  chosen-beneath = ap (λ (m : ℕ). eqb m 1) told ∙ same (atOrBeneath v d s)
     where
       same : (b : Bool) → eqb (markOf b) 1 ≡ b
       same true = refl

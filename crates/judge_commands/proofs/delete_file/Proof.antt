@@ -2,7 +2,7 @@
 use mathlib.Core.Path.{sym, _∙_}
 use Rattle.judge_commands.specs.Commands.{deleting}
 use Rattle.judge_target.proofs.Finding.{found-use, found-none}
-use Rattle.judge_target.proofs.Readied.{child-stands}
+use Rattle.judge_target.proofs.FromSound.{child-stands}
 use Rattle.judge_target.specs.Steps.{followed}
 use borrow.Author.Needs.{needs}
 use Rattle.judge_commands.proofs.delete_file.Statement.{statement}

@@ -2,7 +2,7 @@
 use mathlib.Core.Path.{sym, _∙_}
 use Rattle.judge_commands.specs.Commands.{selecting}
 use Rattle.judge_target.proofs.Finding.{found-use, found-none}
-use Rattle.judge_target.proofs.Readied.{selected-stands}
+use Rattle.judge_target.proofs.FromSound.{selected-stands}
 use Rattle.judge_target.specs.Steps.{followed}
 use borrow.Author.Needs.{needs}
 use Rattle.judge_commands.proofs.select_file.Statement.{statement}

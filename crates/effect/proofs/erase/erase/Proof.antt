@@ -1,6 +1,6 @@
 -- `erase::erase`: marked on the image as it came, cleared, then what is current.
 use Rattle.subtree.proofs.Marks.{settled-none}
-use Rattle.effect.proofs.Writes.{deleted-marked}
+use Rattle.effect.proofs.Writes.{deleted-chosen}
 use borrow.Author.Needs.{needs}
 use Rattle.effect.proofs.erase.erase.Statement.{statement}
 use Rattle.effect.proofs.erase.erase.Tie as tie
@@ -17,8 +17,8 @@ ef-left-requires c κs = search needs
 settle-all-requires : tie.Need-settle-all-requires
 settle-all-requires c κs = (search needs, (search needs, search settled-none))
 
-clear-marked-requires : tie.Need-clear-marked-requires
-clear-marked-requires c κs = search needs
+clear-chosen-requires : tie.Need-clear-chosen-requires
+clear-chosen-requires c κs = search needs
 
 cast-set-current : tie.Need-cast-set-current
 cast-set-current c = search needs
@@ -30,7 +30,7 @@ same-length : tie.Need-same-length
 same-length c = search needs
 
 returns : tie.Need-returns
-returns c = search deleted-marked
+returns c = search deleted-chosen
 
 pub erase-spec : {M : Type 1} → statement M
 erase-spec =
@@ -40,7 +40,7 @@ erase-spec =
     current-ef-requires
     ef-left-requires
     settle-all-requires
-    clear-marked-requires
+    clear-chosen-requires
     cast-set-current
     set-current-requires
     same-length

@@ -1,7 +1,7 @@
 -- `order::judge`: with the slot count and the current DF that the image gives.
 use mathlib.Core.Path.{sym, _∙_}
 use Rattle.judge.specs.Judge.{judgeOf}
-use Rattle.judge_target.proofs.Readied.{ready}
+use Rattle.judge_target.proofs.FromSound.{judgeable}
 use borrow.Author.Needs.{needs}
 use Rattle.judge.proofs.order.judge.Statement.{statement}
 use Rattle.judge.proofs.order.judge.Tie as tie
@@ -14,7 +14,7 @@ current-df-requires c κs = search needs
 
 judge-for-requires : tie.Need-judge-for-requires
 judge-for-requires c κs = (
-  rw (c .before .count .ensures .0, c .current-df .ensures .0) (ready _ (c .before .before .before .before .pre)),
+  rw (c .before .count .ensures .0, c .current-df .ensures .0) (judgeable _ (c .before .before .before .before .pre)),
   c .current-df .ensures .0,
 )
 

@@ -1,4 +1,4 @@
--- `erase::clear_marked`: the invariant is that the marked records below s are cleared, and no other.
+-- `erase::clear_chosen`: the invariant is that the marked records below s are cleared, and no other.
 use Prim.Native.Nat.{_-_, _≤_}
 use mathlib.Core.Path.{_≡_, sym}
 use native.Mathlib.Omega.{arith}
@@ -7,8 +7,8 @@ use lib.ListN.{length, getD}
 use borrow.Author.Needs.{needs}
 use Rattle.sound.specs.Effects.{clearBelow}
 use Rattle.sound.proofs.Cleared.{clear-none, clear-turn}
-use Rattle.effect.proofs.erase.clear_marked.Statement.{statement}
-use Rattle.effect.proofs.erase.clear_marked.Tie as tie
+use Rattle.effect.proofs.erase.clear_chosen.Statement.{statement}
+use Rattle.effect.proofs.erase.clear_chosen.Tie as tie
 
 abbrev Inv-loop : tie.InvT-loop
 Inv-loop image₀ n marks s₀ image s =
@@ -47,8 +47,8 @@ returns c =
     let e : c .before .loop .s ≡ c .before .before .before .args .n = omega arith in
     cc
 
-pub clear-marked-spec : {M : Type 1} → statement M
-clear-marked-spec =
+pub clear-chosen-spec : {M : Type 1} → statement M
+clear-chosen-spec =
     tie.close
     (tie.spec
     Inv-loop

@@ -31,8 +31,8 @@ module _ (img : List ℕ) (sound : Sound img) where
   stands : (s : ℕ) (k : ℕ) → s < countOf img → viewAt img s .kind ≡ k → (k ≡ 0 → ⊥) → Stands img (countOf img) s
   stands s k l e z = record { low = l; used = λ q. z (sym e ∙ q) }
 
-  pub ready : Judgeable img (countOf img) (currentDfOf img)
-  ready =
+  pub judgeable : Judgeable img (countOf img) (currentDfOf img)
+  judgeable =
       let n : ℕ = countOf img in
       let d = sound .current in
       let root = rooted img sound in
