@@ -86,7 +86,8 @@ uint32_t hull_make(uint8_t *image, size_t image_length, uint32_t total, const ui
  *   6E00  any other CLA but 00
  *   6D00  an INS that is not built
  *   6B00  P1 P2 not 00 00 (SELECT: not 00 0C)
- *   6A80  CREATE: wrong data
+ *   6A80  CREATE: wrong data. The life cycle in object 8A may be 01 (creation), 03 (initialisation), 04 or 06 (deactivated),
+ *         05 or 07 (activated) and is kept as given; ACTIVATE writes 05, DEACTIVATE 04, TERMINATE 0C
  *   6A82  no such file
  *   6986  TERMINATE EF while no EF is current
  *   6982  the file's rule does not allow the command with these sets

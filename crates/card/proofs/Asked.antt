@@ -11,7 +11,7 @@ use Rattle.laws.proofs.Says.{says, and-says, or-says, eq-says, le-says, not-say
 use Rattle.numbers.specs.Numbers.{u16At}
 use Rattle.rules.specs.declared.Sets.{Sets}
 use Rattle.rules.specs.declared.Right.the-variants.{DeleteSelf, DeleteChild}
-use Rattle.rules.specs.Life.{lifeOf, terminated, isTerminated, deactivated, isDeactivated, creation, initialisation, canActivate}
+use Rattle.rules.specs.Life.{lifeOf, terminated, isTerminated, deactivated, isDeactivated}
 use Rattle.image.specs.Layout.{lifeCycleOf, recAt, countOf}
 use Rattle.sound.specs.Table.{viewAt, up}
 use Rattle.sound.specs.Kinship.{terminatedAt, terminatedUp, identifierFree}
@@ -57,16 +57,6 @@ unfolding takesFiles
 takes-says img d = (
   (λ h. let p = and-says _ _ .0 h in ((λ e. not-says _ .0 (p .0) (eq-says _ _ .1 e)), none-says img d .0 (p .1))),
   (λ f. and-says _ _ .1 (not-says _ .1 (λ e. f .0 (eq-says _ _ .0 e)), none-says img d .1 (f .1))),
-)
-
-pub activates-says : (x : ℕ) → (canActivate x ≡ true) ↔ ((lifeOf x ≡ creation) ⊎ ((lifeOf x ≡ initialisation) ⊎ (lifeOf x ≡ deactivated)))
-unfolding canActivate
-activates-says x = (
-  (λ h. ⊎-elim (λ e. inl (eq-says _ _ .0 e))
-      (λ g. inr (⊎-elim (λ e. inl (eq-says _ _ .0 e)) (λ e. inr (eq-says _ _ .0 e)) (or-says _ _ .0 g))) (or-says _ _ .0 h)),
-  (λ h. or-says _ _ .1
-      (⊎-elim (λ e. inl (eq-says _ _ .1 e))
-      (λ g. inr (or-says _ _ .1 (⊎-elim (λ e. inl (eq-says _ _ .1 e)) (λ e. inr (eq-says _ _ .1 e)) g))) h)),
 )
 
 -- J of DELETE

@@ -42,7 +42,7 @@ use Rattle.card.proofs.Speaks.{Spoken, judge-speaks, Acts, plan-acts, s
 use Rattle.card.proofs.After.{records-after, front-after, current-after, df-after, ef-after}
 use Rattle.card.proofs.Alive.{Alive, judge-alive}
 use Rattle.card.proofs.Words.{judge-worded, judge-warns}
-use Rattle.card.proofs.Erasing.{Erases, Names, judge-names}
+use Rattle.card.proofs.Ordered.{Erases, Ordered, judge-ordered}
 
 pub damaged-refused : DamagedRefused
 unfolding replyOf imageOf
@@ -187,7 +187,7 @@ module _ (img c : List ℕ) (s : ℕ) (used : kindOf (recAt img s) ≡ 0 → ⊥
   verdict-stays (SetLife x life) k a = inr (rw (ne-eqb s x (λ e. a (rw e at dead))))
 
 -- only a DELETE that was carried out erases
-deleting : (img c : List ℕ) (st : State) (s : ℕ) → Sound img → (v : Verdict) → judgeOf img c st ≡ v → Erases img s v → Names img c v
+deleting : (img c : List ℕ) (st : State) (s : ℕ) → Sound img → (v : Verdict) → judgeOf img c st ≡ v → Erases img s v → Ordered img c v
     → Deleting img c st s
 deleting img c st s sound (Refuse w) e k n = absurd k
 deleting img c st s sound (Select d f w) e k n = absurd k
@@ -200,7 +200,7 @@ pub terminated-stays : TerminatedStays
 unfolding Stays
 terminated-stays img c st s sound low used dead =
     let e = effect-and-no-other img c st sound .records s low in
-    ⊎-elim (λ f. inl (deleting img c st s sound (judgeOf img c st) refl (f .0) (judge-names img c st), e ∙ f .1)) (λ f. inr (e ∙ f))
+    ⊎-elim (λ f. inl (deleting img c st s sound (judgeOf img c st) refl (f .0) (judge-ordered img c st), e ∙ f .1)) (λ f. inr (e ∙ f))
     (verdict-stays img c s used dead (judgeOf img c st) (tells img c st sound) (judge-alive img c st))
 
 pub terminated-for-good : TerminatedForGood

@@ -6,8 +6,9 @@ pub mod Telling
 pub mod Called
 pub mod Speaks
 pub mod Words
-pub mod Erasing
+pub mod Ordered
 pub mod After
 pub mod Alive
 pub mod Demands
 pub mod Obeyed
+pub mod Lives

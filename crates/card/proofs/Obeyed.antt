@@ -11,6 +11,7 @@ use Rattle.laws.proofs.Says.{eq-says, le-says, or-says}
 use Rattle.laws.specs.Lists.{part}
 use Rattle.rules.specs.Descriptor.{df}
 use Rattle.rules.specs.Life.{lifeOf}
+use Rattle.rules.proofs.Lives.{activates-says}
 use Rattle.image.specs.Layout.{countOf, currentDfOf, currentEfOf, none, setCurrent}
 use Rattle.sound.specs.Table.{viewAt}
 use Rattle.sound.specs.Sound.{Sound}
@@ -40,7 +41,7 @@ use Rattle.card.specs.Obeyed.{Obeys, wordFor, selecting, creating, isOne
 use Rattle.card.specs.Obeyed.{DeactivateObeys, TerminateEfObeys, TerminateDfObeys, TerminateCardObeys, OthersRefused, NoBodiesYet}
 use Rattle.card.proofs.Steps.{cond-by}
 use Rattle.card.proofs.Matching.{Reads, reads-none, reads-ask, reads-skip, reads-stop}
-use Rattle.card.proofs.Asked.{channel-says, alive-says, none-says, takes-says, activates-says, deletes-says, identifier-free}
+use Rattle.card.proofs.Asked.{channel-says, alive-says, none-says, takes-says, deletes-says, identifier-free}
 use Rattle.card.proofs.Asked.{is-not-says, known, calm, alone-says, parameters-say, data-says, select-length, delete-length}
 use Rattle.card.proofs.Asked.{four-says, file-says}
 use Rattle.card.proofs.Demands.{replies-in-order}

@@ -19,7 +19,7 @@ use Rattle.rules.specs.declared.Right.{Right}
 use Rattle.rules.specs.declared.Right.the-variants.{CreateDf, CreateEf}
 use Rattle.laws.specs.Tests.{either}
 use Rattle.rules.specs.Descriptor.{classOf, isDf, isEf, hasRecords, df, ef}
-use Rattle.rules.specs.Life.{lifeOf, knownLife, newLife}
+use Rattle.rules.proofs.Lives.{activated-known, deactivated-known, terminated-known, new-known}
 use Rattle.rules.proofs.Groups.{fits-short}
 use Rattle.rules.specs.Value.{goodLength, wholeRecords}
 use Rattle.image.specs.declared.Head.{Head}
@@ -83,10 +83,6 @@ part-long s a b l h = length-part s a (b - a) (omega arith)
 
 some-size : (z : ℕ) → (z ≡ 0 → ⊥) → 1 ≤ z
 some-size z h = omega arith
-
-known : (l : ℕ) → newLife l ≡ true → knownLife l ≡ true
-unfolding newLife
-known l e = (simp and-says at e) .0
 
 -- a part of CREATE's data is a part of the command
 field-sent :
@@ -234,7 +230,7 @@ module _ (img c : List ℕ) (sound : Sound img) where
     new-tells (Df x) g h = record-tells df CreateDf x (g .file) (g .name-short) (record {
       class = g .class;
       some = λ e. omega arith;
-      life = known (x .life) (g .file .life);
+      life = new-known (x .life) (g .file .life);
       identifier = g .file .identifier;
       size = some-size (x .size) (g .total);
       records = rw (g .plain) (df-plain (x .descriptor) (x .size) (g .class));
@@ -246,7 +242,7 @@ module _ (img c : List ℕ) (sound : Sound img) where
     new-tells (Ef x) g h = record-tells ef CreateEf x (g .file) (omega (arith, g .nameless)) (record {
       class = g .class;
       some = λ e. omega arith;
-      life = known (x .life) (g .file .life);
+      life = new-known (x .life) (g .file .life);
       identifier = g .file .identifier;
       size = some-size (x .size) (g .size);
       records = g .records;
@@ -260,18 +256,6 @@ module _ (img c : List ℕ) (sound : Sound img) where
     create-tells = followed-by (Tells img c) anyWord refused _ refl (λ a. new-tells (dataOf (sentData c)) (good (sentData c)) a)
 
   -- the life-cycle commands are about a file, and write a life cycle
-  known-5 : knownLife 0x05 ≡ true
-  unfolding knownLife lifeOf
-  known-5 = refl
-
-  known-4 : knownLife 0x04 ≡ true
-  unfolding knownLife lifeOf
-  known-4 = refl
-
-  known-12 : knownLife 0x0C ≡ true
-  unfolding knownLife lifeOf
-  known-12 = refl
-
   current-file : Stands img (countOf img) (currentFile img)
   current-file = current-stands img (countOf img) (currentDfOf img) (currentFile img) (judgeable img sound) refl refl
 
@@ -279,15 +263,15 @@ module _ (img c : List ℕ) (sound : Sound img) where
   unfolding lifePlan
   life-tells i sets =
       chosen-by (λ (p : Plan). Tells img c (followed p)) i _ _ _
-      (λ e. followed-by (Tells img c) anyWord refused _ refl (λ a. (current-file, known-5)))
+      (λ e. followed-by (Tells img c) anyWord refused _ refl (λ a. (current-file, activated-known)))
       (λ z. chosen-by (λ (p : Plan). Tells img c (followed p)) i _ _ _
-      (λ e. followed-by (Tells img c) anyWord refused _ refl (λ a. (current-file, known-4)))
+      (λ e. followed-by (Tells img c) anyWord refused _ refl (λ a. (current-file, deactivated-known)))
       (λ z. chosen-by (λ (p : Plan). Tells img c (followed p)) i _ _ _
       (λ e. followed-by (Tells img c) anyWord refused _ refl
-      (λ a. (judgeable img sound .ef (λ e. not-says _ .0 (and-says _ _ .0 a .0) (eq-eqb _ _ e)), known-12)))
+      (λ a. (judgeable img sound .ef (λ e. not-says _ .0 (and-says _ _ .0 a .0) (eq-eqb _ _ e)), terminated-known)))
       (λ z. chosen-by (λ (p : Plan). Tells img c (followed p)) i _ _ _
-      (λ e. followed-by (Tells img c) anyWord refused _ refl (λ a. (judgeable img sound .df, known-12)))
-      (λ z. followed-by (Tells img c) anyWord refused _ refl (λ a. (judgeable img sound .root, known-12))))))
+      (λ e. followed-by (Tells img c) anyWord refused _ refl (λ a. (judgeable img sound .df, terminated-known)))
+      (λ z. followed-by (Tells img c) anyWord refused _ refl (λ a. (judgeable img sound .root, terminated-known))))))
 
   plan-tells : fitLength c ≡ true → (st : State) → Tells img c (followed (planFor img (countOf img) (currentDfOf img) c st))
   unfolding planFor

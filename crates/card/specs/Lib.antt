@@ -4,3 +4,4 @@ pub mod Conditions
 pub mod Obeyed
 pub mod After
 pub mod Demands
+pub mod Lives

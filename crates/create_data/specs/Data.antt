@@ -25,7 +25,7 @@ isTemplate s =
 abbrev pub need : Bool → Data → Data
 need test file = cond test file Bad
 
--- the identifier isn't 3FFF, 7FFF or FFFF; the life cycle is 01, 03, 04 or 05; the rule has 1-16 bytes and is
+-- the identifier isn't 3FFF, 7FFF or FFFF; the life cycle is one that CREATE takes; the rule has 1-16 bytes and is
 -- well formed
 unfoldable pub bothGood : List ℕ → Objects → Bool
 bothGood s o =

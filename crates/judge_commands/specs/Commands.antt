@@ -53,7 +53,7 @@ delete img n d id x =
     ∷ [])
     (Delete (slotIn child))
 
--- ACTIVATE of the file in slot t: 01, 03, 04 to 05
+-- ACTIVATE of the file in slot t: creation, initialisation, deactivated to 05
 abbrev pub activate : List ℕ → ℕ → Sets → Plan
 activate img t x =
     plan
@@ -63,7 +63,7 @@ activate img t x =
     ∷ [])
     (SetLife t activatedByte)
 
--- DEACTIVATE: 05 to 04
+-- DEACTIVATE: activated to 04
 abbrev pub deactivate : List ℕ → ℕ → Sets → Plan
 deactivate img t x =
     plan

@@ -15,7 +15,7 @@ fn main() {
             return;
         }
     }
-    let mut out = [0u8; 1292];
+    let mut out = [0u8; 2312];
     let long = objects_text::list(&buf[..n], &mut out);
     if !io::write_all(libc::STDOUT_FILENO, &out[..long]) {
         io::write_all(

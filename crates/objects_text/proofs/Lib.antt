@@ -1,4 +1,5 @@
 pub mod Marks
+pub mod Lives
 pub mod Found
 pub mod Walking
 pub mod Listed

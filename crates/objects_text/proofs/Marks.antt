@@ -9,7 +9,7 @@ use lib.ListN.{length}
 use borrow.Author.Tests.{eq-eqb, ne-eqb}
 use Rattle.text.specs.Digits.{digitOf}
 use Rattle.text.specs.Written.{WroteAt, Wrote}
-use Rattle.text.proofs.Written.{nothing-written, written-on}
+use Rattle.text.proofs.Written.{nothing-written, same-room, written-on}
 use Rattle.create_data.specs.Data.{isTemplate}
 use Rattle.objects_text.specs.Lines.{markLine, end, break, head}
 use Rattle.objects_text.specs.Listing.{stopAt, headOf}
@@ -18,6 +18,12 @@ pub mark-put : (at a b : ℕ) {put m r : ℕ} {o x y : List ℕ} (w : List ℕ) 
     → WroteAt put m o x (a ∷ b ∷ 32 ∷ []) → WroteAt m r x y w → WroteAt put r o y (markLine at w)
 unfolding markLine
 mark-put at a b w ea eb f g = rw (← ea, ← eb) (written-on (a ∷ b ∷ 32 ∷ []) f w g)
+
+-- behind a mark of eight bytes 19 are left of 27
+pub mark-room : {put m : ℕ} {o x : List ℕ} (at a b c d : ℕ) → WroteAt put m o x (markLine at (a ∷ b ∷ 32 ∷ c ∷ d ∷ []))
+    → put + 27 ≤ length o → m + 19 ≤ length x
+unfolding markLine
+mark-room at a b c d w h = omega (arith, w .long, same-room _ w)
 
 module _ {put r : ℕ} {o y : List ℕ} (s : List ℕ) where
   -- the line where the objects stop

@@ -19,12 +19,12 @@ pub record Going (s out₀ : List ℕ) (from : ℕ) (out : List ℕ) (at put : �
   pub enough : length s ≤ at + turns
   pub low : at < 256
   pub small : length s < 256
-  pub little : put ≤ 5 * at
-  pub room : 1284 ≤ length out₀
+  pub little : put ≤ 9 * at
+  pub room : 2304 ≤ length out₀
   pub rest : linesFrom (length s) s 2 ≡ written ++ linesFrom turns s at
   pub so-far : WroteAt from put out₀ out written
 
-pub start : (s out : List ℕ) (from : ℕ) → length s < 256 → from ≤ 10 → 1284 ≤ length out → Going s out from out 2 from
+pub start : (s out : List ℕ) (from : ℕ) → length s < 256 → from ≤ 10 → 2304 ≤ length out → Going s out from out 2 from
 start s out from h f r = record {
   written = [];
   turns = length s;
@@ -52,8 +52,13 @@ lines-stop zero s at h = refl
 lines-stop (suc turns) s at h = simp h
 
 module _ {s out₀ : List ℕ} {from : ℕ} {out : List ℕ} {at put : ℕ} (g : Going s out₀ from out at put) where
-  pub room-left : put + 9 ≤ length out
-  room-left = omega (arith, same-room (g .written) (g .so-far), g .room, g .little, g .low)
+  -- for the line of an object, and for the line where they stop
+  pub object-room : wholeAt s at ≡ true → put + 27 ≤ length out
+  object-room h =
+      omega (arith, same-room (g .written) (g .so-far), g .room, g .little, g .small, on s at h .0, on s at h .1)
+
+  pub stop-left : put + 9 ≤ length out
+  stop-left = omega (arith, same-room (g .written) (g .so-far), g .room, g .little, g .low)
 
   pub goes-on : (m to : ℕ) (y : List ℕ) → wholeAt s at ≡ true → to ≡ placeAfter s at → WroteAt put m out y (lineAt s at)
       → Going s out₀ from y to m
@@ -77,7 +82,7 @@ module _ {s out₀ : List ℕ} {from : ℕ} {out : List ℕ} {at put : ℕ} (g :
   less to h e = omega (arith, e, on s at h .0, on s at h .1, g .small)
 
   pub ended : (m : ℕ) (y : List ℕ) → wholeAt s at ≡ false → WroteAt put m out y (stopAt s at)
-      → WroteAt from m out₀ y (linesFrom (length s) s 2) × (m ≤ 1284)
+      → WroteAt from m out₀ y (linesFrom (length s) s 2) × (m ≤ 2304)
   ended m y h w = (
     same-text (g .written ++ stopAt s at) (linesFrom (length s) s 2) (written-on (g .written) (g .so-far) (stopAt s at) w)
         (sym (g .rest ∙ ap (λ (x : List ℕ). g .written ++ x) (lines-stop (g .turns) s at h))),

@@ -1,7 +1,10 @@
 -- The lines of a listing. Each begins with a place in the data, in two hex digits.
 use Prim.Native.Nat.{ℕ, _/_, _%_}
+use mathlib.Core.Bool.{cond}
 use mathlib.Core.List.{List, [], _∷_, _++_}
+use lib.Dec.{eqb}
 use Rattle.text.specs.Digits.{digitOf}
+use Rattle.rules.specs.Life.{lifeOf, creation, initialisation, activated, deactivated, terminated}
 
 -- a byte in two digits
 abbrev pub hex : ℕ → List ℕ
@@ -11,9 +14,9 @@ hex b = digitOf (b / 16) ∷ digitOf (b % 16) ∷ []
 unfoldable pub markLine : ℕ → List ℕ → List ℕ
 markLine at word = hex at ++ (32 ∷ []) ++ word
 
--- an object's tag and length, as a word
+-- an object's tag and length
 abbrev pub tagAndLength : ℕ → ℕ → List ℕ
-tagAndLength tag long = hex tag ++ (32 ∷ []) ++ hex long ++ (10 ∷ [])
+tagAndLength tag long = hex tag ++ (32 ∷ []) ++ hex long
 
 -- the words `END`, `BREAK`, `HEAD`, `DF`, `EF` and `6A80`, each to the end of its line
 abbrev pub end : List ℕ
@@ -33,3 +36,17 @@ ef = 69 ∷ 70 ∷ 10 ∷ []
 
 abbrev pub bad : List ℕ
 bad = 54 ∷ 65 ∷ 56 ∷ 48 ∷ 10 ∷ []
+
+-- the life cycles by their class: `creation`, `initialisation`, `activated`, `deactivated`, `terminated`, else `unknown`
+unfoldable pub lifeWord : ℕ → List ℕ
+lifeWord class =
+    cond (eqb class creation) (99 ∷ 114 ∷ 101 ∷ 97 ∷ 116 ∷ 105 ∷ 111 ∷ 110 ∷ 10 ∷ [])
+    (cond (eqb class initialisation) (105 ∷ 110 ∷ 105 ∷ 116 ∷ 105 ∷ 97 ∷ 108 ∷ 105 ∷ 115 ∷ 97 ∷ 116 ∷ 105 ∷ 111 ∷ 110 ∷ 10 ∷ [])
+    (cond (eqb class activated) (97 ∷ 99 ∷ 116 ∷ 105 ∷ 118 ∷ 97 ∷ 116 ∷ 101 ∷ 100 ∷ 10 ∷ [])
+    (cond (eqb class deactivated) (100 ∷ 101 ∷ 97 ∷ 99 ∷ 116 ∷ 105 ∷ 118 ∷ 97 ∷ 116 ∷ 101 ∷ 100 ∷ 10 ∷ [])
+    (cond (eqb class terminated) (116 ∷ 101 ∷ 114 ∷ 109 ∷ 105 ∷ 110 ∷ 97 ∷ 116 ∷ 101 ∷ 100 ∷ 10 ∷ [])
+    (117 ∷ 110 ∷ 107 ∷ 110 ∷ 111 ∷ 119 ∷ 110 ∷ 10 ∷ [])))))
+
+-- a life-cycle byte, and its life cycle in words
+unfoldable pub lifeLine : ℕ → List ℕ
+lifeLine b = (32 ∷ hex b ++ (32 ∷ [])) ++ lifeWord (lifeOf b)

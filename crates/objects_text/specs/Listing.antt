@@ -1,9 +1,9 @@
 -- The listing of CREATE's data (01 "CREATE", data): its objects in turn, where they stop, and how CREATE reads them.
 use Prim.Native.Nat.{ℕ, zero, suc, _-_}
-use mathlib.Core.Bool.{Bool, true, false, cond}
-use mathlib.Core.List.{List, [], _++_}
+use mathlib.Core.Bool.{Bool, true, false, cond, _&&_}
+use mathlib.Core.List.{List, [], _∷_, _++_}
 use lib.Dec.{eqb, ltb}
-use lib.ListN.{length}
+use lib.ListN.{length, getD}
 use Rattle.template.specs.declared.Object.{Object}
 use Rattle.template.specs.declared.Object.the-variants.{Whole, Broken}
 use Rattle.create_data.specs.declared.Data.{Data}
@@ -12,22 +12,26 @@ use Rattle.template.specs.Objects.{objectAt, objectsOf}
 use Rattle.create_data.specs.Data.{isTemplate, dataOf}
 use Rattle.reader.specs.Places.{placeAfter}
 use Rattle.text.specs.Written.{big}
-use Rattle.objects_text.specs.Lines.{markLine, tagAndLength, end, break, head, df, ef, bad}
+use Rattle.objects_text.specs.Lines.{markLine, tagAndLength, lifeLine, end, break, head, df, ef, bad}
 
 -- whether an object is whole, and its line
 abbrev pub isWhole : Object → Bool
 isWhole Broken = false
 isWhole (Whole tag start end) = true
 
-abbrev pub lineOf : ℕ → Object → List ℕ
-lineOf at Broken = []
-lineOf at (Whole tag start end) = markLine at (tagAndLength tag (end - start))
+-- what stands behind tag and length: of 8A its life cycle, if it is one byte; else the line ends
+unfoldable pub restOf : List ℕ → ℕ → ℕ → ℕ → List ℕ
+restOf s tag start end = cond (eqb tag 0x8A && eqb (end - start) 1) (lifeLine (getD s start 0)) (10 ∷ [])
+
+abbrev pub lineOf : List ℕ → ℕ → Object → List ℕ
+lineOf s at Broken = []
+lineOf s at (Whole tag start end) = markLine at (tagAndLength tag (end - start)) ++ restOf s tag start end
 
 unfoldable pub wholeAt : List ℕ → ℕ → Bool
 wholeAt s at = isWhole (objectAt s at)
 
 unfoldable pub lineAt : List ℕ → ℕ → List ℕ
-lineAt s at = lineOf at (objectAt s at)
+lineAt s at = lineOf s at (objectAt s at)
 
 -- where the objects stop: at the end of the data, or before
 unfoldable pub stopAt : List ℕ → ℕ → List ℕ

@@ -1,18 +1,19 @@
 // The objects of CREATE's data, listed for a person whose data was refused with 6A80 (01 "CREATE", data). The program
 // `objects` only reads data and writes that text.
 //
-// A line begins with a place in the data, in two hex digits. `02 82 02`: at 02 stands the object 82 of 02 bytes. `15
-// END`: the objects end where the data does. `0A BREAK`: no whole object stands at 0A. `00 HEAD`, in front: the data
-// is not 62, LL and LL bytes. The last line is CREATE's own reading: `DF`, `EF` or `6A80`, behind the place up to
-// which it took the objects in 01's order.
+// A line begins with a place in the data, in two hex digits. `02 82 02`: at 02 stands the object 82 of 02 bytes. `0A 8A
+// 01 07 activated`: an 8A of one byte, with its life cycle in words. `15 END`: the objects end where the data does. `0A
+// BREAK`: no whole object stands at 0A. `00 HEAD`, in front: the data is not 62, LL and LL bytes. The last line is CREATE's
+// own reading: `DF`, `EF` or `6A80`, behind the place up to which it took the objects in 01's order.
 ghost use mathlib.Core.Path.{_≡_};
 ghost use Prim.Native.Nat.{_+_, _<_, _≤_};
 ghost use lib.ListN.{length};
 ghost use Rattle.text.specs.Written.{WroteAt, Wrote, Counted};
-ghost use Rattle.objects_text.specs.Lines.{markLine};
-ghost use Rattle.objects_text.specs.Listing.{wholeAt, lineAt, stopAt, linesFrom, headOf, readingOf, listOf};
+ghost use Rattle.objects_text.specs.Lines.{markLine, lifeWord, lifeLine};
+ghost use Rattle.objects_text.specs.Listing.{wholeAt, restOf, lineAt, stopAt, linesFrom, headOf, readingOf, listOf};
 use create_data::Data;
 use create_data::judge;
+use rules::life_cycle;
 use template::Object;
 use template::gather;
 
@@ -37,9 +38,58 @@ fn is_whole(s: &[u8], at: usize) -> bool
     }
 }
 
-// Writes the line of the object at a place: place, tag, length. Nothing where none is whole.
+// Writes the life cycle of a class in words, to the end of the line.
+fn put_class(out: &mut [u8], put: usize, class: u16) -> usize
+    requires { ⌜ put + 15 ≤ length (now out) ⌝ }
+    ensures { λ r. ⌜ WroteAt put r (now (out .entry)) (now (out .exit)) (lifeWord class) ⌝ }
+{
+    if class == life_cycle::CREATION {
+        return text::put(out, put, b"creation\n");
+    }
+    if class == life_cycle::INITIALISATION {
+        return text::put(out, put, b"initialisation\n");
+    }
+    if class == life_cycle::ACTIVATED {
+        return text::put(out, put, b"activated\n");
+    }
+    if class == life_cycle::DEACTIVATED {
+        return text::put(out, put, b"deactivated\n");
+    }
+    if class == life_cycle::TERMINATED {
+        return text::put(out, put, b"terminated\n");
+    }
+    text::put(out, put, b"unknown\n")
+}
+
+// Writes a life-cycle byte, and its life cycle in words.
+fn put_life(out: &mut [u8], put: usize, x: u8) -> usize
+    requires { ⌜ put + 19 ≤ length (now out) ⌝ }
+    ensures { λ r. ⌜ WroteAt put r (now (out .entry)) (now (out .exit)) (lifeLine x) ⌝ }
+{
+    let byte = numbers::wide(x);
+    let a = text::digit(byte / 16);
+    let b = text::digit(byte % 16);
+    let next = text::put(out, put, &[b' ', a, b, b' ']);
+    put_class(out, next, life_cycle::class(x))
+}
+
+// Writes what stands behind an object's tag and length: of 8A its life cycle, if it is one byte; else the line ends.
+fn put_rest(s: &[u8], tag: u8, start: usize, end: usize, out: &mut [u8], put: usize) -> usize
+    requires { ⌜ (start ≤ end) × (end ≤ length (now s)) × (put + 19 ≤ length (now out)) ⌝ }
+    ensures { λ r. ⌜ WroteAt put r (now (out .entry)) (now (out .exit)) (restOf (now (s .entry)) tag start end) ⌝ }
+{
+    if tag != 0x8A {
+        return text::put(out, put, b"\n");
+    }
+    if end - start != 1 {
+        return text::put(out, put, b"\n");
+    }
+    put_life(out, put, s[start])
+}
+
+// Writes the line of the object at a place: place, tag, length, and what stands behind. Nothing where none is whole.
 fn put_object(s: &[u8], at: usize, out: &mut [u8], put: usize) -> usize
-    requires { ⌜ (at < 256) × (put + 9 ≤ length (now out)) ⌝ }
+    requires { ⌜ (at < 256) × (put + 27 ≤ length (now out)) ⌝ }
     ensures { λ r. ⌜ WroteAt put r (now (out .entry)) (now (out .exit)) (lineAt (now (s .entry)) at) ⌝ }
 {
     let Object::Whole { tag, start, end } = reader::object(s, at) else {
@@ -51,7 +101,8 @@ fn put_object(s: &[u8], at: usize, out: &mut [u8], put: usize) -> usize
     let b = text::digit(kind % 16);
     let c = text::digit(long / 16);
     let d = text::digit(long % 16);
-    put_mark(out, put, at as u16, &[a, b, b' ', c, d, b'\n'])
+    let next = put_mark(out, put, at as u16, &[a, b, b' ', c, d]);
+    put_rest(s, tag, start, end, out, next)
 }
 
 // Writes the line where the objects stop: `END` at the end of the data, else `BREAK`.
@@ -67,9 +118,9 @@ fn put_stop(s: &[u8], at: usize, out: &mut [u8], put: usize) -> usize
 
 // Writes the lines of the objects behind 62 LL, from `from` on, and the line where they stop.
 fn walk(s: &[u8], out: &mut [u8], from: usize) -> usize
-    requires { ⌜ (length (now s) < 256) × (from ≤ 10) × (1284 ≤ length (now out)) ⌝ }
+    requires { ⌜ (length (now s) < 256) × (from ≤ 10) × (2304 ≤ length (now out)) ⌝ }
     ensures { λ r. ⌜ WroteAt from r (now (out .entry)) (now (out .exit)) (linesFrom (length (now (s .entry))) (now (s .entry)) 2)
-        × (r ≤ 1284) ⌝ }
+        × (r ≤ 2304) ⌝ }
 {
     let mut at = 2;
     let mut put = from;
@@ -107,7 +158,7 @@ fn put_reading(s: &[u8], out: &mut [u8], put: usize) -> usize
 
 // The text of data, at the start of out; gives its length.
 fn write(s: &[u8], out: &mut [u8]) -> usize
-    requires { ⌜ 1292 ≤ length (now out) ⌝ }
+    requires { ⌜ 2312 ≤ length (now out) ⌝ }
     ensures { λ r. ⌜ Wrote r (now (out .entry)) (now (out .exit)) (listOf (now (s .entry))) ⌝ }
 {
     if 255 < s.len() {
@@ -118,9 +169,10 @@ fn write(s: &[u8], out: &mut [u8]) -> usize
     put_reading(s, out, lines)
 }
 
-// The text of any data, at the start of an array that holds the longest; gives its length. An object has two bytes at
-// least and a line nine, so that five bytes for one of the data's 255, nine for `BREAK` and eight for `6A80` are enough.
-pub fn list(s: &[u8], out: &mut [u8; 1292]) -> usize
+// The text of any data, at the start of an array that holds the longest; gives its length. A line has at most 27 bytes where the
+// object is an 8A of three, else nine, and an object has two bytes at least: so nine bytes for one of the data's 255, nine for
+// `BREAK` and eight for `6A80` are enough.
+pub fn list(s: &[u8], out: &mut [u8; 2312]) -> usize
     ensures { λ r. ⌜ Wrote r (now (out .entry)) (now (out .exit)) (listOf (now (s .entry))) ⌝ }
     ensures { λ r. ⌜ Counted r (now (out .exit)) ⌝ }
 {

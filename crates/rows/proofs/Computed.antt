@@ -37,8 +37,9 @@ use Rattle.judge.specs.Judge.{lifePlan, planFor, judgeFor, judgeOf}
 use Rattle.card.specs.Command.{replyOf, imageOf}
 use Rattle.rows.specs.Rows.{rows, allGive, allSay, BothSides}
 use Rattle.rows.specs.Tries.{tried, found, SelectTries}
+use Rattle.rows.specs.Lives.{all, told, LivesTold}
 
-computed : (x : Sets) → (allGive (rows x) ≡ allSay (rows x)) × (tried x ≡ found)
+computed : (x : Sets) → (allGive (rows x) ≡ allSay (rows x)) × (tried x ≡ found) × (all x ≡ told)
 unfolding part splice sameList implies either allBelow anyBelow firstBelow sumBelow countBelow u16At u32At met fulfilled oneOf allOf
     holdsOf classOf hasRecords scAt slotsOf nextOf groupLength someGroup lifeOf knownLife newLife canActivate malformedAt wellFormed
     fitsRecord holdsAt allowsOf grantedOf goodIdentifier wholeRecords goodLength isTemplate bothGood nameGood newFile dfOf sizedEf efOf
@@ -51,10 +52,13 @@ unfolding part splice sameList implies either allBelow anyBelow firstBelow sumBe
     currentb soundb up upward chargeOf charged isDfNamed dfNamed followed currentFile allowedAt itself selected isTerminate isKnown
     wantsAlone otherChannel crowded wantedParameters fitParameters hasData isSeven fitLength onOtherChannel takesFiles selectWord
     selecting mayDelete lifePlan planFor judgeFor judgeOf replyOf imageOf
-computed x = (refl, refl)
+computed x = (refl, refl, refl)
 
 pub both-sides : BothSides
 both-sides x = computed x .0
 
 pub select-tries : SelectTries
 select-tries x = computed x .1
+
+pub lives-told : LivesTold
+lives-told x = computed x .2

@@ -32,18 +32,41 @@ life img s = lifeCycleOf (recAt img s)
 abbrev pub card : ℕ → ℕ → List ℕ
 card n total = fresh n total (0x7F ∷ 0 ∷ 0 ∷ 0 ∷ 0 ∷ 0 ∷ 0 ∷ 0 ∷ [])
 
--- CREATE FILE of the transparent EF 6F07 with a size under 256, which anybody may activate
+-- CREATE FILE of a transparent EF that allows everything: its identifier, its life cycle, a size under 256
+abbrev pub createFile : ℕ → ℕ → ℕ → ℕ → List ℕ
+createFile high low l size =
+    0x00 ∷ 0xE0 ∷ 0x00 ∷ 0x00 ∷ 0x1B ∷ 0x62 ∷ 0x19 ∷ 0x82 ∷ 0x02 ∷ 0x41 ∷ 0x21 ∷ 0x83 ∷ 0x02 ∷ high ∷ low ∷ 0x8A ∷ 0x01 ∷ l
+    ∷ 0x8C ∷ 0x08 ∷ 0x7F ∷ 0 ∷ 0 ∷ 0 ∷ 0 ∷ 0 ∷ 0 ∷ 0 ∷ 0x80 ∷ 0x02 ∷ 0x00 ∷ size ∷ []
+
+-- .. of 6F07, activated
 abbrev pub createEf : ℕ → List ℕ
-createEf size =
-    0x00 ∷ 0xE0 ∷ 0x00 ∷ 0x00 ∷ 0x15 ∷ 0x62 ∷ 0x13 ∷ 0x82 ∷ 0x02 ∷ 0x41 ∷ 0x21 ∷ 0x83 ∷ 0x02 ∷ 0x6F ∷ 0x07 ∷ 0x8A ∷ 0x01 ∷ 0x05
-    ∷ 0x8C ∷ 0x02 ∷ 0x10 ∷ 0x00 ∷ 0x80 ∷ 0x02 ∷ 0x00 ∷ size ∷ []
+createEf size = createFile 0x6F 0x07 0x05 size
+
+-- .. of a DF that takes files, activated: its identifier, a total under 256
+abbrev pub createDf : ℕ → ℕ → ℕ → List ℕ
+createDf high low total =
+    0x00 ∷ 0xE0 ∷ 0x00 ∷ 0x00 ∷ 0x19 ∷ 0x62 ∷ 0x17 ∷ 0x82 ∷ 0x02 ∷ 0x78 ∷ 0x21 ∷ 0x83 ∷ 0x02 ∷ high ∷ low ∷ 0x8A ∷ 0x01 ∷ 0x05
+    ∷ 0x8C ∷ 0x03 ∷ 0x06 ∷ 0x00 ∷ 0x00 ∷ 0x81 ∷ 0x02 ∷ 0x00 ∷ total ∷ 0xC6 ∷ 0x01 ∷ 0x00 ∷ []
+
+abbrev pub selectFile : ℕ → ℕ → List ℕ
+selectFile high low = 0x00 ∷ 0xA4 ∷ 0x00 ∷ 0x0C ∷ 0x02 ∷ high ∷ low ∷ []
 
 abbrev pub activateFile : List ℕ
 activateFile = 0x00 ∷ 0x44 ∷ 0x00 ∷ 0x00 ∷ []
 
--- a card of two slots whose one file, the root, has a life cycle; one of three whose EF, in slot 1, has it
+abbrev pub deactivateFile : List ℕ
+deactivateFile = 0x00 ∷ 0x04 ∷ 0x00 ∷ 0x00 ∷ []
+
+abbrev pub terminateEf : List ℕ
+terminateEf = 0x00 ∷ 0xE8 ∷ 0x00 ∷ 0x00 ∷ []
+
+-- a card of two slots whose one file, the root, has a life cycle; one of three whose current EF, in slot 1, has it; one of four whose
+-- current DF, in slot 1, has it, with room for a file of one byte
 abbrev pub rootIn : ℕ → List ℕ
 rootIn l = setLife (card 2 64) 0 l
 
 abbrev pub efIn : Sets → ℕ → List ℕ
 efIn x l = setLife (left x (card 3 128) (createEf 64)) 1 l
+
+abbrev pub dfIn : Sets → ℕ → List ℕ
+dfIn x l = setLife (left x (card 4 192) (createDf 0x7F 0x10 65)) 1 l

@@ -89,12 +89,16 @@ rows x =
     ∷ test 9 (goodLength 0x42 10 25) false
     ∷ test 9 (goodLength 0x42 1 254) true
     ∷ test 9 (goodLength 0x42 1 255) false
-    -- W10: 04 activates to 05, 0C answers 6985
+    -- W10: 04 activates to 05, so does 06 (02 Ticket 1), 0C answers 6985
     ∷ number 10 (word x (rootIn 0x04) activateFile) 0x9000
     ∷ number 10 (life (left x (rootIn 0x04) activateFile) 0) 0x05
+    ∷ number 10 (word x (rootIn 0x06) activateFile) 0x9000
+    ∷ number 10 (life (left x (rootIn 0x06) activateFile) 0) 0x05
     ∷ number 10 (word x (rootIn 0x0C) activateFile) 0x6985
     ∷ number 10 (word x (efIn x 0x04) activateFile) 0x9000
     ∷ number 10 (life (left x (efIn x 0x04) activateFile) 1) 0x05
+    ∷ number 10 (word x (efIn x 0x06) activateFile) 0x9000
+    ∷ number 10 (life (left x (efIn x 0x06) activateFile) 1) 0x05
     ∷ number 10 (word x (efIn x 0x0C) activateFile) 0x6985
     ∷ []
 

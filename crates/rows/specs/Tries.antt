@@ -6,21 +6,11 @@ use mathlib.Core.Path.{_≡_}
 use mathlib.Core.List.{List, [], _∷_}
 use Rattle.rules.specs.declared.Sets.{Sets}
 use Rattle.image.specs.Layout.{currentDfOf, currentEfOf}
-use Rattle.rows.specs.Calls.{word, left, card}
+use Rattle.rows.specs.Calls.{word, left, card, createFile, createDf, selectFile}
 
--- CREATE FILE of a DF with a total under 256, which takes files, and of an EF of one byte
-abbrev pub createDf : ℕ → ℕ → ℕ → List ℕ
-createDf high low total =
-    0x00 ∷ 0xE0 ∷ 0x00 ∷ 0x00 ∷ 0x19 ∷ 0x62 ∷ 0x17 ∷ 0x82 ∷ 0x02 ∷ 0x78 ∷ 0x21 ∷ 0x83 ∷ 0x02 ∷ high ∷ low ∷ 0x8A ∷ 0x01 ∷ 0x05
-    ∷ 0x8C ∷ 0x03 ∷ 0x06 ∷ 0x00 ∷ 0x00 ∷ 0x81 ∷ 0x02 ∷ 0x00 ∷ total ∷ 0xC6 ∷ 0x01 ∷ 0x00 ∷ []
-
+-- CREATE FILE of an EF of one byte
 abbrev pub createByte : ℕ → ℕ → List ℕ
-createByte high low =
-    0x00 ∷ 0xE0 ∷ 0x00 ∷ 0x00 ∷ 0x15 ∷ 0x62 ∷ 0x13 ∷ 0x82 ∷ 0x02 ∷ 0x41 ∷ 0x21 ∷ 0x83 ∷ 0x02 ∷ high ∷ low ∷ 0x8A ∷ 0x01 ∷ 0x05
-    ∷ 0x8C ∷ 0x02 ∷ 0x10 ∷ 0x00 ∷ 0x80 ∷ 0x02 ∷ 0x00 ∷ 0x01 ∷ []
-
-abbrev pub selectFile : ℕ → ℕ → List ℕ
-selectFile high low = 0x00 ∷ 0xA4 ∷ 0x00 ∷ 0x0C ∷ 0x02 ∷ high ∷ low ∷ []
+createByte high low = createFile high low 0x05 1
 
 abbrev pub after : Sets → List ℕ → List (List ℕ) → List ℕ
 after x img [] = img

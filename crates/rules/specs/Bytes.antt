@@ -1,5 +1,5 @@
 -- Which bytes are known, of all 256: how many descriptor bytes have each class, and which life-cycle bytes (01 "Descriptor
--- and rules", "Image"). Each is computed.
+-- and rules", "Image"; 02 Ticket 1). Each is computed.
 use Prim.Native.Nat.{ℕ, zero, suc}
 use mathlib.Core.Path.{_≡_, refl}
 use mathlib.Core.Bool.{Bool, cond}
@@ -26,11 +26,14 @@ these (suc n) p = these n p ++ cond (p n) (n ∷ []) []
 -- the life-cycle bytes that a record may hold; that CREATE takes; that ACTIVATE takes; those that are activated,
 -- deactivated, terminated
 pub known-lives : these 256 knownLife ∷ these 256 newLife ∷ these 256 canActivate ∷ []
-    ≡ (0x01 ∷ 0x03 ∷ 0x04 ∷ 0x05 ∷ 0x0C ∷ []) ∷ (0x01 ∷ 0x03 ∷ 0x04 ∷ 0x05 ∷ []) ∷ (0x01 ∷ 0x03 ∷ 0x04 ∷ []) ∷ []
+    ≡ (0x01 ∷ 0x03 ∷ 0x04 ∷ 0x05 ∷ 0x06 ∷ 0x07 ∷ 0x0C ∷ [])
+    ∷ (0x01 ∷ 0x03 ∷ 0x04 ∷ 0x05 ∷ 0x06 ∷ 0x07 ∷ [])
+    ∷ (0x01 ∷ 0x03 ∷ 0x04 ∷ 0x06 ∷ [])
+    ∷ []
 unfolding knownLife newLife canActivate lifeOf
 known-lives = refl
 
 pub classed-lives : these 256 isActivated ∷ these 256 isDeactivated ∷ these 256 isTerminated ∷ []
-    ≡ (0x05 ∷ []) ∷ (0x04 ∷ []) ∷ (0x0C ∷ []) ∷ []
+    ≡ (0x05 ∷ 0x07 ∷ []) ∷ (0x04 ∷ 0x06 ∷ []) ∷ (0x0C ∷ []) ∷ []
 unfolding lifeOf
 classed-lives = refl

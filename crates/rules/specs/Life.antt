@@ -1,5 +1,5 @@
 -- The life-cycle byte (01 "Image", offset 2): soundness and commands speak of its class alone, never of the
--- byte.
+-- byte. specs/Bytes lists which bytes are in each.
 use Prim.Native.Nat.{ℕ}
 use mathlib.Core.Bool.{Bool, not, cond, _&&_, _||_}
 use lib.Dec.{eqb}
@@ -33,14 +33,16 @@ deactivatedByte = 0x04
 abbrev pub terminatedByte : ℕ
 terminatedByte = 0x0C
 
--- 01, 03, 04, 05 or 0C
+-- a line for each byte; in the operational states, 04 to 07, bit 2 is open (02 Ticket 1)
 unfoldable pub lifeOf : ℕ → ℕ
 lifeOf x =
     cond (eqb x 0x01) creation
     (cond (eqb x 0x03) initialisation
     (cond (eqb x 0x04) deactivated
     (cond (eqb x 0x05) activated
-    (cond (eqb x 0x0C) terminated noLife))))
+    (cond (eqb x 0x06) deactivated
+    (cond (eqb x 0x07) activated
+    (cond (eqb x 0x0C) terminated noLife))))))
 
 abbrev pub isActivated : ℕ → Bool
 isActivated x = eqb (lifeOf x) activated
@@ -55,10 +57,10 @@ isTerminated x = eqb (lifeOf x) terminated
 unfoldable pub knownLife : ℕ → Bool
 knownLife x = not (eqb (lifeOf x) noLife)
 
--- CREATE FILE takes it: 01, 03, 04 or 05
+-- CREATE FILE takes it: any but a terminated one
 unfoldable pub newLife : ℕ → Bool
 newLife x = knownLife x && not (isTerminated x)
 
--- ACTIVATE FILE takes it to activated: 01, 03 or 04
+-- ACTIVATE FILE takes it to activated: creation, initialisation or deactivated
 unfoldable pub canActivate : ℕ → Bool
 canActivate x = eqb (lifeOf x) creation || (eqb (lifeOf x) initialisation || eqb (lifeOf x) deactivated)

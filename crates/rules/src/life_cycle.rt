@@ -1,4 +1,4 @@
-// The life-cycle byte, only through its class (01 "Image", offset 2; 01 "CREATE" and "ACTIVATE").
+// The life-cycle byte, only through its class (01 "Image", offset 2; 01 "CREATE" and "ACTIVATE"; 02 Ticket 1).
 ghost use mathlib.Core.Path.{_≡_};
 ghost use Rattle.rules.specs.Life.{lifeOf, knownLife, newLife, isActivated, isDeactivated, isTerminated, canActivate};
 
@@ -12,15 +12,15 @@ pub const TERMINATED_BYTE: u8 = 0x0C;
 // The classes: numbers that no byte has.
 const NO_LIFE: u16 = 0x100;
 
-const CREATION: u16 = 0x101;
+pub const CREATION: u16 = 0x101;
 
-const INITIALISATION: u16 = 0x102;
+pub const INITIALISATION: u16 = 0x102;
 
-const ACTIVATED: u16 = 0x103;
+pub const ACTIVATED: u16 = 0x103;
 
-const DEACTIVATED: u16 = 0x104;
+pub const DEACTIVATED: u16 = 0x104;
 
-const TERMINATED: u16 = 0x105;
+pub const TERMINATED: u16 = 0x105;
 
 // The class of a life-cycle byte. Only here is such a byte compared with a number.
 pub fn class(x: u8) -> u16
@@ -36,6 +36,12 @@ pub fn class(x: u8) -> u16
         return DEACTIVATED;
     }
     if x == 0x05 {
+        return ACTIVATED;
+    }
+    if x == 0x06 {
+        return DEACTIVATED;
+    }
+    if x == 0x07 {
         return ACTIVATED;
     }
     if x == 0x0C {

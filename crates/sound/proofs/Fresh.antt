@@ -13,10 +13,10 @@ use Rattle.laws.proofs.Sums.{sum-none}
 use Rattle.laws.proofs.Says.{same-or}
 use Rattle.numbers.specs.Numbers.{u16At}
 use Rattle.rules.specs.Descriptor.{classOf, hasRecords}
-use Rattle.rules.specs.Life.{lifeOf, knownLife}
 use Rattle.rules.specs.Value.{goodIdentifier, goodLength}
 use Rattle.rules.specs.Rule.{fitsRecord}
 use Rattle.rules.proofs.Groups.{fits-short}
+use Rattle.rules.proofs.Lives.{activated-known}
 use Rattle.image.specs.Layout.{base, recAt, recordBytes, freeBytes, countOf, versionOf, currentDfOf, currentEfOf, none}
 use Rattle.image.proofs.Made.{length-made}
 use Rattle.image.proofs.Places.{byte-in, length-record}
@@ -63,11 +63,11 @@ kin-alone n v kind id parent level size name free = record {
 module _ (n total : ℕ) (rule : List ℕ) (least : 2 ≤ n) (most : n ≤ 1023) (some : 1 ≤ total) (within : total ≤ 64 * (n - 1))
     (short : length rule ≤ 16) (formed : fitsRecord rule ≡ true) where
   good : GoodRecord (rootHead total) [] rule
-  unfolding classOf lifeOf knownLife goodIdentifier goodLength hasRecords either
+  unfolding classOf goodIdentifier goodLength hasRecords either
   good = record {
     class = refl;
     some = λ e. omega arith;
-    life = refl;
+    life = activated-known;
     identifier = refl;
     size = some;
     records = refl;

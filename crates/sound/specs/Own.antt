@@ -31,7 +31,7 @@ paddedb r n = leb (getD r n 0) 16 && zerosb r (n + 1 + getD r n 0) (16 - getD r 
 pub record Used (r : List ℕ) : Type 0 where
   -- kind agrees with descriptor
   pub class : classOf (descriptorOf r) ≡ kindOf r
-  -- the life cycle is 01, 03, 04, 05 or 0C
+  -- the life cycle is known (rules/specs/Bytes lists them)
   pub life : knownLife (lifeCycleOf r) ≡ true
   pub zero : getD r 3 0 ≡ 0
   -- the identifier isn't 3FFF, 7FFF or FFFF

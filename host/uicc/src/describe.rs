@@ -33,13 +33,16 @@ pub fn command(bytes: &[u8]) -> String {
     }
 }
 
-/// What a life-cycle byte says.
+/// What a life-cycle byte says. 06 and 07 come from a CREATE FILE that sent
+/// them and go with the next change, so they are told apart from 04 and 05.
 pub fn life_cycle(byte: u8) -> &'static str {
     match byte {
         0x01 => "creation",
         0x03 => "initialisation",
         0x04 => "deactivated",
         0x05 => "activated",
+        0x06 => "deactivated (06)",
+        0x07 => "activated (07)",
         0x0C => "terminated",
         _ => "unknown",
     }
@@ -48,6 +51,17 @@ pub fn life_cycle(byte: u8) -> &'static str {
 #[cfg(test)]
 mod tests {
     use super::*;
+
+    /// Exactly the bytes that a card may hold have words, and each its own.
+    #[test]
+    fn life_cycles_have_words() {
+        let told: Vec<_> = (0..=0xFF).filter(|&byte| life_cycle(byte) != "unknown").collect();
+        assert_eq!(told, [0x01, 0x03, 0x04, 0x05, 0x06, 0x07, 0x0C]);
+        for (byte, class) in [(0x06, "deactivated"), (0x07, "activated")] {
+            assert_eq!(life_cycle(byte), format!("{class} ({byte:02X})"));
+            assert_eq!(life_cycle(byte & !0x02), class);
+        }
+    }
 
     #[test]
     fn commands_have_names_however_broken() {

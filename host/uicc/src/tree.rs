@@ -36,7 +36,7 @@ pub fn show(card: &Card) -> Result<String, String> {
 }
 
 fn line(width: usize, [place, kind, life_cycle, size, notes]: [&str; 5]) -> String {
-    let text = format!("{place:width$}  {kind:12}  {life_cycle:14}  {size:>10}  {notes}");
+    let text = format!("{place:width$}  {kind:12}  {life_cycle:16}  {size:>8}  {notes}");
     format!("{}\n", text.trim_end())
 }
 

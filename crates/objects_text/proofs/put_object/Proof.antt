@@ -1,6 +1,7 @@
 -- `put_object`: the line of a whole object, and nothing else.
 use native.Mathlib.Omega.{arith}
-use Rattle.objects_text.proofs.Found.{no-line, in-order, short, line-put}
+use Rattle.objects_text.proofs.Marks.{mark-room}
+use Rattle.objects_text.proofs.Found.{no-line, in-order, short, inside-data, line-put}
 use borrow.Author.Needs.{needs}
 use Rattle.objects_text.proofs.put_object.Statement.{statement}
 use Rattle.objects_text.proofs.put_object.Tie as tie
@@ -57,19 +58,27 @@ slice-aggregate-put-mark c = search needs
 put-mark-requires : tie.Need-put-mark-requires
 put-mark-requires c κs = search needs
 
+put-rest-requires : tie.Need-put-rest-requires
+put-rest-requires c κs =
+    let e = c .before .before .before .before .before .before .before .before .before .before .before .before .before .before .object .ensures in
+    let q = c .before .before .before .before .before .before .before .before .before .before .before .before .tag .given .1 in
+    (in-order _ _ _ e _ _ _ q, inside-data _ _ _ e _ _ _ q,
+    mark-room _ _ _ _ _ (c .before .before .before .put-mark .ensures) (c .before .before .before .before .before .before .before .before .before .before .before .before .before .before .before .before .before .pre .1))
+
 same-length : tie.Need-same-length
 same-length c = search needs
 
 returns-2 : tie.Need-returns-2
 returns-2 c =
     line-put _ _ _
-    (c .before .before .before .before .before .before .before .before .before .before .before .before .before .object .ensures) _ _ _
-    (c .before .before .before .before .before .before .before .before .before .before .before .tag .given .1)
-    (c .before .before .before .before .before .before .before .before .before .wide .ensures .0)
-    (c .before .before .before .before .before .before .before .before .digit .ensures)
-    (c .before .before .before .before .before .before .before .digit2 .ensures)
-    (c .before .before .before .before .before .before .digit3 .ensures) (c .before .before .before .before .before .digit4 .ensures)
-    (c .before .before .put-mark .ensures)
+    (c .before .before .before .before .before .before .before .before .before .before .before .before .before .before .before .before .before .object .ensures) _ _ _
+    (c .before .before .before .before .before .before .before .before .before .before .before .before .before .before .before .tag .given .1)
+    (c .before .before .before .before .before .before .before .before .before .before .before .before .before .wide .ensures .0)
+    (c .before .before .before .before .before .before .before .before .before .before .before .before .digit .ensures)
+    (c .before .before .before .before .before .before .before .before .before .before .before .digit2 .ensures)
+    (c .before .before .before .before .before .before .before .before .before .before .digit3 .ensures)
+    (c .before .before .before .before .before .before .before .before .before .digit4 .ensures)
+    (c .before .before .before .before .before .before .put-mark .ensures) (c .before .before .put-rest .ensures)
 
 pub put-object-spec : {M : Type 1} → statement M
 put-object-spec =
@@ -89,5 +98,6 @@ put-object-spec =
     cast-put-mark
     slice-aggregate-put-mark
     put-mark-requires
+    put-rest-requires
     same-length
     returns-2)

@@ -16,6 +16,36 @@ fn the_examples_card_is_shown_as_told() {
     assert_eq!(folder.done(&["show", "my.card"]), EXAMPLE_TREE);
 }
 
+/// A directory that was created with 06, and a file with 07: kept, told apart
+/// from 04 and 05, and gone with the next change.
+#[test]
+fn life_cycles_with_bit_2_are_shown_in_words() {
+    let folder = Folder::new("bit-2");
+    folder.done(&["new", "card", "--slots", "8"]);
+    folder.write(
+        "script",
+        "00E0000019 6217 82027821 83027F20 8A0106 8C03060000 81020080 C60100\n\
+         00E0000015 6213 82024121 83026F07 8A0105 8C020100 80020009\n\
+         00A4000C02 3F00\n\
+         00A4000C02 7F20\n\
+         00A4000C02 3F00\n\
+         00E0000016 6214 82024121 83026F07 8A0107 8C03180000 80020009\n",
+    );
+    let out = folder.done(&["run", "script", "--image", "card"]);
+    let words: Vec<_> = out.lines().filter_map(|line| line.get(28..32)).collect();
+    assert_eq!(words[1..7], ["9000", "6985", "9000", "6283", "9000", "9000"], "{out}");
+    let lives = |out: &str| -> Vec<String> {
+        let files = out.lines().skip(4).take(2);
+        files.map(|line| line.chars().skip(28).take(16).collect()).collect()
+    };
+    let out = folder.done(&["show", "card"]);
+    assert_eq!(lives(&out), ["deactivated (06)", "activated (07)  "], "{out}");
+    folder.write("again", "00040000\n");
+    folder.done(&["run", "again", "--image", "card"]);
+    let out = folder.done(&["show", "card"]);
+    assert_eq!(lives(&out), ["deactivated (06)", "deactivated     "], "{out}");
+}
+
 /// The first three commands of the example: 7F10, and in it 6F07 once.
 fn three_commands() -> String {
     let lines: Vec<_> = EXAMPLE.lines().filter(|line| line.starts_with('0')).take(3).collect();

@@ -28,5 +28,13 @@ returns-6 : tie.Need-returns-6
 unfolding lifeOf
 returns-6 c = search branches depth 30
 
+returns-7 : tie.Need-returns-7
+unfolding lifeOf
+returns-7 c = search branches depth 30
+
+returns-8 : tie.Need-returns-8
+unfolding lifeOf
+returns-8 c = search branches depth 30
+
 pub class-spec : {M : Type 1} → statement M
-class-spec = tie.close (tie.spec returns returns-2 returns-3 returns-4 returns-5 returns-6)
+class-spec = tie.close (tie.spec returns returns-2 returns-3 returns-4 returns-5 returns-6 returns-7 returns-8)

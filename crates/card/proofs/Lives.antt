@@ -1,0 +1,146 @@
+-- Who writes which life-cycle byte (specs/Lives): by the verdict, which has its byte from the command, and by the record after it.
+use mathlib.Core.Path.{_≡_, refl, sym, ap, _∙_}
+use mathlib.Core.Bool.{Bool, true, false, cond, _||_, false≢true}
+use mathlib.Core.List.{List, [], _∷_}
+use mathlib.Core.Logic.{_⊎_, inl, inr, ⊎-elim}
+use Prim.Native.Nat.{ℕ, _<_}
+use native.Mathlib.Omega.{arith}
+use lib.Dec.{eqb}
+use lib.ListN.{length}
+use borrow.Author.Tests.{eq-eqb}
+use Rattle.image.specs.Layout.{recAt, freeBytes, lifeCycleOf, withLife, countOf}
+use Rattle.image.proofs.Lives.{life-set}
+use Rattle.image.proofs.Made.{life-made}
+use Rattle.image.proofs.Places.{length-record}
+use Rattle.sound.specs.Table.{viewAt}
+use Rattle.sound.specs.Sound.{Sound, soundb}
+use Rattle.sound.specs.Kinship.{freeSlot, atOrBeneath}
+use Rattle.sound.proofs.Says.{sound-says}
+use Rattle.sound.proofs.Front.{sound-sized}
+use Rattle.create_data.specs.declared.Data.{Data}
+use Rattle.create_data.specs.declared.Data.the-variants.{Df, Ef, Bad}
+use Rattle.create_data.specs.Data.{dataOf}
+use Rattle.create_data.specs.Grammar.{DfData, EfData, DfRead, EfRead, first}
+use Rattle.create_data.proofs.Grammar.{data-read}
+use Rattle.verdict.specs.declared.State.{State}
+use Rattle.verdict.specs.declared.Verdict.{Verdict}
+use Rattle.verdict.specs.declared.Verdict.the-variants.{Refuse, Select, Create, Delete, SetLife}
+use Rattle.verdict.specs.Applied.{sentData, wordOf, appliedOf}
+use Rattle.judge_target.specs.Target.{lifeAt, slotIn}
+use Rattle.apdu.specs.Apdu.{instruction}
+use Rattle.judge.specs.Judge.{judgeOf}
+use Rattle.card.specs.Command.{answerWord, replyOf, imageOf}
+use Rattle.card.specs.After.{recordAfter}
+use Rattle.card.specs.Lives.{LifeCommand, writtenBy, TransitionsWrite, OnlyCreated, KeptAsGiven}
+use Rattle.card.proofs.Steps.{cond-by}
+use Rattle.card.proofs.Tells.{Tells}
+use Rattle.card.proofs.Telling.{judge-tells}
+use Rattle.card.proofs.Speaks.{Spoken, judge-speaks}
+use Rattle.card.proofs.Ordered.{Ordered, judge-ordered, sentLife}
+use Rattle.card.proofs.Demands.{word-is, effect-and-no-other, damaged-refused}
+
+-- over a command i a life cycle stays, is the command's own, is erased by DELETE, or was sent by CREATE
+abbrev pub Changes : ℕ → ℕ → ℕ → Type 0
+Changes i before after = (after ≡ before) ⊎ ((after ≡ writtenBy i) ⊎ (((i ≡ 0xE4) × (after ≡ 0)) ⊎ (i ≡ 0xE0)))
+
+-- under one verdict
+verdict-changes : (img c : List ℕ) (s : ℕ) → length (recAt img s) ≡ 64 → (v : Verdict) → Ordered img c v
+    → Changes (instruction c) (lifeAt img s) (lifeCycleOf (recordAfter img c v s))
+unfolding lifeCycleOf
+verdict-changes img c s whole (Refuse w) o = inl refl
+verdict-changes img c s whole (Select d e w) o = inl refl
+verdict-changes img c s whole (Create x) o = inr (inr (inr (o .0)))
+verdict-changes img c s whole (Delete x) o =
+    cond-by (λ (r : List ℕ). Changes (instruction c) (lifeAt img s) (lifeCycleOf r)) (atOrBeneath (viewAt img) x s) _ _
+    (λ q. inr (inr (inl (o .0, refl)))) (λ q. inl refl)
+verdict-changes img c s whole (SetLife x life) o =
+    cond-by (λ (r : List ℕ). Changes (instruction c) (lifeAt img s) (lifeCycleOf r)) (eqb s x) _ _
+    (λ q. inr (inl (life-set (recAt img s) life whole ∙ o .1))) (λ q. inl refl)
+
+-- .. and under a call, whatever the image
+changes : (img c : List ℕ) (st : State) (s : ℕ) → s < countOf img
+    → Changes (instruction c) (lifeAt img s) (lifeAt (imageOf img c st) s)
+changes img c st s low = go (soundb img) refl
+  where
+    go : (b : Bool) → soundb img ≡ b → Changes (instruction c) (lifeAt img s) (lifeAt (imageOf img c st) s)
+    go true q =
+        let sound = sound-says img .0 q in
+        rw (effect-and-no-other img c st sound .records s low)
+        (verdict-changes img c s (length-record img s (omega (arith, sound-sized img sound))) (judgeOf img c st) (judge-ordered img c st))
+    go false q = inl (ap (λ (x : List ℕ). lifeAt x s) (damaged-refused img c st q .2))
+
+-- a life-cycle command is neither DELETE nor CREATE
+no-delete : (i : ℕ) → LifeCommand i → i ≡ 0xE4 → ⊥
+no-delete i h e = false≢true (rw e at h)
+
+no-create : (i : ℕ) → LifeCommand i → i ≡ 0xE0 → ⊥
+no-create i h e = false≢true (rw e at h)
+
+pub transitions-write : TransitionsWrite
+transitions-write img c st s low command = ⊎-elim inl
+    (λ g. ⊎-elim inr (λ h. ⊎-elim (λ k. absurd (no-delete _ command (k .0))) (λ k. absurd (no-create _ command k)) h) g)
+    (changes img c st s low)
+
+-- what a command writes is neither 06 nor 07
+Plain : ℕ → Type 0
+Plain x = (x ≡ 0x06) ⊎ (x ≡ 0x07) → ⊥
+
+written-plain : (i : ℕ) → Plain (writtenBy i)
+unfolding Plain
+written-plain i =
+    cond-by Plain (eqb i 0x44) _ _ (λ q. ⊎-elim (λ h. omega arith) (λ h. omega arith))
+    (λ q. cond-by Plain (eqb i 0x04) _ _ (λ q. ⊎-elim (λ h. omega arith) (λ h. omega arith))
+    (λ q. ⊎-elim (λ h. omega arith) (λ h. omega arith)))
+
+neither : (i x : ℕ) → x ≡ writtenBy i → (x ≡ 0x06) ⊎ (x ≡ 0x07) → ⊥
+unfolding Plain
+neither i x e h = written-plain i (rw e at h)
+
+pub only-created : OnlyCreated
+only-created img c st s low other h = ⊎-elim (λ e. e)
+    (λ g. ⊎-elim (λ e. absurd (neither (instruction c) _ e h))
+    (λ k. ⊎-elim (λ e. ⊎-elim (λ l. absurd (omega (arith, e .1, l))) (λ l. absurd (omega (arith, e .1, l))) h) (λ e. absurd (other e)) k) g)
+    (changes img c st s low)
+
+-- the life cycle that is read is the one in object 8A
+read-df : (s : List ℕ) (t : DfData s) (x : Data) → DfRead s t x → sentLife x ≡ first (t .life)
+read-df s t Bad k = absurd k
+read-df s t (Ef x) k = absurd k
+read-df s t (Df x) k = k .2
+
+read-ef : (s : List ℕ) (t : EfData s) (x : Data) → EfRead s t x → sentLife x ≡ first (t .life)
+read-ef s t Bad k = absurd k
+read-ef s t (Df x) k = absurd k
+read-ef s t (Ef x) k = k .2
+
+-- a CREATE that was carried out: the record in the new slot has the life cycle that was read
+new-life : (img c left : List ℕ) (v : Verdict) → instruction c ≡ 0xE0 → wordOf v ≡ 0x9000 → Spoken v → Ordered img c v → Tells img c v
+    → ((t : ℕ) → t < countOf img → recAt left t ≡ recordAfter img c v t)
+    → lifeAt left (slotIn (freeSlot (countOf img) (viewAt img))) ≡ sentLife (dataOf (sentData c))
+new-life img c left (Refuse w) e done spoken o k r = absurd (spoken (inl done))
+new-life img c left (Select d f w) e done spoken o k r = absurd (omega (arith, e, o))
+new-life img c left (Create x) e done spoken o k r =
+    ap (λ (t : ℕ). lifeAt left t) (sym (o .1))
+    ∙ ap lifeCycleOf (rw (eq-eqb (x .slot) (x .slot) refl) at (r (x .slot) (k .0 .low)))
+    ∙ life-made (x .head) _ _
+    ∙ o .2
+new-life img c left (Delete x) e done spoken o k r = absurd (omega (arith, e, o .0))
+new-life img c left (SetLife x life) e done spoken o k r = absurd (o .0 e)
+
+pub kept-as-given : KeptAsGiven
+kept-as-given img c st e done = go (soundb img) refl
+  where
+    go : (b : Bool) → soundb img ≡ b
+        → ((t : DfData (sentData c)) → lifeAt (imageOf img c st) (slotIn (freeSlot (countOf img) (viewAt img))) ≡ first (t .life))
+        × ((t : EfData (sentData c)) → lifeAt (imageOf img c st) (slotIn (freeSlot (countOf img) (viewAt img))) ≡ first (t .life))
+    go true q =
+        let sound = sound-says img .0 q in
+        let life =
+            new-life img c (imageOf img c st) (judgeOf img c st) e (sym (word-is img c st sound) ∙ done) (judge-speaks img c st)
+            (judge-ordered img c st) (judge-tells img c sound st) (effect-and-no-other img c st sound .records)
+        in
+        (
+          (λ t. life ∙ read-df (sentData c) t (dataOf (sentData c)) (data-read (sentData c) .0 t)),
+          (λ t. life ∙ read-ef (sentData c) t (dataOf (sentData c)) (data-read (sentData c) .1 t)),
+        )
+    go false q = absurd (omega (arith, done, damaged-refused img c st q .1))

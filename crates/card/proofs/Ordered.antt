@@ -1,0 +1,94 @@
+-- What a verdict has from its command: SELECT alone selects; CREATE alone creates, in the free slot, with the life cycle that was sent;
+-- DELETE alone erases, and the child that it names; every other effect writes the byte of its command.
+use mathlib.Core.Path.{_≡_, refl}
+use mathlib.Core.Bool.{Bool, true}
+use mathlib.Core.List.{List}
+use Prim.Native.Nat.{ℕ}
+use native.Mathlib.Omega.{arith}
+use lib.Dec.{eqb}
+use borrow.Author.Tests.{ne-eqb}
+use Rattle.laws.specs.declared.Found.the-variants.{At}
+use Rattle.laws.proofs.Says.{and-says}
+use Rattle.rules.specs.Descriptor.{df}
+use Rattle.image.specs.Layout.{countOf, currentDfOf}
+use Rattle.sound.specs.Table.{viewAt}
+use Rattle.sound.specs.Kinship.{childNamed, freeSlot, atOrBeneath}
+use Rattle.create_data.specs.declared.Data.{Data}
+use Rattle.create_data.specs.declared.Data.the-variants.{Df, Ef, Bad}
+use Rattle.create_data.specs.Data.{dataOf}
+use Rattle.verdict.specs.declared.State.{State}
+use Rattle.verdict.specs.declared.Verdict.{Verdict}
+use Rattle.verdict.specs.declared.Verdict.the-variants.{Refuse, Select, Create, Delete, SetLife}
+use Rattle.verdict.specs.Applied.{sentData}
+use Rattle.judge_target.specs.Steps.{allHold, Plan, followed}
+use Rattle.judge_target.specs.Target.{creating, slotIn}
+use Rattle.apdu.specs.Apdu.{instruction, sentIdentifier}
+use Rattle.judge_commands.specs.Commands.{selecting}
+use Rattle.judge.specs.Shared.{sharedSteps}
+use Rattle.judge.specs.Judge.{lifePlan, planFor, judgeFor, judgeOf}
+use Rattle.card.specs.Lives.{writtenBy}
+use Rattle.card.proofs.Steps.{cond-by, chosen-by, anyWord, judged-by, followed-by}
+use Rattle.card.proofs.Telling.{found-at}
+
+-- the verdict erases the file in slot s
+abbrev pub Erases : List ℕ → ℕ → Verdict → Type 0
+Erases img s (Delete x) = atOrBeneath (viewAt img) x s ≡ true
+Erases img s (Refuse w) = ⊥
+Erases img s (Select d e w) = ⊥
+Erases img s (Create x) = ⊥
+Erases img s (SetLife x life) = ⊥
+
+-- the life cycle that CREATE's data give
+abbrev pub sentLife : Data → ℕ
+sentLife Bad = 0
+sentLife (Df x) = x .life
+sentLife (Ef x) = x .life
+
+abbrev pub Ordered : List ℕ → List ℕ → Verdict → Type 0
+Ordered img c (Refuse w) = Unit {0}
+Ordered img c (Select d e w) = instruction c ≡ 0xA4
+Ordered img c (Create x) =
+    (instruction c ≡ 0xE0) × (x .slot ≡ slotIn (freeSlot (countOf img) (viewAt img))) × (x .head .life ≡ sentLife (dataOf (sentData c)))
+Ordered img c (Delete x) = (instruction c ≡ 0xE4) × (childNamed (countOf img) (viewAt img) (currentDfOf img) (sentIdentifier c) ≡ At x)
+Ordered img c (SetLife x life) = (instruction c ≡ 0xE0 → ⊥) × (life ≡ writtenBy (instruction c))
+
+module _ (img c : List ℕ) (st : State) where
+  refused : (w : ℕ) → anyWord w ≡ true → Ordered img c (Refuse w)
+  refused w k = tt
+
+  creating-ordered : instruction c ≡ 0xE0 → (new : Data) → dataOf (sentData c) ≡ new
+      → Ordered img c (creating img (currentDfOf img) (slotIn (freeSlot (countOf img) (viewAt img))) new)
+  creating-ordered e Bad q = tt
+  creating-ordered e (Df x) q = (e, refl, rw q)
+  creating-ordered e (Ef x) q = (e, refl, rw q)
+
+  selecting-ordered : instruction c ≡ 0xA4 → (d s : ℕ) → Ordered img c (selecting img d s)
+  unfolding selecting
+  selecting-ordered e d s = cond-by (Ordered img c) (eqb (viewAt img s .kind) df) _ _ (λ q. e) (λ q. e)
+
+  -- the byte of a life-cycle command i that is none of ACTIVATE and DEACTIVATE
+  ends : (i : ℕ) → (i ≡ 0x44 → ⊥) → (i ≡ 0x04 → ⊥) → 0x0C ≡ writtenBy i
+  ends i a d = rw (ne-eqb i 0x44 a, ne-eqb i 0x04 d)
+
+  OrderedThen : Plan → Type 0
+  OrderedThen p = Ordered img c (followed p)
+
+  plan-ordered : Ordered img c (followed (planFor img (countOf img) (currentDfOf img) c st))
+  unfolding planFor lifePlan OrderedThen
+  plan-ordered =
+      chosen-by OrderedThen (instruction c) _ _ _ (λ e. followed-by (Ordered img c) anyWord refused _ refl (λ a. selecting-ordered e _ _))
+      (λ z. chosen-by OrderedThen (instruction c) _ _ _
+      (λ e. followed-by (Ordered img c) anyWord refused _ refl (λ a. creating-ordered e (dataOf (sentData c)) refl))
+      (λ not-create. chosen-by OrderedThen (instruction c) _ _ _
+      (λ e. followed-by (Ordered img c) anyWord refused _ refl (λ a. (e, found-at _ (and-says _ _ .0 a .0))))
+      (λ z. chosen-by OrderedThen (instruction c) _ _ _ (λ e. followed-by (Ordered img c) anyWord refused _ refl (λ a. (not-create, rw e)))
+      (λ z4. chosen-by OrderedThen (instruction c) _ _ _ (λ e. followed-by (Ordered img c) anyWord refused _ refl (λ a. (not-create, rw e)))
+      (λ z5. chosen-by OrderedThen (instruction c) _ _ _
+      (λ e. followed-by (Ordered img c) anyWord refused _ refl (λ a. (not-create, ends (instruction c) z4 z5)))
+      (λ z. chosen-by OrderedThen (instruction c) _ _ _
+      (λ e. followed-by (Ordered img c) anyWord refused _ refl (λ a. (not-create, ends (instruction c) z4 z5)))
+      (λ z. followed-by (Ordered img c) anyWord refused _ refl (λ a. (not-create, ends (instruction c) z4 z5)))))))))
+
+  pub judge-ordered : Ordered img c (judgeOf img c st)
+  unfolding judgeOf judgeFor
+  judge-ordered = judged-by (Ordered img c) anyWord refused (sharedSteps img c st) _ refl (λ a. plan-ordered)
