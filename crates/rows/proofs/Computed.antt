@@ -38,6 +38,7 @@ use Rattle.card.specs.Command.{replyOf, imageOf}
 use Rattle.rows.specs.Rows.{rows, allGive, allSay, BothSides}
 use Rattle.rows.specs.Tries.{tried, found, SelectTries}
 use Rattle.rows.specs.Lives.{all, told, LivesTold}
+use Rattle.rows.specs.Fresh.{FreshBytes}
 
 computed : (x : Sets) → (allGive (rows x) ≡ allSay (rows x)) × (tried x ≡ found) × (all x ≡ told)
 unfolding part splice sameList implies either allBelow anyBelow firstBelow sumBelow countBelow u16At u32At met fulfilled oneOf allOf
@@ -62,3 +63,7 @@ select-tries x = computed x .1
 
 pub lives-told : LivesTold
 lives-told x = computed x .2
+
+pub fresh-bytes : FreshBytes
+unfolding headBytes field recordBytes freshHeader fresh
+fresh-bytes = refl
