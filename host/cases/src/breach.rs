@@ -2,8 +2,8 @@
 //! paragraph's data rules ... are 6A80").
 
 use crate::random::Random;
-use crate::rules;
 use crate::template::{good, record_lengths, template, FileData, Object};
+use crate::{life_cycles, rules};
 
 /// Good data or data with one breach; sometimes only bytes.
 pub fn any(random: &mut Random) -> Vec<u8> {
@@ -27,7 +27,7 @@ fn of_a_value(random: &mut Random, mut data: FileData) -> Vec<u8> {
     match random.below(8) {
         0 => data.size = 0,
         1 => data.identifier = random.pick([0x3FFF, 0x7FFF, 0xFFFF]),
-        2 => data.life_cycle = random.pick([0x00, 0x02, 0x06, 0x07, 0x0C, 0x0D, 0xFF]),
+        2 => data.life_cycle = life_cycles::of_no_new_file(random),
         3 => data.rule = rules::broken(random),
         4 => data.name = Some(vec![0xA0; random.pick([0, 17, 18])]),
         5 => data.descriptor = random.pick([0x79, 0x21, 0xB8, 0xC1, 0x40, 0x43, 0x51, 0x00, 0xFF]),

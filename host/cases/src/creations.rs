@@ -6,8 +6,8 @@ use model::Card;
 use crate::actions::Action;
 use crate::choices::{a_name, free_identifier, taken_identifiers};
 use crate::random::Random;
-use crate::rules;
 use crate::template::{directory, elementary, FileData};
+use crate::{life_cycles, rules};
 
 /// Where the new file would stand.
 struct Place {
@@ -122,7 +122,7 @@ fn by_field(action: Action, random: &mut Random, card: &Card, place: &Place) -> 
         }
         Action::CreateInState => {
             let mut data = either(random, identifier, place.most?.min(150));
-            data.life_cycle = random.pick([0x01, 0x03, 0x04, 0x05]);
+            data.life_cycle = life_cycles::of_a_new_file(random);
             Some(data)
         }
         _ => None,

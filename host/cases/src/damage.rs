@@ -3,6 +3,7 @@
 
 use model::Card;
 
+use crate::life_cycles;
 use crate::random::Random;
 
 /// The field that was damaged.
@@ -101,10 +102,7 @@ fn record(random: &mut Random, card: &Card, field: Field, slot: usize, image: &m
             let byte = random.pick([0x00, 0x79, 0x21, 0xB8, 0xC1, 0x40, 0x44, 0xFF]);
             set(image, at(slot, 1), &[byte]);
         }
-        Field::LifeCycle => {
-            let byte = random.pick([0x00, 0x02, 0x06, 0x07, 0x08, 0x0D, 0x0F, 0xFF]);
-            set(image, at(slot, 2), &[byte]);
-        }
+        Field::LifeCycle => set(image, at(slot, 2), &[life_cycles::of_no_record(random)]),
         Field::ByteThree => set(image, at(slot, 3), &[random.byte() | 1]),
         Field::Identifier => set16(image, at(slot, 4), bad_identifier(random, card, slot)),
         Field::Parent => {

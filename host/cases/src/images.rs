@@ -6,8 +6,8 @@ use model::{Card, Kind, Record};
 
 use crate::choices::free_identifier;
 use crate::random::Random;
-use crate::rules;
 use crate::template::record_lengths;
+use crate::{life_cycles, rules};
 
 /// How many slots a card has: mostly few, seldom the most.
 pub fn slot_count(random: &mut Random) -> usize {
@@ -51,7 +51,7 @@ fn empty_card(random: &mut Random, slots: usize) -> Card {
     let root = Record {
         kind: Kind::Df,
         descriptor: random.pick([0x38, 0x38, 0x78]),
-        life_cycle: life_cycle(random, 2),
+        life_cycle: life_cycles::of_a_record(random, 2),
         identifier: 0x3F00,
         size: total,
         name: name(random, &card, 10),
@@ -97,7 +97,7 @@ fn directory(random: &mut Random, card: &Card, total: u32) -> Record {
     Record {
         kind: Kind::Df,
         descriptor: random.pick([0x38, 0x78]),
-        life_cycle: life_cycle(random, 10),
+        life_cycle: life_cycles::of_a_record(random, 10),
         size: total,
         name: name(random, card, 40),
         rule: some_rule(random),
@@ -115,7 +115,7 @@ fn elementary(random: &mut Random, size: u32) -> Record {
     Record {
         kind: Kind::Ef,
         descriptor,
-        life_cycle: life_cycle(random, 10),
+        life_cycle: life_cycles::of_a_record(random, 10),
         record_length: length.unwrap_or(0),
         size,
         rule: some_rule(random),
@@ -128,15 +128,6 @@ fn some_rule(random: &mut Random) -> Vec<u8> {
         rules::mostly_open(random)
     } else {
         rules::well_formed(random)
-    }
-}
-
-/// Terminated so many times out of a hundred, else any other state.
-fn life_cycle(random: &mut Random, terminated: usize) -> u8 {
-    if random.chance(terminated) {
-        0x0C
-    } else {
-        random.pick([0x05, 0x05, 0x05, 0x05, 0x04, 0x03, 0x01])
     }
 }
 

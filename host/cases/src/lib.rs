@@ -1,6 +1,7 @@
-//! Cases for the card of document 01, made from a seed, for the comparison of
-//! the proved card with the model ("Other cases are run by program and
-//! compared with an independent one").
+//! Cases for the card of document 01, with the tickets of document 02 that the
+//! model contains, made from a seed, for the comparison of the proved card with
+//! the model ("Other cases are run by program and compared with an independent
+//! one").
 //!
 //! Case number i of seed s depends on s and i alone, so a single case can be
 //! made again:
@@ -26,7 +27,7 @@
 //! | raw commands and near-misses | [`raw`] |
 //! | every near-miss in turn | [`near`] |
 //! | CREATE's data, good and broken | [`template`], [`breach`] |
-//! | rules, states | [`rules`], [`states`] |
+//! | rules, life-cycle bytes, states | [`rules`], [`life_cycles`], [`states`] |
 //! | maker's calls, replay's streams | [`makers`], [`streams`] |
 //! | worst-case cards | [`worst`] |
 
@@ -42,6 +43,7 @@ pub mod damage;
 pub mod generator;
 pub mod history;
 pub mod images;
+pub mod life_cycles;
 pub mod makers;
 pub mod near;
 pub mod random;

@@ -4,7 +4,7 @@
 use model::rule;
 
 use crate::random::Random;
-use crate::rules;
+use crate::{life_cycles, rules};
 
 /// A TLV object.
 pub type Object = (u8, Vec<u8>);
@@ -165,6 +165,7 @@ pub fn elementary(random: &mut Random, identifier: u16, size: u32) -> FileData {
 fn vary(random: &mut Random, data: &mut FileData) {
     let fewest = fewest_bytes(data.size);
     data.size_bytes = random.range(fewest as u32, 4) as usize;
+    data.life_cycle = life_cycles::of_an_activated_file(random);
     if random.chance(20) {
         data.second = random.byte();
     }
@@ -198,7 +199,7 @@ pub fn good(random: &mut Random) -> FileData {
         let length = random.range(1, 16) as usize;
         data.name = Some(random.bytes(length));
     }
-    data.life_cycle = random.pick([0x01, 0x03, 0x04, 0x05, 0x05]);
+    data.life_cycle = life_cycles::of_a_new_file(random);
     data.rule = rules::well_formed(random);
     debug_assert!(rule::groups(&data.rule).is_some());
     if random.chance(10) {

@@ -104,19 +104,22 @@ const RULES: [(Action, usize); 6] = [
     (Action::SelectUp, 2),
 ];
 
-const LIFE_CYCLES: [(Action, usize); 5] = [
-    (Action::CreateInState, 4),
+const LIFE_CYCLES: [(Action, usize); 7] = [
+    (Action::CreateInState, 8),
     (Action::Activate, 4),
     (Action::Deactivate, 4),
-    (Action::SelectChild, 4),
-    (Action::SelectUp, 2),
-];
-
-const TERMINATED: [(Action, usize); 7] = [
-    (Action::CreateDf, 4),
-    (Action::CreateEf, 4),
     (Action::TerminateEf, 2),
     (Action::TerminateDf, 2),
+    (Action::SelectChild, 4),
+    (Action::SelectUp, 6),
+];
+
+const TERMINATED: [(Action, usize); 8] = [
+    (Action::CreateDf, 4),
+    (Action::CreateEf, 4),
+    (Action::CreateInState, 8),
+    (Action::TerminateEf, 3),
+    (Action::TerminateDf, 3),
     (Action::SelectUp, 6),
     (Action::SelectChild, 3),
     (Action::DeleteChild, 2),

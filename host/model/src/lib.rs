@@ -1,5 +1,6 @@
 //! The card of document 01 ("What the build covers, and its rules") in plain
-//! Rust: maker, soundness, the eight commands, report and replay.
+//! Rust: maker, soundness, the eight commands, report and replay; with as many
+//! tickets of document 02 as [`edition::LEVEL`] tells.
 //!
 //! The model exists to be compared with the proved card, so it shares nothing
 //! with it. It follows one way throughout: decode the image into a list of

@@ -1,5 +1,9 @@
 //! The life-cycle byte: 01, "Image" (which bytes a record may hold), "CREATE"
-//! (which a new file may have) and "ACTIVATE, DEACTIVATE" (what follows what).
+//! (which a new file may have) and "ACTIVATE, DEACTIVATE" (what follows what);
+//! 02, Ticket 1 (b2 is free where a file is activated or deactivated).
+//!
+//! [`class`] alone looks at the byte. Everything else, here and in the other
+//! modules, goes by the class.
 
 /// The byte of a file being made.
 pub const CREATION: u8 = 0x01;
@@ -12,16 +16,22 @@ pub const ACTIVATED: u8 = 0x05;
 /// The byte that the TERMINATE commands write.
 pub const TERMINATED: u8 = 0x0C;
 
+/// Bit b2, which tells nothing in the two states of use. CREATE may bring it
+/// in and it then stays as given; no transition writes it.
+const B2: u8 = 0x02;
+const DEACTIVATED_WITH_B2: u8 = DEACTIVATED | B2;
+const ACTIVATED_WITH_B2: u8 = ACTIVATED | B2;
+
 /// The state that a life-cycle byte stands for.
 #[derive(Clone, Copy, PartialEq, Eq, Debug)]
 pub enum Class {
     /// 01 or 03.
     BeforeUse,
-    /// 04.
+    /// 04 or 06.
     Deactivated,
-    /// 05.
+    /// 05 or 07.
     Activated,
-    /// 0C.
+    /// 0C; with its lowest bits set, 0D to 0F, it is no byte of a record.
     Terminated,
 }
 
@@ -29,8 +39,8 @@ pub enum Class {
 pub fn class(byte: u8) -> Option<Class> {
     match byte {
         CREATION | INITIALISATION => Some(Class::BeforeUse),
-        DEACTIVATED => Some(Class::Deactivated),
-        ACTIVATED => Some(Class::Activated),
+        DEACTIVATED | DEACTIVATED_WITH_B2 => Some(Class::Deactivated),
+        ACTIVATED | ACTIVATED_WITH_B2 => Some(Class::Activated),
         TERMINATED => Some(Class::Terminated),
         _ => None,
     }
@@ -56,7 +66,7 @@ pub fn is_deactivated(byte: u8) -> bool {
     class(byte) == Some(Class::Deactivated)
 }
 
-/// The byte after ACTIVATE, or nothing where the state forbids it.
+/// The byte after ACTIVATE, always 05, or nothing where the state forbids it.
 pub fn after_activate(byte: u8) -> Option<u8> {
     match class(byte)? {
         Class::BeforeUse | Class::Deactivated => Some(ACTIVATED),
@@ -64,7 +74,8 @@ pub fn after_activate(byte: u8) -> Option<u8> {
     }
 }
 
-/// The byte after DEACTIVATE, or nothing where the state forbids it.
+/// The byte after DEACTIVATE, always 04, or nothing where the state forbids
+/// it.
 pub fn after_deactivate(byte: u8) -> Option<u8> {
     match class(byte)? {
         Class::Activated => Some(DEACTIVATED),

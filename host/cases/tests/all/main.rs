@@ -8,5 +8,6 @@ mod coverage;
 mod determinism;
 mod histories;
 mod images;
+mod life_cycles;
 mod near;
 mod program;

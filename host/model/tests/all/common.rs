@@ -74,6 +74,16 @@ pub fn create_ef(identifier: &str, size: u32, rule: &str) -> String {
     create(&format!("82024121 8302{identifier} 8A0105 8C{rule_length:02X}{rule} 8004{size:08X}"))
 }
 
+/// A CREATE of a small DF, open to everything, with this life-cycle byte.
+pub fn create_df_with(identifier: &str, life_cycle: u8) -> String {
+    create(&format!("82027821 8302{identifier} 8A01{life_cycle:02X} 8C08{OPEN} 81020100 C60100"))
+}
+
+/// A CREATE of a small EF, open to everything, with this life-cycle byte.
+pub fn create_ef_with(identifier: &str, life_cycle: u8) -> String {
+    create(&format!("82024121 8302{identifier} 8A01{life_cycle:02X} 8C08{OPEN} 80020009"))
+}
+
 /// SELECT by identifier.
 pub fn select(identifier: &str) -> String {
     format!("00A4000C02{identifier}")

@@ -106,10 +106,15 @@ fn identifiers() {
 }
 
 #[test]
-fn life_cycles() {
+fn life_cycles_are_taken_and_kept_as_given() {
     for byte in 0..=255u8 {
-        let objects = format!("82024121 83026F07 8A01{byte:02X} 8C0100 80020009");
-        assert_eq!(word(&objects) == SUCCESS, [1, 3, 4, 5].contains(&byte), "{byte:02X}");
+        let taken = [0x01, 0x03, 0x04, 0x05, 0x06, 0x07].contains(&byte);
+        let wanted = if taken { (SUCCESS, byte) } else { (WRONG_DATA, 0) };
+        for text in [create_df_with("7F10", byte), create_ef_with("6F07", byte)] {
+            let mut image = roomy(16);
+            let word = run(&mut image, &text);
+            assert_eq!((word, image[16 + 64 + 2]), wanted, "{text}");
+        }
     }
     bad("82024121 83026F07 8A00 8C0100 80020009");
     bad("82024121 83026F07 8A020505 8C0100 80020009");

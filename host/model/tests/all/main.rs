@@ -6,6 +6,7 @@
 mod common;
 mod create_data;
 mod ledger;
+mod life_cycle;
 mod no_panic;
 mod order;
 mod readings;

@@ -1,10 +1,11 @@
-//! The readings of the base that a case can show: READINGS A1 to A33. Those
-//! on soundness are in soundness.rs, on CREATE's data in create_data.rs, on
-//! the order in order.rs, on replay in scope.rs.
+//! The readings that a case can show: READINGS A1 to A33 of the base, A36 of
+//! Ticket 1. Those on soundness are in soundness.rs, on CREATE's data in
+//! create_data.rs, on the order in order.rs, on replay in scope.rs.
 
 use crate::common::*;
+use model::edition::Edition;
 use model::words::*;
-use model::{make, report, State, Word};
+use model::{make, report, sound, State, Word};
 
 /// Current DF and EF slots as the header shows them.
 fn current(image: &[u8]) -> (u16, u16) {
@@ -141,7 +142,9 @@ fn a27_which_directories_take_files() {
         (0x01, SUCCESS),
         (0x03, SUCCESS),
         (0x05, SUCCESS),
+        (0x07, SUCCESS),
         (0x04, CONDITIONS_NOT_SATISFIED),
+        (0x06, CONDITIONS_NOT_SATISFIED),
         (0x0C, CONDITIONS_NOT_SATISFIED),
     ] {
         let mut image = tree();
@@ -149,11 +152,13 @@ fn a27_which_directories_take_files() {
         image[16 + 64 + 2] = byte;
         expect(&mut image, &create_ef("6F09", 9, OPEN), wanted);
     }
-    let mut image = tree();
-    image[16 + 64 + 2] = 0x04;
-    expect(&mut image, &select("7F10"), SELECTED_DEACTIVATED);
-    expect(&mut image, &select("7F20"), SUCCESS);
-    expect(&mut image, &create_ef("6F09", 9, OPEN), SUCCESS);
+    for deactivated_above in [0x04, 0x06] {
+        let mut image = tree();
+        image[16 + 64 + 2] = deactivated_above;
+        expect(&mut image, &select("7F10"), SELECTED_DEACTIVATED);
+        expect(&mut image, &select("7F20"), SUCCESS);
+        expect(&mut image, &create_ef("6F09", 9, OPEN), SUCCESS);
+    }
 }
 
 #[test]
@@ -202,6 +207,8 @@ fn a29_activate_and_deactivate_for_every_state() {
         (0x03, Some(0x05), None),
         (0x04, Some(0x05), None),
         (0x05, None, Some(0x04)),
+        (0x06, Some(0x05), None),
+        (0x07, None, Some(0x04)),
         (0x0C, None, None),
     ] {
         for (text, wanted) in [(ACTIVATE, activated), (DEACTIVATE, deactivated)] {
@@ -236,6 +243,26 @@ fn a32_children_and_all_beneath() {
     assert_eq!(report(&image), (0, [31 * 64, 31 * 64 - 664 - 164 - 74, 3, 6]));
     expect(&mut image, &select("7F10"), SUCCESS);
     assert_eq!(report(&image), (0, [600, 600 - 264 - 74, 2, 3]));
+}
+
+/// A card with nothing but its root looks alike in every version but for the
+/// version's own number.
+#[test]
+fn a36_the_root_of_any_version_may_hold_06_and_07() {
+    let known = |version: &u16| Edition::from_header(*version, 0).is_some();
+    let versions: Vec<u16> = (0..=u16::MAX).filter(known).collect();
+    assert!(!versions.is_empty());
+    for (version, byte) in versions.into_iter().flat_map(|version| [(version, 6), (version, 7)]) {
+        let mut image = roomy(4);
+        image[3..5].copy_from_slice(&version.to_be_bytes());
+        image[16 + 2] = byte;
+        assert!(sound(&image), "version {version}, root {byte:02X}");
+        assert_eq!(report(&image), (0, [192, 192, 0, 0]));
+        let mut wanted = image.clone();
+        wanted[16 + 2] = 0x0C;
+        expect(&mut image, TERMINATE_CARD, SUCCESS);
+        assert_eq!(image, wanted, "version {version}, root {byte:02X}");
+    }
 }
 
 #[test]

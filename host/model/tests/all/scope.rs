@@ -3,7 +3,7 @@
 
 use crate::common::*;
 use model::descriptor::{class, measures_fit, Class, Structure};
-use model::life_cycle::{after_activate, class as life_cycle_class};
+use model::life_cycle::after_activate;
 use model::lines::hex;
 use model::rule::{grants, Right};
 use model::security::condition_holds;
@@ -112,20 +112,25 @@ fn w9_records() {
     assert_eq!(word(255, 255), SUCCESS);
 }
 
+/// Ticket 1 adds 06 to the table.
 #[test]
 fn w10_activation() {
-    assert_eq!(after_activate(0x04), Some(0x05));
+    const EF: usize = 16 + 64 + 2;
     assert_eq!(after_activate(0x0C), None);
-    assert!(life_cycle_class(0x06).is_none());
-    let mut image = roomy(8);
-    run(&mut image, &create_ef("6F07", 9, OPEN));
-    assert_eq!(run(&mut image, DEACTIVATE), SUCCESS);
-    assert_eq!(image[16 + 64 + 2], 0x04);
-    assert_eq!(run(&mut image, ACTIVATE), SUCCESS);
-    assert_eq!(image[16 + 64 + 2], 0x05);
-    assert_eq!(run(&mut image, TERMINATE_EF), SUCCESS);
-    assert_eq!(image[16 + 64 + 2], 0x0C);
-    assert_eq!(run(&mut image, ACTIVATE), CONDITIONS_NOT_SATISFIED);
+    for deactivated in [0x04, 0x06] {
+        assert_eq!(after_activate(deactivated), Some(0x05));
+        let mut image = roomy(8);
+        assert_eq!(run(&mut image, &create_ef_with("6F07", deactivated)), SUCCESS);
+        assert_eq!(image[EF], deactivated);
+        for (text, byte) in
+            [(ACTIVATE, 0x05), (DEACTIVATE, 0x04), (ACTIVATE, 0x05), (TERMINATE_EF, 0x0C)]
+        {
+            assert_eq!(run(&mut image, text), SUCCESS, "{text} from {deactivated:02X}");
+            assert_eq!(image[EF], byte, "{text} from {deactivated:02X}");
+        }
+        assert_eq!(run(&mut image, ACTIVATE), CONDITIONS_NOT_SATISFIED);
+        assert_eq!(image[EF], 0x0C);
+    }
 }
 
 const WHOLE_DF: &str = "00E000001962178202782183027F108A01058C0306000081020100C60100";

@@ -4,16 +4,20 @@
 //! The stored copy is made again with
 //! `cargo test --offline -p model --test all -- --ignored`.
 
-use std::collections::BTreeMap;
+use std::collections::{BTreeMap, BTreeSet};
 use std::time::Instant;
 
 use crate::common::say;
 use model::edition::LEVEL;
-use model::lines::{results_agree, Case};
+use model::lines::{from_hex, results_agree, Case};
+use model::soundness::sound_card;
 use model::vectors::{case_lines, shared_file, shared_text, stored_file, stored_text};
+use model::Card;
 
 const STORED_CASES: usize = 300;
 const LONGEST_STORED_LINE: usize = 2000;
+/// For the first case of a sort: every sort is stored but a BIG input.
+const LONGEST_FIRST_LINE: usize = 12_000;
 
 /// Checks every line; gives the number of cases of each kind.
 fn check(text: &str) -> BTreeMap<char, usize> {
@@ -80,6 +84,28 @@ fn the_stored_cases_hold_every_word_and_answer() {
     assert!(text.contains(" > E malformed"), "no stored malformed rule");
 }
 
+#[test]
+fn the_stored_cases_show_06_and_07() {
+    let text = stored_text().expect("the stored cases are there");
+    let stored: BTreeSet<String> = case_lines(&text).map(sort_of).collect();
+    for sort in [
+        "C A4 0 6283 06",
+        "C A4 0 9000 07",
+        "C E0 0 6985 in 06",
+        "C E0 0 9000 in 07",
+        "C E0 0 9000 of 06",
+        "C E0 0 9000 of 07",
+        "C 44 0 9000 06",
+        "C 04 0 9000 07",
+        "C 04 0 6985 06",
+        "C E8 0 9000 06",
+        "C E8 0 9000 07",
+        "C E6 0 9000 07",
+    ] {
+        assert!(stored.contains(sort), "no stored case of sort {sort}");
+    }
+}
+
 /// A wrong result must be found: each stored case is given a changed result.
 #[test]
 fn a_changed_result_does_not_agree() {
@@ -94,8 +120,34 @@ fn a_changed_result_does_not_agree() {
     }
 }
 
+/// The bytes 06 and 07 that a command met: of the file that it selects or
+/// would change; for CREATE "in" a directory, and "of" a new file. Only where
+/// the word tells that life cycles were asked.
+fn met_with_b2(instruction: &str, case: &str, result: &str) -> String {
+    let card_in = |line: &str, field: usize| {
+        let image = line.split(' ').nth(field).and_then(from_hex)?;
+        sound_card(&image)
+    };
+    let (Some(before), Some(after)) = (card_in(case, 1), card_in(result, 3)) else {
+        return String::new();
+    };
+    let directory = |card: &Card| card.record(card.current_df).life_cycle;
+    let file = |card: &Card| card.record(card.current_ef.unwrap_or(card.current_df)).life_cycle;
+    let met = match (instruction, result.split(' ').nth(2).unwrap_or("")) {
+        ("A4", "9000" | "6283") => vec![("", file(&after))],
+        ("E0", "9000") => vec![(" in", directory(&before)), (" of", file(&after))],
+        ("E0", "6985") => vec![(" in", directory(&before))],
+        ("E6", "9000" | "6985") => vec![("", directory(&before))],
+        ("44" | "04" | "E8", "9000" | "6985") => vec![("", file(&before))],
+        _ => vec![],
+    };
+    let with_b2 = met.into_iter().filter(|(_, byte)| [0x06, 0x07].contains(byte));
+    with_b2.map(|(how, byte)| format!("{how} {byte:02X}")).collect()
+}
+
 /// What a line shows, so that one of each sort is stored: the kind, the
-/// result's head, and of a command its instruction.
+/// result's head, and of a command its instruction and what it met of 06 and
+/// 07.
 fn sort_of(line: &str) -> String {
     let (case, result) = line.split_once(" > ").unwrap_or((line, ""));
     let kind: String = case.chars().take(1).collect();
@@ -104,7 +156,8 @@ fn sort_of(line: &str) -> String {
         "C" => {
             let command = case.split(' ').nth(2).unwrap_or("");
             let instruction: String = command.chars().skip(2).take(2).collect();
-            format!("C {instruction} {}", head.join(" "))
+            let met = met_with_b2(&instruction, case, result);
+            format!("C {instruction} {}{met}", head.join(" "))
         }
         "R" | "M" | "W" => format!("{kind} {}", head.first().unwrap_or(&"")),
         "Y" => format!("Y {:.8}", head.first().unwrap_or(&"")),
@@ -127,8 +180,7 @@ fn choose(text: &str) -> Vec<&str> {
     for round in 0.. {
         let mut found = false;
         for lines in sorts.values() {
-            // The first of a sort is stored however long, but for BIG inputs.
-            let longest = if round == 0 { 4 * LONGEST_STORED_LINE } else { LONGEST_STORED_LINE };
+            let longest = if round == 0 { LONGEST_FIRST_LINE } else { LONGEST_STORED_LINE };
             let line = lines.get(round).filter(|line| line.len() <= longest);
             found |= line.is_some();
             chosen.extend(line);
