@@ -12,7 +12,7 @@
 //! | a case, line by line, with the ledger | [`check`] |
 //! | demand 3's ledger and what it says of a command, as the theorem has them | [`ledger`], [`demand3`] |
 //! | the seven decisions of a rule, as commands | [`rights`] |
-//! | making a case smaller | [`shrink`], [`pieces`] |
+//! | making a case smaller | [`shrink`], [`pieces`], [`smaller`] |
 //! | stored and shared vectors | [`vectors`] |
 
 #![forbid(unsafe_code)]
@@ -25,6 +25,7 @@ pub mod outcome;
 pub mod pieces;
 pub mod rights;
 pub mod shrink;
+pub mod smaller;
 pub mod subject;
 pub mod vectors;
 

@@ -4,14 +4,7 @@
 use model::lines::Case as Line;
 use model::State;
 
-const HEADER: usize = 16;
-const RECORD: usize = 64;
-const ROOT_TOTAL: usize = HEADER + 12;
-/// Where the header tells the current DF and EF, and a record its parent.
-const CURRENT_DF: usize = 7;
-const CURRENT_EF: usize = 9;
-const PARENT: usize = 6;
-const NO_EF: u16 = 0xFFFF;
+use crate::smaller::{cut, freed, lifted, packed, slots_of, tightened};
 
 /// What counts as smaller: fewer bytes, then more plain ones among them, then a
 /// plainer state.
@@ -37,6 +30,14 @@ pub enum Piece {
     Slots(usize),
     /// Records from a slot on, so many, freed.
     Free(usize, usize),
+    /// The same, and what lies beneath them moves up to the nearest directory
+    /// that is left.
+    Lift(usize, usize),
+    /// Free records left out but for so many at the end.
+    Pack(usize),
+    /// Sizes no larger than they must be, with so much room left in the
+    /// current directory, and the slots that the root's total then needs.
+    Tighten(u32),
     /// One byte of the image zero.
     ImageByte(usize),
     /// Bytes of the command, rule or input from a place on left out.
@@ -50,12 +51,15 @@ pub enum Piece {
 /// All pieces of a line, the largest first.
 pub fn pieces_of(line: &Line) -> Vec<Piece> {
     let image = image_of(line).unwrap_or(&[]);
-    let slots = image.len().saturating_sub(HEADER) / RECORD;
+    let slots = slots_of(image);
     let bytes = bytes_of(line).len();
     let mut all = vec![Piece::State(State::FULL), Piece::State(State::EMPTY)];
     all.extend(halves(slots).map(|fewer| Piece::Slots((slots - fewer).max(2))));
     for width in halves(slots) {
         all.extend((1..slots).rev().step_by(width).map(|slot| Piece::Free(slot, width)));
+        all.extend((1..slots).rev().step_by(width).map(|slot| Piece::Lift(slot, width)));
+        all.extend([0, 1].map(Piece::Pack));
+        all.extend([0, 128, 512, 4096].map(Piece::Tighten));
     }
     for width in halves(bytes) {
         all.extend((0..bytes).rev().step_by(width).map(|at| Piece::Remove(at, width)));
@@ -73,6 +77,9 @@ impl Piece {
             Piece::State(state) => with_state(line, state),
             Piece::Slots(slots) => with_image(line, cut(image_of(line)?, slots)?),
             Piece::Free(slot, count) => with_image(line, freed(image_of(line)?, slot, count)?),
+            Piece::Lift(slot, count) => with_image(line, lifted(image_of(line)?, slot, count)?),
+            Piece::Pack(spare) => with_image(line, packed(image_of(line)?, spare)?),
+            Piece::Tighten(room) => with_image(line, tightened(image_of(line)?, room)?),
             Piece::ImageByte(at) => with_image(line, zeroed(image_of(line)?, at)?),
             Piece::Byte(at) => Some(with_bytes(line, zeroed(bytes_of(line), at)?)),
             Piece::Remove(at, count) => {
@@ -88,41 +95,6 @@ impl Piece {
 /// A half, a quarter, ... down to 1.
 fn halves(count: usize) -> impl Iterator<Item = usize> {
     std::iter::successors(Some(count / 2), |width| Some(width / 2)).take_while(|&width| width > 0)
-}
-
-/// The image with its first slots only, and a root's total that fits them.
-fn cut(image: &[u8], slots: usize) -> Option<Vec<u8>> {
-    let mut image = image.get(..HEADER + RECORD * slots)?.to_vec();
-    image.get_mut(5..7)?.copy_from_slice(&u16::try_from(slots).ok()?.to_be_bytes());
-    let total = image.get_mut(ROOT_TOTAL..ROOT_TOTAL + 4)?;
-    let most = u32::try_from(RECORD * slots.saturating_sub(1)).ok()?;
-    let now = u32::from_be_bytes(total.try_into().ok()?);
-    total.copy_from_slice(&now.min(most).to_be_bytes());
-    Some(image)
-}
-
-/// The image with records freed. Where they held the current DF, the nearest
-/// directory above that is left becomes current.
-fn freed(image: &[u8], slot: usize, count: usize) -> Option<Vec<u8>> {
-    let gone = slot..slot + count;
-    let number = |at: usize| Some(u16::from_be_bytes([*image.get(at)?, *image.get(at + 1)?]));
-    let mut df = number(CURRENT_DF)?;
-    let mut ef = number(CURRENT_EF)?;
-    for _ in gone.clone() {
-        if gone.contains(&usize::from(df)) {
-            df = number(HEADER + RECORD * usize::from(df) + PARENT)?;
-            ef = NO_EF;
-        }
-    }
-    if gone.contains(&usize::from(ef)) {
-        ef = NO_EF;
-    }
-    let mut image = image.to_vec();
-    let end = image.len().min(HEADER + RECORD * gone.end);
-    image.get_mut(HEADER + RECORD * gone.start..end)?.fill(0);
-    image.get_mut(CURRENT_DF..CURRENT_EF)?.copy_from_slice(&df.to_be_bytes());
-    image.get_mut(CURRENT_EF..CURRENT_EF + 2)?.copy_from_slice(&ef.to_be_bytes());
-    Some(image)
 }
 
 fn zeroed(bytes: &[u8], at: usize) -> Option<Vec<u8>> {

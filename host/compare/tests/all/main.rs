@@ -6,6 +6,7 @@ mod generated;
 mod impostors;
 mod ledger;
 mod program;
+mod smaller;
 mod vectors;
 
 /// Prints a line past the capture of the test harness.
