@@ -1,19 +1,19 @@
 -- The tests that judging makes, each beside the sentence that it stands for (specs/Conditions).
 use mathlib.Core.Path.{_≡_, refl, sym, ap, _∙_}
-use mathlib.Core.Bool.{Bool, true, false, not, cond, _&&_, _||_, false≢true}
-use mathlib.Core.List.{List, []}
-use mathlib.Core.Logic.{_↔_, _⊎_, inl, inr, ⊎-elim}
+use mathlib.Core.Bool.{Bool, true, false, not, false≢true}
+use mathlib.Core.List.{List}
+use mathlib.Core.Logic.{_↔_, _⊎_}
 use Prim.Native.Nat.{ℕ, suc, _+_, _*_, _/_, _%_, _<_, _≤_}
 use native.Mathlib.Omega.{arith}
-use lib.Dec.{eqb, leb}
+use lib.Dec.{eqb}
 use lib.ListN.{length, getD}
 use Rattle.laws.proofs.Says.{says, and-says, or-says, eq-says, le-says, not-says}
 use Rattle.numbers.specs.Numbers.{u16At}
 use Rattle.rules.specs.declared.Sets.{Sets}
 use Rattle.rules.specs.declared.Right.the-variants.{DeleteSelf, DeleteChild}
-use Rattle.rules.specs.Life.{lifeOf, terminated, isTerminated, deactivated, isDeactivated}
-use Rattle.image.specs.Layout.{lifeCycleOf, recAt, countOf}
-use Rattle.sound.specs.Table.{viewAt, up}
+use Rattle.rules.specs.Life.{lifeOf, terminated, deactivated}
+use Rattle.image.specs.Layout.{countOf}
+use Rattle.sound.specs.Table.{viewAt}
 use Rattle.sound.specs.Kinship.{terminatedAt, terminatedUp, identifierFree}
 use Rattle.sound.proofs.Climbing.{upward-says}
 use Rattle.sound.proofs.Created.{identifier-says}
@@ -24,7 +24,7 @@ use Rattle.create_data.specs.Grammar.{DfData, EfData}
 use Rattle.create_data.proofs.Grammar.{data-exactly}
 use Rattle.verdict.specs.declared.State.{State}
 use Rattle.judge_target.specs.Target.{lifeAt, allowedAt, describes}
-use Rattle.apdu.specs.Apdu.{classByte, instruction, lc, onOtherChannel, isTerminate, isKnown, wantsAlone, otherChannel, crowded}
+use Rattle.apdu.specs.Apdu.{instruction, lc, onOtherChannel, isKnown, wantsAlone, otherChannel, crowded}
 use Rattle.apdu.specs.Apdu.{wantedParameters, fitParameters, hasData, isSeven, fitLength, selectFile, createFile, deleteFile}
 use Rattle.judge_create.specs.Creation.{takesFiles}
 use Rattle.judge_commands.specs.Commands.{mayDelete}

@@ -1,9 +1,9 @@
 -- Demands 1 and 2, proved: each statement of specs/Demands under its own name.
 use mathlib.Core.Path.{_≡_, refl, sym, ap, _∙_}
-use mathlib.Core.Bool.{Bool, true, false, cond, false≢true}
+use mathlib.Core.Bool.{Bool, true, false, cond}
 use mathlib.Core.List.{List, [], _∷_, _++_}
 use mathlib.Core.Logic.{_⊎_, inl, inr, ⊎-elim}
-use Prim.Native.Nat.{ℕ, _<_}
+use Prim.Native.Nat.{ℕ}
 use native.Mathlib.Omega.{arith}
 use lib.Dec.{eqb}
 use lib.ListN.{length}
@@ -38,7 +38,7 @@ use Rattle.card.specs.Demands.{TerminatedStays, TerminatedForGood, OneRe
 use Rattle.card.proofs.Steps.{judged-append, judged-all, judged-first}
 use Rattle.card.proofs.Tells.{Tells, sound-applied}
 use Rattle.card.proofs.Telling.{judge-tells}
-use Rattle.card.proofs.Speaks.{Spoken, judge-speaks, Acts, plan-acts, succeeds}
+use Rattle.card.proofs.Speaks.{Spoken, judge-speaks, plan-acts, succeeds}
 use Rattle.card.proofs.After.{records-after, front-after, current-after, df-after, ef-after}
 use Rattle.card.proofs.Alive.{Alive, judge-alive}
 use Rattle.card.proofs.Words.{judge-worded, judge-warns}

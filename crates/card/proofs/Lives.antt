@@ -1,19 +1,19 @@
 -- Who writes which life-cycle byte (specs/Lives): by the verdict, which has its byte from the command, and by the record after it.
 use mathlib.Core.Path.{_≡_, refl, sym, ap, _∙_}
-use mathlib.Core.Bool.{Bool, true, false, cond, _||_, false≢true}
-use mathlib.Core.List.{List, [], _∷_}
+use mathlib.Core.Bool.{Bool, true, false, false≢true}
+use mathlib.Core.List.{List}
 use mathlib.Core.Logic.{_⊎_, inl, inr, ⊎-elim}
 use Prim.Native.Nat.{ℕ, _<_}
 use native.Mathlib.Omega.{arith}
 use lib.Dec.{eqb}
 use lib.ListN.{length}
 use borrow.Author.Tests.{eq-eqb}
-use Rattle.image.specs.Layout.{recAt, freeBytes, lifeCycleOf, withLife, countOf}
+use Rattle.image.specs.Layout.{recAt, lifeCycleOf, countOf}
 use Rattle.image.proofs.Lives.{life-set}
 use Rattle.image.proofs.Made.{life-made}
 use Rattle.image.proofs.Places.{length-record}
 use Rattle.sound.specs.Table.{viewAt}
-use Rattle.sound.specs.Sound.{Sound, soundb}
+use Rattle.sound.specs.Sound.{soundb}
 use Rattle.sound.specs.Kinship.{freeSlot, atOrBeneath}
 use Rattle.sound.proofs.Says.{sound-says}
 use Rattle.sound.proofs.Front.{sound-sized}
@@ -25,11 +25,11 @@ use Rattle.create_data.proofs.Grammar.{data-read}
 use Rattle.verdict.specs.declared.State.{State}
 use Rattle.verdict.specs.declared.Verdict.{Verdict}
 use Rattle.verdict.specs.declared.Verdict.the-variants.{Refuse, Select, Create, Delete, SetLife}
-use Rattle.verdict.specs.Applied.{sentData, wordOf, appliedOf}
+use Rattle.verdict.specs.Applied.{sentData, wordOf}
 use Rattle.judge_target.specs.Target.{lifeAt, slotIn}
 use Rattle.apdu.specs.Apdu.{instruction}
 use Rattle.judge.specs.Judge.{judgeOf}
-use Rattle.card.specs.Command.{answerWord, replyOf, imageOf}
+use Rattle.card.specs.Command.{imageOf}
 use Rattle.card.specs.After.{recordAfter}
 use Rattle.card.specs.Lives.{LifeCommand, writtenBy, TransitionsWrite, OnlyCreated, KeptAsGiven}
 use Rattle.card.proofs.Steps.{cond-by}

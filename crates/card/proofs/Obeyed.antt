@@ -1,10 +1,10 @@
 -- Demand 2, command by command (specs/Obeyed): the steps that judging makes are the asks of specs/Conditions, in their order
 -- and with their words, and the effect is the stated one.
-use mathlib.Core.Path.{_≡_, refl, sym, ap, _∙_}
+use mathlib.Core.Path.{_≡_, refl, ap, _∙_}
 use mathlib.Core.Bool.{Bool, true, false, cond, _||_, false≢true}
 use mathlib.Core.List.{List, [], _∷_, _++_}
 use mathlib.Core.Logic.{_⊎_, inl, inr, ⊎-elim}
-use Prim.Native.Nat.{ℕ, _<_, _≤_}
+use Prim.Native.Nat.{ℕ}
 use native.Mathlib.Omega.{arith}
 use lib.Dec.{eqb}
 use Rattle.laws.proofs.Says.{eq-says, le-says, or-says}
@@ -21,8 +21,7 @@ use Rattle.create_data.specs.declared.Data.{Data}
 use Rattle.create_data.specs.declared.Data.the-variants.{Df, Ef, Bad}
 use Rattle.create_data.specs.Data.{dataOf}
 use Rattle.verdict.specs.declared.State.{State}
-use Rattle.verdict.specs.declared.Verdict.{Verdict}
-use Rattle.verdict.specs.declared.Verdict.the-variants.{Select, SetLife}
+use Rattle.verdict.specs.declared.Verdict.the-variants.{Select}
 use Rattle.verdict.specs.Applied.{sentData, wordOf, appliedOf}
 use Rattle.judge_target.specs.Steps.{Step, allHold, Plan}
 use Rattle.judge_target.specs.Target.{currentFile, lifeAt, slotIn, selected, describes, creating as creatingIt}
@@ -39,7 +38,6 @@ use Rattle.card.specs.Conditions.{createAsks, deleteAsks, activateAsks, 
 use Rattle.card.specs.Conditions.{terminateCardAsks}
 use Rattle.card.specs.Obeyed.{Obeys, wordFor, selecting, creating, isOneOf, SelectObeys, CreateObeys, DeleteObeys, ActivateObeys}
 use Rattle.card.specs.Obeyed.{DeactivateObeys, TerminateEfObeys, TerminateDfObeys, TerminateCardObeys, OthersRefused, NoBodiesYet}
-use Rattle.card.proofs.Steps.{cond-by}
 use Rattle.card.proofs.Matching.{Reads, reads-none, reads-ask, reads-skip, reads-stop}
 use Rattle.card.proofs.Asked.{channel-says, alive-says, none-says, takes-says, deletes-says, identifier-free}
 use Rattle.card.proofs.Asked.{is-not-says, known, calm, alone-says, parameters-say, data-says, select-length, delete-length}

@@ -1,10 +1,9 @@
 -- What a verdict has from its command: SELECT alone selects; CREATE alone creates, in the free slot, with the life cycle that was sent;
 -- DELETE alone erases, and the child that it names; every other effect writes the byte of its command.
 use mathlib.Core.Path.{_≡_, refl}
-use mathlib.Core.Bool.{Bool, true}
+use mathlib.Core.Bool.{true}
 use mathlib.Core.List.{List}
 use Prim.Native.Nat.{ℕ}
-use native.Mathlib.Omega.{arith}
 use lib.Dec.{eqb}
 use borrow.Author.Tests.{ne-eqb}
 use Rattle.laws.specs.declared.Found.the-variants.{At}
@@ -20,7 +19,7 @@ use Rattle.verdict.specs.declared.State.{State}
 use Rattle.verdict.specs.declared.Verdict.{Verdict}
 use Rattle.verdict.specs.declared.Verdict.the-variants.{Refuse, Select, Create, Delete, SetLife}
 use Rattle.verdict.specs.Applied.{sentData}
-use Rattle.judge_target.specs.Steps.{allHold, Plan, followed}
+use Rattle.judge_target.specs.Steps.{Plan, followed}
 use Rattle.judge_target.specs.Target.{creating, slotIn}
 use Rattle.apdu.specs.Apdu.{instruction, sentIdentifier}
 use Rattle.judge_commands.specs.Commands.{selecting}
@@ -66,7 +65,7 @@ module _ (img c : List ℕ) (st : State) where
   unfolding selecting
   selecting-ordered e d s = cond-by (Ordered img c) (eqb (viewAt img s .kind) df) _ _ (λ q. e) (λ q. e)
 
-  -- the byte of a life-cycle command i that is none of ACTIVATE and DEACTIVATE
+  -- the byte of a life-cycle command i that is neither ACTIVATE nor DEACTIVATE
   ends : (i : ℕ) → (i ≡ 0x44 → ⊥) → (i ≡ 0x04 → ⊥) → 0x0C ≡ writtenBy i
   ends i a d = rw (ne-eqb i 0x44 a, ne-eqb i 0x04 d)
 
@@ -82,12 +81,13 @@ module _ (img c : List ℕ) (st : State) where
       (λ not-create. chosen-by OrderedThen (instruction c) _ _ _
       (λ e. followed-by (Ordered img c) anyWord refused _ refl (λ a. (e, found-at _ (and-says _ _ .0 a .0))))
       (λ z. chosen-by OrderedThen (instruction c) _ _ _ (λ e. followed-by (Ordered img c) anyWord refused _ refl (λ a. (not-create, rw e)))
-      (λ z4. chosen-by OrderedThen (instruction c) _ _ _ (λ e. followed-by (Ordered img c) anyWord refused _ refl (λ a. (not-create, rw e)))
-      (λ z5. chosen-by OrderedThen (instruction c) _ _ _
-      (λ e. followed-by (Ordered img c) anyWord refused _ refl (λ a. (not-create, ends (instruction c) z4 z5)))
+      (λ not-activate. chosen-by OrderedThen (instruction c) _ _ _
+      (λ e. followed-by (Ordered img c) anyWord refused _ refl (λ a. (not-create, rw e)))
+      (λ not-deactivate. chosen-by OrderedThen (instruction c) _ _ _
+      (λ e. followed-by (Ordered img c) anyWord refused _ refl (λ a. (not-create, ends (instruction c) not-activate not-deactivate)))
       (λ z. chosen-by OrderedThen (instruction c) _ _ _
-      (λ e. followed-by (Ordered img c) anyWord refused _ refl (λ a. (not-create, ends (instruction c) z4 z5)))
-      (λ z. followed-by (Ordered img c) anyWord refused _ refl (λ a. (not-create, ends (instruction c) z4 z5)))))))))
+      (λ e. followed-by (Ordered img c) anyWord refused _ refl (λ a. (not-create, ends (instruction c) not-activate not-deactivate)))
+      (λ z. followed-by (Ordered img c) anyWord refused _ refl (λ a. (not-create, ends (instruction c) not-activate not-deactivate)))))))))
 
   pub judge-ordered : Ordered img c (judgeOf img c st)
   unfolding judgeOf judgeFor

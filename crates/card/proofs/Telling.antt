@@ -1,13 +1,13 @@
 -- Every verdict of the judging tells what its effect needs: `judge-tells`, command by command.
-use mathlib.Core.Path.{_≡_, refl, sym, ap, subst, _∙_}
-use mathlib.Core.Bool.{Bool, true, false, cond, not, _&&_, _||_, false≢true}
-use mathlib.Core.List.{List, [], _∷_}
+use mathlib.Core.Path.{_≡_, refl, ap, _∙_}
+use mathlib.Core.Bool.{Bool, true, false, cond, _||_, false≢true}
+use mathlib.Core.List.{List, _∷_}
 use mathlib.Core.Logic.{_⊎_, inl, inr, ⊎-elim}
-use Prim.Native.Nat.{ℕ, _+_, _-_, _%_, _<_, _≤_}
+use Prim.Native.Nat.{ℕ, _-_, _%_, _<_, _≤_}
 use native.Mathlib.Omega.{arith}
-use lib.Dec.{eqb, leb}
-use lib.ListN.{length, drop, length-drop}
-use borrow.Author.Tests.{eq-eqb, eqb-true, eqb-false, leb-true}
+use lib.Dec.{eqb}
+use lib.ListN.{length, length-drop}
+use borrow.Author.Tests.{eq-eqb, eqb-true, eqb-false}
 use Rattle.laws.specs.declared.Found.{Found}
 use Rattle.laws.specs.declared.Found.the-variants.{At, Nothing}
 use Rattle.laws.specs.Lists.{part}
@@ -22,12 +22,11 @@ use Rattle.rules.specs.Descriptor.{classOf, isDf, isEf, hasRecords, df, ef}
 use Rattle.rules.proofs.Lives.{activated-known, deactivated-known, terminated-known, new-known}
 use Rattle.rules.proofs.Groups.{fits-short}
 use Rattle.rules.specs.Value.{goodLength, wholeRecords}
-use Rattle.image.specs.declared.Head.{Head}
-use Rattle.image.specs.Layout.{countOf, currentDfOf, currentEfOf, none, recAt, descriptorOf}
-use Rattle.sound.specs.Table.{View, viewAt, File}
-use Rattle.sound.specs.Sound.{Sound, Current}
+use Rattle.image.specs.Layout.{countOf, currentDfOf, recAt, descriptorOf}
+use Rattle.sound.specs.Table.{viewAt, File}
+use Rattle.sound.specs.Sound.{Sound}
 use Rattle.sound.specs.Kinship.{isChildNamed, childNamed, freeSlot, identifierFree, nameFree, fitsRoom}
-use Rattle.sound.specs.Effects.{GoodRecord, Creates, Deletes}
+use Rattle.sound.specs.Effects.{GoodRecord, Deletes}
 use Rattle.sound.proofs.Says.{child-says}
 use Rattle.sound.proofs.Created.{class-low, room-says}
 use Rattle.sound.proofs.FullTable.{slot-exists}
@@ -42,18 +41,17 @@ use Rattle.create_data.specs.declared.NewFile.{NewFile}
 use Rattle.create_data.specs.Good.{GoodFile, Good}
 use Rattle.create_data.proofs.Good.{good}
 use Rattle.verdict.specs.declared.State.{State}
-use Rattle.verdict.specs.declared.Verdict.{Verdict}
-use Rattle.verdict.specs.declared.Verdict.the-variants.{Refuse, Select, Create, Delete, SetLife}
+use Rattle.verdict.specs.declared.Verdict.the-variants.{Refuse, Create}
 use Rattle.verdict.specs.Applied.{sentData}
-use Rattle.effect.specs.Fit.{FieldSent, FileSent}
-use Rattle.judge_target.specs.Steps.{Step, step, allHold, Plan, followed}
-use Rattle.apdu.specs.Apdu.{instruction, fitLength, createFile}
+use Rattle.effect.specs.Fit.{FieldSent}
+use Rattle.judge_target.specs.Steps.{step, allHold, Plan, followed}
+use Rattle.apdu.specs.Apdu.{instruction, fitLength}
 use Rattle.judge.specs.Shared.{sharedSteps}
 use Rattle.judge_target.specs.Target.{currentFile, isFound, slotIn, describes, rightFor, newIdentifier, newName, newSize, newHead}
 use Rattle.judge_target.specs.Target.{newRecord}
 use Rattle.judge_target.specs.Target.{creating, selected}
 use Rattle.judge_create.specs.Creation.{admission, create}
-use Rattle.judge_commands.specs.Commands.{selecting, select, delete, activate, deactivate, terminateTheEf, terminateTheDf, terminateTheCard}
+use Rattle.judge_commands.specs.Commands.{selecting, select, delete}
 use Rattle.judge.specs.Judge.{lifePlan, planFor, judgeFor, judgeOf}
 use Rattle.judge_target.proofs.FromSound.{judgeable, selected-by, selected-stands}
 use Rattle.judge.proofs.Plans.{current-stands, create-long}

@@ -2,12 +2,11 @@
 -- judged" and the commands' paragraphs). The words, instructions and lengths are 01's own numbers, and a condition is a
 -- sentence about the bytes of the command and the records of the image: nothing here rests on the tests that judging makes.
 use mathlib.Core.Path.{_≡_}
-use mathlib.Core.Bool.{Bool, true}
+use mathlib.Core.Bool.{true}
 use mathlib.Core.List.{List, [], _∷_}
 use mathlib.Core.Logic.{_⊎_}
 use Prim.Native.Nat.{ℕ, _+_, _/_, _%_, _<_, _≤_}
 use lib.ListN.{length, getD}
-use Rattle.rules.specs.declared.Sets.{Sets}
 use Rattle.rules.specs.declared.Right.the-variants.{DeleteSelf, Terminate, Activate, Deactivate, DeleteChild}
 use Rattle.rules.specs.Life.{lifeOf, creation, initialisation, activated, deactivated, terminated}
 use Rattle.image.specs.Layout.{countOf, currentDfOf, currentEfOf, none}
@@ -18,7 +17,7 @@ use Rattle.create_data.specs.Grammar.{DfData, EfData}
 use Rattle.verdict.specs.declared.State.{State}
 use Rattle.verdict.specs.Applied.{sentData}
 use Rattle.judge_target.specs.Target.{currentFile, lifeAt, allowedAt, isFound, slotIn, selected, rightFor, newIdentifier, newName, newSize}
-use Rattle.apdu.specs.Apdu.{classByte, instruction, lc, sentIdentifier}
+use Rattle.apdu.specs.Apdu.{classByte, lc, sentIdentifier}
 
 pub record Ask : Type 1 where
   pub condition : Type 0

@@ -1,7 +1,7 @@
 -- Demands 1 and 2, as statements over what a call gives (specs/Command). Each is proved in proofs/Demands under
 -- the same name in small letters. What each command asks and does stands in specs/Obeyed.
 use mathlib.Core.Path.{_≡_}
-use mathlib.Core.Bool.{Bool, true, false}
+use mathlib.Core.Bool.{true, false}
 use mathlib.Core.List.{List, [], _∷_}
 use mathlib.Core.Logic.{_⊎_}
 use Prim.Native.Nat.{ℕ, _+_, _<_}

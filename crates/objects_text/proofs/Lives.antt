@@ -1,6 +1,6 @@
 -- What stands behind an object's tag and length: the life cycle in words, piece by piece, and how long it is.
 use native.Mathlib.Omega.{arith}
-use mathlib.Core.Path.{_≡_, refl, sym, _∙_}
+use mathlib.Core.Path.{_≡_, refl}
 use mathlib.Core.Bool.{Bool, true, false, cond, _&&_}
 use mathlib.Core.List.{List, [], _∷_}
 use Prim.Native.Nat.{ℕ, _+_, _-_, _*_, _/_, _%_, _≤_}
@@ -24,8 +24,13 @@ module _ {put r : ℕ} {o y : List ℕ} (class : ℕ) where
       → (class ≡ terminated → ⊥) → WroteAt put r o y (lifeWord 0) → WroteAt put r o y (lifeWord class)
   unfolding lifeWord
   class-unknown a b c d e w =
-      rw (ne-eqb class creation a, ne-eqb class initialisation b, ne-eqb class activated c, ne-eqb class deactivated d, ne-eqb class terminated e)
-      w
+      rw (
+        ne-eqb class creation a,
+        ne-eqb class initialisation b,
+        ne-eqb class activated c,
+        ne-eqb class deactivated d,
+        ne-eqb class terminated e,
+      ) w
 
 pub life-put : {put m r k a b class : ℕ} {o x y : List ℕ} (byte : ℕ) → k ≡ byte → a ≡ digitOf (k / 16) → b ≡ digitOf (k % 16)
     → class ≡ lifeOf byte → WroteAt put m o x (32 ∷ a ∷ b ∷ 32 ∷ []) → WroteAt m r x y (lifeWord class)

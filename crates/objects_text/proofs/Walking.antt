@@ -53,12 +53,12 @@ lines-stop (suc turns) s at h = simp h
 
 module _ {s out₀ : List ℕ} {from : ℕ} {out : List ℕ} {at put : ℕ} (g : Going s out₀ from out at put) where
   -- for the line of an object, and for the line where they stop
-  pub object-room : wholeAt s at ≡ true → put + 27 ≤ length out
-  object-room h =
+  pub object-fits : wholeAt s at ≡ true → put + 27 ≤ length out
+  object-fits h =
       omega (arith, same-room (g .written) (g .so-far), g .room, g .little, g .small, on s at h .0, on s at h .1)
 
-  pub stop-left : put + 9 ≤ length out
-  stop-left = omega (arith, same-room (g .written) (g .so-far), g .room, g .little, g .low)
+  pub stop-fits : put + 9 ≤ length out
+  stop-fits = omega (arith, same-room (g .written) (g .so-far), g .room, g .little, g .low)
 
   pub goes-on : (m to : ℕ) (y : List ℕ) → wholeAt s at ≡ true → to ≡ placeAfter s at → WroteAt put m out y (lineAt s at)
       → Going s out₀ from y to m

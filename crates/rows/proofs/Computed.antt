@@ -37,10 +37,10 @@ use Rattle.judge.specs.Judge.{lifePlan, planFor, judgeFor, judgeOf}
 use Rattle.card.specs.Command.{replyOf, imageOf}
 use Rattle.rows.specs.Rows.{rows, allGive, allSay, BothSides}
 use Rattle.rows.specs.Tries.{tried, found, SelectTries}
-use Rattle.rows.specs.Lives.{all, told, LivesTold}
+use Rattle.rows.specs.Lives.{lives, told, LivesTold}
 use Rattle.rows.specs.Fresh.{FreshBytes}
 
-computed : (x : Sets) → (allGive (rows x) ≡ allSay (rows x)) × (tried x ≡ found) × (all x ≡ told)
+computed : (x : Sets) → (allGive (rows x) ≡ allSay (rows x)) × (tried x ≡ found) × (lives x ≡ told)
 unfolding part splice sameList implies either allBelow anyBelow firstBelow sumBelow countBelow u16At u32At met fulfilled oneOf allOf
     holdsOf classOf hasRecords scAt slotsOf nextOf groupLength someGroup lifeOf knownLife newLife canActivate malformedAt wellFormed
     fitsRecord holdsAt allowsOf grantedOf goodIdentifier wholeRecords goodLength isTemplate bothGood nameGood newFile dfOf sizedEf efOf

@@ -1,5 +1,5 @@
--- Whole calls on cards that can exist, for the rows of 01 that are about commands: what is sent, the word that comes, and
--- what the image holds afterwards.
+-- Whole calls on cards that can exist, for the tables of this crate that are about commands: what is sent, the word that comes,
+-- and what the image holds afterwards.
 use Prim.Native.Nat.{ℕ}
 use mathlib.Core.List.{List, [], _∷_}
 use Rattle.rules.specs.declared.Sets.{Sets}
@@ -42,11 +42,11 @@ createFile high low l size =
 abbrev pub createEf : ℕ → List ℕ
 createEf size = createFile 0x6F 0x07 0x05 size
 
--- .. of a DF that takes files, activated: its identifier, a total under 256
+-- .. of a DF that allows everything, activated: its identifier, a total under 256
 abbrev pub createDf : ℕ → ℕ → ℕ → List ℕ
 createDf high low total =
-    0x00 ∷ 0xE0 ∷ 0x00 ∷ 0x00 ∷ 0x19 ∷ 0x62 ∷ 0x17 ∷ 0x82 ∷ 0x02 ∷ 0x78 ∷ 0x21 ∷ 0x83 ∷ 0x02 ∷ high ∷ low ∷ 0x8A ∷ 0x01 ∷ 0x05
-    ∷ 0x8C ∷ 0x03 ∷ 0x06 ∷ 0x00 ∷ 0x00 ∷ 0x81 ∷ 0x02 ∷ 0x00 ∷ total ∷ 0xC6 ∷ 0x01 ∷ 0x00 ∷ []
+    0x00 ∷ 0xE0 ∷ 0x00 ∷ 0x00 ∷ 0x1E ∷ 0x62 ∷ 0x1C ∷ 0x82 ∷ 0x02 ∷ 0x78 ∷ 0x21 ∷ 0x83 ∷ 0x02 ∷ high ∷ low ∷ 0x8A ∷ 0x01 ∷ 0x05
+    ∷ 0x8C ∷ 0x08 ∷ 0x7F ∷ 0 ∷ 0 ∷ 0 ∷ 0 ∷ 0 ∷ 0 ∷ 0 ∷ 0x81 ∷ 0x02 ∷ 0x00 ∷ total ∷ 0xC6 ∷ 0x01 ∷ 0x00 ∷ []
 
 abbrev pub selectFile : ℕ → ℕ → List ℕ
 selectFile high low = 0x00 ∷ 0xA4 ∷ 0x00 ∷ 0x0C ∷ 0x02 ∷ high ∷ low ∷ []
@@ -59,6 +59,12 @@ deactivateFile = 0x00 ∷ 0x04 ∷ 0x00 ∷ 0x00 ∷ []
 
 abbrev pub terminateEf : List ℕ
 terminateEf = 0x00 ∷ 0xE8 ∷ 0x00 ∷ 0x00 ∷ []
+
+abbrev pub terminateDf : List ℕ
+terminateDf = 0x00 ∷ 0xE6 ∷ 0x00 ∷ 0x00 ∷ []
+
+abbrev pub terminateCard : List ℕ
+terminateCard = 0x00 ∷ 0xFE ∷ 0x00 ∷ 0x00 ∷ []
 
 -- a card of two slots whose one file, the root, has a life cycle; one of three whose current EF, in slot 1, has it; one of four whose
 -- current DF, in slot 1, has it, with room for a file of one byte

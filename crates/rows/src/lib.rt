@@ -1,2 +1,3 @@
-// Both sides of each line (01): the rows W1 to W10 as one table, with one theorem over it. No code. It stands above
-// every crate whose definitions a row asks.
+// What computes, beside what the documents say: the rows W1 to W10 (01 "Both sides of each line") as one table with one theorem,
+// SELECT's tries, every life-cycle byte through whole calls (02 Ticket 1), and a fresh card byte by byte. No code. It stands
+// above every crate whose definitions a row asks.

@@ -7,7 +7,8 @@ use mathlib.Core.List.{List, [], _∷_, _++_}
 use lib.Dec.{eqb}
 use Rattle.laws.specs.Walks.{countBelow, sumBelow}
 use Rattle.rules.specs.Descriptor.{classOf, df, ef, neither}
-use Rattle.rules.specs.Life.{lifeOf, knownLife, newLife, canActivate, isActivated, isDeactivated, isTerminated}
+use Rattle.rules.specs.Life.{lifeOf, creation, initialisation, activated, deactivated, terminated}
+use Rattle.rules.specs.Life.{knownLife, newLife, canActivate}
 
 -- how many descriptor bytes have a class
 abbrev pub howMany : ℕ → ℕ
@@ -23,8 +24,7 @@ abbrev pub these : ℕ → (ℕ → Bool) → List ℕ
 these zero p = []
 these (suc n) p = these n p ++ cond (p n) (n ∷ []) []
 
--- the life-cycle bytes that a record may hold; that CREATE takes; that ACTIVATE takes; those that are activated,
--- deactivated, terminated
+-- the life-cycle bytes that a record may hold; that CREATE takes; that ACTIVATE takes
 pub known-lives : these 256 knownLife ∷ these 256 newLife ∷ these 256 canActivate ∷ []
     ≡ (0x01 ∷ 0x03 ∷ 0x04 ∷ 0x05 ∷ 0x06 ∷ 0x07 ∷ 0x0C ∷ [])
     ∷ (0x01 ∷ 0x03 ∷ 0x04 ∷ 0x05 ∷ 0x06 ∷ 0x07 ∷ [])
@@ -33,7 +33,11 @@ pub known-lives : these 256 knownLife ∷ these 256 newLife ∷ these 256 canAct
 unfolding knownLife newLife canActivate lifeOf
 known-lives = refl
 
-pub classed-lives : these 256 isActivated ∷ these 256 isDeactivated ∷ these 256 isTerminated ∷ []
-    ≡ (0x05 ∷ 0x07 ∷ []) ∷ (0x04 ∷ 0x06 ∷ []) ∷ (0x0C ∷ []) ∷ []
+-- those of each class
+abbrev pub livesIn : ℕ → List ℕ
+livesIn class = these 256 (λ x. eqb (lifeOf x) class)
+
+pub classed-lives : livesIn creation ∷ livesIn initialisation ∷ livesIn activated ∷ livesIn deactivated ∷ livesIn terminated ∷ []
+    ≡ (0x01 ∷ []) ∷ (0x03 ∷ []) ∷ (0x05 ∷ 0x07 ∷ []) ∷ (0x04 ∷ 0x06 ∷ []) ∷ (0x0C ∷ []) ∷ []
 unfolding lifeOf
 classed-lives = refl

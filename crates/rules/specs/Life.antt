@@ -57,7 +57,7 @@ isTerminated x = eqb (lifeOf x) terminated
 unfoldable pub knownLife : ℕ → Bool
 knownLife x = not (eqb (lifeOf x) noLife)
 
--- CREATE FILE takes it: any but a terminated one
+-- CREATE FILE takes it: any known one but a terminated
 unfoldable pub newLife : ℕ → Bool
 newLife x = knownLife x && not (isTerminated x)
 

@@ -6,6 +6,12 @@ use model::State;
 
 use crate::smaller::{cut, freed, lifted, packed, slots_of, tightened};
 
+/// The free records that packing leaves, and the room that tightening does:
+/// none, or enough that a CREATE can still succeed. They are tried after each
+/// width, so that the narrower ones have a shorter image to work on.
+const SPARE: [usize; 2] = [0, 1];
+const ROOMS: [u32; 4] = [0, 128, 512, 4096];
+
 /// What counts as smaller: fewer bytes, then more plain ones among them, then a
 /// plainer state.
 pub fn weight(line: &Line) -> (usize, usize, usize) {
@@ -58,8 +64,8 @@ pub fn pieces_of(line: &Line) -> Vec<Piece> {
     for width in halves(slots) {
         all.extend((1..slots).rev().step_by(width).map(|slot| Piece::Free(slot, width)));
         all.extend((1..slots).rev().step_by(width).map(|slot| Piece::Lift(slot, width)));
-        all.extend([0, 1].map(Piece::Pack));
-        all.extend([0, 128, 512, 4096].map(Piece::Tighten));
+        all.extend(SPARE.map(Piece::Pack));
+        all.extend(ROOMS.map(Piece::Tighten));
     }
     for width in halves(bytes) {
         all.extend((0..bytes).rev().step_by(width).map(|at| Piece::Remove(at, width)));

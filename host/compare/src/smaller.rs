@@ -13,6 +13,8 @@ const LEVEL: usize = 8;
 const RECORD_LENGTH: usize = 10;
 const SIZE: usize = 12;
 const NO_EF: u16 = 0xFFFF;
+/// What a file costs its directory beside its size.
+const FILE_COST: u32 = 64;
 
 /// How many whole records the image has.
 pub fn slots_of(image: &[u8]) -> usize {
@@ -105,9 +107,9 @@ pub fn tightened(image: &[u8], room: u32) -> Option<Vec<u8>> {
         put_size(&mut smaller, at, least)?;
         let parent = usize::from(number(image, at_record(at) + PARENT)?);
         let cost = costs.get_mut(parent)?;
-        *cost = cost.checked_add(least)?.checked_add(64)?;
+        *cost = cost.checked_add(least)?.checked_add(FILE_COST)?;
     }
-    let slots = usize::try_from(size(&smaller, 0)?.div_ceil(64)).ok()? + 1;
+    let slots = usize::try_from(size(&smaller, 0)?.div_ceil(FILE_COST)).ok()? + 1;
     packed(&smaller, slots.saturating_sub(used.len()))
 }
 

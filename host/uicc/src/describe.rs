@@ -57,6 +57,9 @@ mod tests {
     fn life_cycles_have_words() {
         let told: Vec<_> = (0..=0xFF).filter(|&byte| life_cycle(byte) != "unknown").collect();
         assert_eq!(told, [0x01, 0x03, 0x04, 0x05, 0x06, 0x07, 0x0C]);
+        let words: std::collections::BTreeSet<_> =
+            told.iter().map(|&byte| life_cycle(byte)).collect();
+        assert_eq!(words.len(), told.len(), "{words:?}");
         for (byte, class) in [(0x06, "deactivated"), (0x07, "activated")] {
             assert_eq!(life_cycle(byte), format!("{class} ({byte:02X})"));
             assert_eq!(life_cycle(byte & !0x02), class);

@@ -82,9 +82,9 @@ same-length-6 c = search needs
 returns-6 : tie.Need-returns-6
 unfolding lifeWord
 returns-6 c =
-    class-unknown _ (c .before .before .before .before .before .before .before .before .before .if1 .left) (c .before .before .before .before .before .before .before .before .if2 .left)
-    (c .before .before .before .before .before .before .before .if3 .left) (c .before .before .before .before .before .before .if4 .left) (c .before .before .before .before .before .if5 .left)
-    (c .before .before .put6 .ensures)
+    let known = c .before .before .before .before .before in
+    class-unknown _ (known .before .before .before .before .if1 .left) (known .before .before .before .if2 .left)
+    (known .before .before .if3 .left) (known .before .if4 .left) (known .if5 .left) (c .before .before .put6 .ensures)
 
 pub put-class-spec : {M : Type 1} → statement M
 put-class-spec =

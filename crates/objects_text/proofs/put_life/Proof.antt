@@ -30,9 +30,9 @@ same-length c = search needs
 
 returns : tie.Need-returns
 returns c =
-    life-put _ (c .before .before .before .before .before .before .before .before .before .before .before .before .wide .ensures .0)
-    (c .before .before .before .before .before .before .before .before .before .before .before .digit .ensures)
-    (c .before .before .before .before .before .before .before .before .before .before .digit2 .ensures) (c .before .before .before .class .ensures)
+    let digits = c .before .before .before .before .before .before .before .before .before .before in
+    life-put _ (digits .before .before .wide .ensures .0) (digits .before .digit .ensures) (digits .digit2 .ensures)
+    (c .before .before .before .class .ensures)
     (c .before .before .before .before .before .before .before .put .ensures) (c .before .before .put-class .ensures)
 
 pub put-life-spec : {M : Type 1} → statement M

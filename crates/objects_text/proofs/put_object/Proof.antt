@@ -60,24 +60,24 @@ put-mark-requires c κs = search needs
 
 put-rest-requires : tie.Need-put-rest-requires
 put-rest-requires c κs =
-    let e = c .before .before .before .before .before .before .before .before .before .before .before .before .before .before .object .ensures in
-    let q = c .before .before .before .before .before .before .before .before .before .before .before .before .tag .given .1 in
-    (in-order _ _ _ e _ _ _ q, inside-data _ _ _ e _ _ _ q,
-    mark-room _ _ _ _ _ (c .before .before .before .put-mark .ensures) (c .before .before .before .before .before .before .before .before .before .before .before .before .before .before .before .before .before .pre .1))
+    let known = c .before .before .before .before .before .before .before .before .before .before .before in
+    let found = known .before .before .before in
+    (
+      in-order _ _ _ (found .object .ensures) _ _ _ (known .before .tag .given .1),
+      inside-data _ _ _ (found .object .ensures) _ _ _ (known .before .tag .given .1),
+      mark-room _ _ _ _ _ (c .before .before .before .put-mark .ensures) (found .before .before .before .pre .1),
+    )
 
 same-length : tie.Need-same-length
 same-length c = search needs
 
 returns-2 : tie.Need-returns-2
 returns-2 c =
-    line-put _ _ _
-    (c .before .before .before .before .before .before .before .before .before .before .before .before .before .before .before .before .before .object .ensures) _ _ _
-    (c .before .before .before .before .before .before .before .before .before .before .before .before .before .before .before .tag .given .1)
-    (c .before .before .before .before .before .before .before .before .before .before .before .before .before .wide .ensures .0)
-    (c .before .before .before .before .before .before .before .before .before .before .before .before .digit .ensures)
-    (c .before .before .before .before .before .before .before .before .before .before .before .digit2 .ensures)
-    (c .before .before .before .before .before .before .before .before .before .before .digit3 .ensures)
-    (c .before .before .before .before .before .before .before .before .before .digit4 .ensures)
+    let digits = c .before .before .before .before .before .before .before .before .before in
+    let known = digits .before .before .before .before .before in
+    line-put _ _ _ (known .before .before .before .object .ensures) _ _ _ (known .before .tag .given .1)
+    (digits .before .before .before .before .wide .ensures .0) (digits .before .before .before .digit .ensures)
+    (digits .before .before .digit2 .ensures) (digits .before .digit3 .ensures) (digits .digit4 .ensures)
     (c .before .before .before .before .before .before .put-mark .ensures) (c .before .before .put-rest .ensures)
 
 pub put-object-spec : {M : Type 1} → statement M

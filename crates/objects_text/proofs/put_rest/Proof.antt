@@ -30,7 +30,8 @@ same-length-2 c = search needs
 
 returns-2 : tie.Need-returns-2
 returns-2 c =
-    not-one _ _ _ _ (c .before .before .before .before .before .before .if1 .left) (c .before .before .before .before .before .if2 .taken) (c .before .before .put2 .ensures)
+    let taken = c .before .before .before .before .before in
+    not-one _ _ _ _ (taken .before .if1 .left) (taken .if2 .taken) (c .before .before .put2 .ensures)
 
 shared-slice-read-put-life : tie.Need-shared-slice-read-put-life
 shared-slice-read-put-life c = search needs
@@ -43,7 +44,8 @@ same-length-3 c = search needs
 
 returns-3 : tie.Need-returns-3
 returns-3 c =
-    one-life _ _ _ _ (c .before .before .before .before .before .before .if1 .left) (c .before .before .before .before .before .if2 .left) (c .before .before .put-life .ensures)
+    let left = c .before .before .before .before .before in
+    one-life _ _ _ _ (left .before .if1 .left) (left .if2 .left) (c .before .before .put-life .ensures)
 
 pub put-rest-spec : {M : Type 1} → statement M
 put-rest-spec =

@@ -2,7 +2,7 @@
 use mathlib.Core.Path.{sym, _∙_}
 use Prim.Native.Nat.{_-_}
 use borrow.Author.Needs.{needs}
-use Rattle.objects_text.proofs.Walking.{Going, start, object-room, stop-left, goes-on, less, ended, stop-room}
+use Rattle.objects_text.proofs.Walking.{Going, start, object-fits, stop-fits, goes-on, less, ended, stop-room}
 use Rattle.objects_text.proofs.walk.Statement.{statement}
 use Rattle.objects_text.proofs.walk.Tie as tie
 
@@ -21,7 +21,7 @@ is-whole-requires c κs = search needs
 put-object-requires : tie.Need-put-object-requires Inv-loop μ-loop
 put-object-requires c κs = (
   c .before .before .before .loop .inv .low,
-  object-room (c .before .before .before .loop .inv) (sym (c .before .before .is-whole .ensures) ∙ c .before .if1 .taken),
+  object-fits (c .before .before .before .loop .inv) (sym (c .before .before .is-whole .ensures) ∙ c .before .if1 .taken),
 )
 
 after-requires : tie.Need-after-requires Inv-loop μ-loop
@@ -40,7 +40,7 @@ loop-again c =
     (c .after .ensures) (c .before .before .before .put-object .ensures)
 
 put-stop-requires : tie.Need-put-stop-requires Inv-loop μ-loop
-put-stop-requires c κs = (c .before .before .before .loop .inv .low, stop-left (c .before .before .before .loop .inv))
+put-stop-requires c κs = (c .before .before .before .loop .inv .low, stop-fits (c .before .before .before .loop .inv))
 
 same-length : tie.Need-same-length Inv-loop μ-loop
 same-length c = stop-room (c .before .before .before .before .before .before .loop .inv) _ _ (c .before .before .put-stop .ensures)

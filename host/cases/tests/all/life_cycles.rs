@@ -1,5 +1,6 @@
-//! The generator shows what 06 and 07 do in every command (02, Ticket 1), in
-//! histories and on images, and bad life-cycle bytes where it means to.
+//! The generator shows what 06 and 07 do in every command that asks a life
+//! cycle (02, Ticket 1), in histories and on images, and bad life-cycle bytes
+//! where it means to.
 
 use std::collections::{BTreeMap, BTreeSet};
 

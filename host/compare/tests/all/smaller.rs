@@ -1,11 +1,13 @@
-//! Smaller images: a sound image stays sound, and any bytes give an image or
-//! nothing.
+//! Smaller images: a sound image stays sound where nothing stands against it,
+//! and any bytes give an image or nothing.
 
+use cases::damage::{damaged, Field};
 use cases::images::sound_image;
 use cases::random::Random;
 use cases::worst;
 use compare::smaller::{cut, freed, lifted, packed, slots_of, tightened};
 use model::soundness::{sound, sound_card};
+use model::Card;
 
 /// Sound images of many shapes, the worst cards among them.
 fn images() -> impl Iterator<Item = Vec<u8>> {
@@ -14,65 +16,112 @@ fn images() -> impl Iterator<Item = Vec<u8>> {
     worst.chain((0..400).map(move |_| sound_image(&mut random)))
 }
 
+fn decoded(image: &[u8]) -> Card {
+    Card::decode(image).expect("it has the length of an image")
+}
+
+/// Packing cuts the root's total to what so few slots allow; where its files
+/// cost no more than that, the image stays sound.
 #[test]
-fn packing_and_tightening_keep_an_image_sound() {
-    let mut shorter = [0; 4];
+fn packing_keeps_an_image_sound() {
+    let (mut kept, mut cut) = (0, 0);
     for image in images() {
-        let made =
-            [packed(&image, 0), packed(&image, 1), tightened(&image, 0), tightened(&image, 500)];
-        for (smaller, count) in made.into_iter().zip(&mut shorter) {
-            let Some(smaller) = smaller else { continue };
-            assert!(sound(&smaller) || total_no_longer_fits(&image, &smaller), "{smaller:02X?}");
+        let charged = decoded(&image).charged(0);
+        for smaller in [0, 1].into_iter().filter_map(|spare| packed(&image, spare)) {
+            let fits = charged <= 64 * (slots_of(&smaller) as u64 - 1);
+            assert_eq!(sound(&smaller), fits, "{smaller:02X?}");
             assert!(smaller.len() < image.len());
-            *count += 1;
+            *(if fits { &mut kept } else { &mut cut }) += 1;
         }
     }
-    assert!(shorter.iter().all(|&count| count > 50), "{shorter:?}");
+    assert!(kept > 50 && cut > 50, "{kept} kept, {cut} cut");
 }
 
-/// Packing cuts the root's total to what so few slots allow.
-fn total_no_longer_fits(image: &[u8], smaller: &[u8]) -> bool {
-    let card = sound_card(image).expect("the images are sound");
-    card.charged(0) > 64 * (slots_of(smaller) as u64 - 1)
+#[test]
+fn tightening_keeps_an_image_sound() {
+    let mut made = 0;
+    for image in images() {
+        for room in [0, 1, 500] {
+            let Some(smaller) = tightened(&image, room) else { continue };
+            let card = sound_card(&smaller).unwrap_or_else(|| panic!("{smaller:02X?}"));
+            assert!(card.room(card.current_df) >= u64::from(room));
+            assert_eq!(card.used_slots().count(), decoded(&image).used_slots().count());
+            made += 1;
+        }
+    }
+    assert!(made > 200, "{made}");
 }
 
-/// The nearest directory left takes what lay in the records that are gone; only
-/// an identifier that stands there already can make the image unsound.
+/// Whether two files of one directory, or a file and a directory above it, have
+/// one identifier: the only thing that lifting can break.
+fn clashes(card: &Card) -> bool {
+    let files: Vec<_> = card.used_slots().filter(|&slot| slot != 0).collect();
+    let of = |slot: usize| card.record(slot).identifier;
+    files.iter().any(|&slot| {
+        let beside = |&other: &usize| other != slot && card.parent(other) == card.parent(slot);
+        let mut above = std::iter::successors(Some(card.parent(slot)), |&up| {
+            (up != 0).then(|| card.parent(up))
+        });
+        files.iter().filter(|other| beside(other)).any(|&other| of(other) == of(slot))
+            || above.any(|up| of(up) == of(slot))
+    })
+}
+
+/// What lay in the records that are gone lies in the nearest directory that is
+/// left, one level beneath it.
 #[test]
 fn lifting_keeps_what_lies_beneath() {
-    let (mut kept, mut clashes) = (0, 0);
+    let (mut kept, mut clashing) = (0, 0);
     for image in images() {
-        for slot in 1..slots_of(&image) {
-            let lifted = lifted(&image, slot, 1).expect("it is an image");
-            let used =
-                |image: &[u8]| (0..slots_of(image)).filter(|at| image[16 + 64 * at] != 0).count();
-            let gone = usize::from(image[16 + 64 * slot] != 0);
-            assert_eq!(used(&lifted), used(&image) - gone);
-            if sound(&lifted) {
-                kept += 1;
-            } else {
-                clashes += 1;
+        let before = decoded(&image);
+        for (slot, count) in (1..slots_of(&image)).flat_map(|slot| [(slot, 1), (slot, 3)]) {
+            let gone = slot..slot + count;
+            let beneath = |&file: &usize| {
+                file != 0 && !gone.contains(&file) && gone.contains(&before.parent(file))
+            };
+            let orphans: Vec<_> = before.used_slots().filter(beneath).collect();
+            if orphans.is_empty() {
+                continue;
             }
+            let smaller = lifted(&image, slot, count).expect("it is an image");
+            let after = decoded(&smaller);
+            for file in orphans {
+                let up = std::iter::successors(Some(file), |&at| Some(before.parent(at)));
+                let left = up.skip(1).find(|at| !gone.contains(at)).expect("the root is left");
+                assert_eq!(after.parent(file), left);
+                assert_eq!(after.record(file).level, after.record(left).level + 1);
+            }
+            assert_eq!(sound(&smaller), !clashes(&after), "{smaller:02X?}");
+            *(if sound(&smaller) { &mut kept } else { &mut clashing }) += 1;
         }
     }
-    assert!(kept > 1000 && clashes * 10 < kept, "{kept} sound, {clashes} not");
+    assert!(kept > 500 && clashing > 5, "{kept} sound, {clashing} not");
 }
 
 #[test]
 fn any_bytes_give_an_image_or_nothing() {
     let mut random = Random::new(12);
-    for _ in 0..20_000 {
-        let length = random.below(400);
-        let bytes = random.bytes(length);
+    let mut made = 0;
+    for _ in 0..5_000 {
+        let card = cases::images::sound_card(&mut random);
+        let field = *random.choose(&Field::ALL).expect("there are fields");
+        let mut bytes = damaged(&mut random, &card, field);
+        if random.chance(20) {
+            bytes.truncate(random.below(400));
+        }
         let (slot, count) = (random.below(8), random.below(8));
-        let room = random.number32();
-        let made = [
+        let all = [
             cut(&bytes, slot),
             freed(&bytes, slot, count),
             lifted(&bytes, slot, count),
             packed(&bytes, slot),
-            tightened(&bytes, room),
+            tightened(&bytes, random.number32()),
+            tightened(&bytes, 64),
         ];
-        assert!(made.into_iter().flatten().all(|image| image.len() <= bytes.len()));
+        for image in all.into_iter().flatten() {
+            assert!(image.len() <= bytes.len());
+            made += 1;
+        }
     }
+    assert!(made > 5_000, "{made}");
 }

@@ -1,5 +1,5 @@
-//! The readings that a case can show: READINGS A1 to A33 of the base, A36 of
-//! Ticket 1. Those on soundness are in soundness.rs, on CREATE's data in
+//! The readings that a case can show: A1 to A33 of the base, A36 of Ticket 1,
+//! which docs/DECISIONS.md has in words. Those on soundness are in soundness.rs, on CREATE's data in
 //! create_data.rs, on the order in order.rs, on replay in scope.rs.
 
 use crate::common::*;

@@ -122,7 +122,7 @@ fn a_changed_result_does_not_agree() {
 
 /// The bytes 06 and 07 that a command met: of the file that it selects or
 /// would change; for CREATE "in" a directory, and "of" a new file. Only where
-/// the word tells that life cycles were asked.
+/// the word is one that life cycles can give; 6985 has other reasons too.
 fn met_with_b2(instruction: &str, case: &str, result: &str) -> String {
     let card_in = |line: &str, field: usize| {
         let image = line.split(' ').nth(field).and_then(from_hex)?;
