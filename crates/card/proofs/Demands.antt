@@ -40,7 +40,6 @@ use Rattle.card.proofs.Tells.{Tells, sound-applied}
 use Rattle.card.proofs.Telling.{judge-tells}
 use Rattle.card.proofs.Speaks.{Spoken, judge-speaks, plan-acts, succeeds}
 use Rattle.card.proofs.After.{records-after, front-after, current-after, df-after, ef-after}
-use Rattle.card.proofs.Alive.{Alive, judge-alive}
 use Rattle.card.proofs.Words.{judge-worded, judge-warns}
 use Rattle.card.proofs.Ordered.{Erases, Ordered, judge-ordered}
 
@@ -171,20 +170,20 @@ module _ (img c : List ℕ) (s : ℕ) (used : kindOf (recAt img s) ≡ 0 → ⊥
   Stays : Verdict → List ℕ → Type 0
   Stays v r = (Erases img s v × (r ≡ freeBytes)) ⊎ (r ≡ recAt img s)
 
-  verdict-stays : (v : Verdict) → Tells img c v → Alive img v → Stays v (recordAfter img c v s)
+  verdict-stays : (v : Verdict) → Tells img c v → Ordered img c v → Stays v (recordAfter img c v s)
   unfolding Stays
-  verdict-stays (Refuse w) k a = inr refl
-  verdict-stays (Select d e w) k a = inr refl
-  verdict-stays (Create x) k a =
+  verdict-stays (Refuse w) k o = inr refl
+  verdict-stays (Select d e w) k o = inr refl
+  verdict-stays (Create x) k o =
       inr (rw (ne-eqb s (x .slot) (λ e. used (ap (λ (i : ℕ). kindOf (recAt img i)) e ∙ new-free img (x .slot) (x .head) _ _ (k .1)))))
-  verdict-stays (Delete x) k a = go (atOrBeneath (viewAt img) x s) refl
+  verdict-stays (Delete x) k o = go (atOrBeneath (viewAt img) x s) refl
     where
       go : (b : Bool) → atOrBeneath (viewAt img) x s ≡ b
           → ((atOrBeneath (viewAt img) x s ≡ true) × (cond b freeBytes (recAt img s) ≡ freeBytes))
           ⊎ (cond b freeBytes (recAt img s) ≡ recAt img s)
       go true e = inl (e, refl)
       go false e = inr refl
-  verdict-stays (SetLife x life) k a = inr (rw (ne-eqb s x (λ e. a (rw e at dead))))
+  verdict-stays (SetLife x life) k o = inr (rw (ne-eqb s x (λ e. o .2 (rw e at dead))))
 
 -- only a DELETE that was carried out erases
 deleting : (img c : List ℕ) (st : State) (s : ℕ) → Sound img → (v : Verdict) → judgeOf img c st ≡ v → Erases img s v → Ordered img c v
@@ -201,7 +200,7 @@ unfolding Stays
 terminated-stays img c st s sound low used dead =
     let e = effect-and-no-other img c st sound .records s low in
     ⊎-elim (λ f. inl (deleting img c st s sound (judgeOf img c st) refl (f .0) (judge-ordered img c st), e ∙ f .1)) (λ f. inr (e ∙ f))
-    (verdict-stays img c s used dead (judgeOf img c st) (tells img c st sound) (judge-alive img c st))
+    (verdict-stays img c s used dead (judgeOf img c st) (tells img c st sound) (judge-ordered img c st))
 
 pub terminated-for-good : TerminatedForGood
 unfolding terminatedAt

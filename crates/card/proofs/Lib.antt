@@ -8,7 +8,6 @@ pub mod Speaks
 pub mod Words
 pub mod Ordered
 pub mod After
-pub mod Alive
 pub mod Demands
 pub mod Obeyed
 pub mod Lives

@@ -69,16 +69,14 @@ changes img c st s low = go (soundb img) refl
         (verdict-changes img c s (length-record img s (omega (arith, sound-sized img sound))) (judgeOf img c st) (judge-ordered img c st))
     go false q = inl (ap (λ (x : List ℕ). lifeAt x s) (damaged-refused img c st q .2))
 
--- a life-cycle command is neither DELETE nor CREATE
-no-delete : (i : ℕ) → LifeCommand i → i ≡ 0xE4 → ⊥
-no-delete i h e = false≢true (rw e at h)
-
-no-create : (i : ℕ) → LifeCommand i → i ≡ 0xE0 → ⊥
-no-create i h e = false≢true (rw e at h)
+-- a life-cycle command is none that isn't one, such as DELETE and CREATE
+no-other : (i k : ℕ) → LifeCommand i → (LifeCommand k → ⊥) → i ≡ k → ⊥
+no-other i k h z e = z (rw e at h)
 
 pub transitions-write : TransitionsWrite
 transitions-write img c st s low command = ⊎-elim inl
-    (λ g. ⊎-elim inr (λ h. ⊎-elim (λ k. absurd (no-delete _ command (k .0))) (λ k. absurd (no-create _ command k)) h) g)
+    (λ g. ⊎-elim inr
+    (λ h. ⊎-elim (λ k. absurd (no-other _ 0xE4 command false≢true (k .0))) (λ k. absurd (no-other _ 0xE0 command false≢true k)) h) g)
     (changes img c st s low)
 
 -- what a command writes is neither 06 nor 07

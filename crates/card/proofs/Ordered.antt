@@ -1,17 +1,20 @@
 -- What a verdict has from its command: SELECT alone selects; CREATE alone creates, in the free slot, with the life cycle that was sent;
--- DELETE alone erases, and the child that it names; every other effect writes the byte of its command.
+-- DELETE alone erases, and the child that it names; every other effect writes the byte of its command, and never into a terminated
+-- file.
 use mathlib.Core.Path.{_≡_, refl}
 use mathlib.Core.Bool.{true}
 use mathlib.Core.List.{List}
-use Prim.Native.Nat.{ℕ}
+use Prim.Native.Nat.{ℕ, suc}
+use native.Mathlib.Omega.{arith}
 use lib.Dec.{eqb}
 use borrow.Author.Tests.{ne-eqb}
 use Rattle.laws.specs.declared.Found.the-variants.{At}
-use Rattle.laws.proofs.Says.{and-says}
+use Rattle.laws.proofs.Walks.{any-at}
+use Rattle.laws.proofs.Says.{and-says, not-says}
 use Rattle.rules.specs.Descriptor.{df}
 use Rattle.image.specs.Layout.{countOf, currentDfOf}
-use Rattle.sound.specs.Table.{viewAt}
-use Rattle.sound.specs.Kinship.{childNamed, freeSlot, atOrBeneath}
+use Rattle.sound.specs.Table.{viewAt, up, upward}
+use Rattle.sound.specs.Kinship.{childNamed, freeSlot, atOrBeneath, terminatedAt, terminatedUp}
 use Rattle.create_data.specs.declared.Data.{Data}
 use Rattle.create_data.specs.declared.Data.the-variants.{Df, Ef, Bad}
 use Rattle.create_data.specs.Data.{dataOf}
@@ -49,7 +52,12 @@ Ordered img c (Select d e w) = instruction c ≡ 0xA4
 Ordered img c (Create x) =
     (instruction c ≡ 0xE0) × (x .slot ≡ slotIn (freeSlot (countOf img) (viewAt img))) × (x .head .life ≡ sentLife (dataOf (sentData c)))
 Ordered img c (Delete x) = (instruction c ≡ 0xE4) × (childNamed (countOf img) (viewAt img) (currentDfOf img) (sentIdentifier c) ≡ At x)
-Ordered img c (SetLife x life) = (instruction c ≡ 0xE0 → ⊥) × (life ≡ writtenBy (instruction c))
+Ordered img c (SetLife x life) = (instruction c ≡ 0xE0 → ⊥) × (life ≡ writtenBy (instruction c)) × (terminatedAt img x ≡ true → ⊥)
+
+-- the file itself is the first on its way up
+alive : (img : List ℕ) (t : ℕ) → (terminatedUp img t ≡ true → ⊥) → terminatedAt img t ≡ true → ⊥
+unfolding terminatedUp upward up
+alive img t z e = z (any-at (λ k. terminatedAt img (up (viewAt img) k t)) (suc (viewAt img t .level)) 0 (omega arith) e)
 
 module _ (img c : List ℕ) (st : State) where
   refused : (w : ℕ) → anyWord w ≡ true → Ordered img c (Refuse w)
@@ -72,23 +80,31 @@ module _ (img c : List ℕ) (st : State) where
   OrderedThen : Plan → Type 0
   OrderedThen p = Ordered img c (followed p)
 
-  plan-ordered : Ordered img c (followed (planFor img (countOf img) (currentDfOf img) c st))
+  plan-ordered : (terminatedAt img 0 ≡ true → ⊥) → Ordered img c (followed (planFor img (countOf img) (currentDfOf img) c st))
   unfolding planFor lifePlan OrderedThen
-  plan-ordered =
+  plan-ordered root =
       chosen-by OrderedThen (instruction c) _ _ _ (λ e. followed-by (Ordered img c) anyWord refused _ refl (λ a. selecting-ordered e _ _))
       (λ z. chosen-by OrderedThen (instruction c) _ _ _
       (λ e. followed-by (Ordered img c) anyWord refused _ refl (λ a. creating-ordered e (dataOf (sentData c)) refl))
       (λ not-create. chosen-by OrderedThen (instruction c) _ _ _
       (λ e. followed-by (Ordered img c) anyWord refused _ refl (λ a. (e, found-at _ (and-says _ _ .0 a .0))))
-      (λ z. chosen-by OrderedThen (instruction c) _ _ _ (λ e. followed-by (Ordered img c) anyWord refused _ refl (λ a. (not-create, rw e)))
-      (λ not-activate. chosen-by OrderedThen (instruction c) _ _ _
-      (λ e. followed-by (Ordered img c) anyWord refused _ refl (λ a. (not-create, rw e)))
-      (λ not-deactivate. chosen-by OrderedThen (instruction c) _ _ _
-      (λ e. followed-by (Ordered img c) anyWord refused _ refl (λ a. (not-create, ends (instruction c) not-activate not-deactivate)))
       (λ z. chosen-by OrderedThen (instruction c) _ _ _
-      (λ e. followed-by (Ordered img c) anyWord refused _ refl (λ a. (not-create, ends (instruction c) not-activate not-deactivate)))
-      (λ z. followed-by (Ordered img c) anyWord refused _ refl (λ a. (not-create, ends (instruction c) not-activate not-deactivate)))))))))
+      (λ e. followed-by (Ordered img c) anyWord refused _ refl
+      (λ a. (not-create, rw e, alive img _ (not-says _ .0 ((simp and-says at a) .1 .0)))))
+      (λ not-activate. chosen-by OrderedThen (instruction c) _ _ _
+      (λ e. followed-by (Ordered img c) anyWord refused _ refl
+      (λ a. (not-create, rw e, alive img _ (not-says _ .0 ((simp and-says at a) .1 .0)))))
+      (λ not-deactivate. chosen-by OrderedThen (instruction c) _ _ _
+      (λ e. followed-by (Ordered img c) anyWord refused _ refl
+      (λ a. (not-create, ends (instruction c) not-activate not-deactivate, alive img _ (not-says _ .0 ((simp and-says at a) .1 .1 .0)))))
+      (λ z. chosen-by OrderedThen (instruction c) _ _ _
+      (λ e. followed-by (Ordered img c) anyWord refused _ refl
+      (λ a. (not-create, ends (instruction c) not-activate not-deactivate, alive img _ (not-says _ .0 ((simp and-says at a) .1 .1 .0)))))
+      (λ z. followed-by (Ordered img c) anyWord refused _ refl
+      (λ a. (not-create, ends (instruction c) not-activate not-deactivate, root)))))))))
 
   pub judge-ordered : Ordered img c (judgeOf img c st)
   unfolding judgeOf judgeFor
-  judge-ordered = judged-by (Ordered img c) anyWord refused (sharedSteps img c st) _ refl (λ a. plan-ordered)
+  judge-ordered =
+      judged-by (Ordered img c) anyWord refused (sharedSteps img c st) _ refl
+      (λ a. plan-ordered (not-says _ .0 ((simp and-says at a) .1 .1 .1 .1 .0)))
