@@ -10,7 +10,7 @@ use Rattle.rules.specs.Life.{lifeOf, creation, initialisation, activated, deact
 abbrev pub hex : ℕ → List ℕ
 hex b = digitOf (b / 16) ∷ digitOf (b % 16) ∷ []
 
--- a place, and a word behind it
+-- a place or a byte, and a word behind it
 unfoldable pub markLine : ℕ → List ℕ → List ℕ
 markLine at word = hex at ++ (32 ∷ []) ++ word
 
@@ -49,4 +49,4 @@ lifeWord class =
 
 -- a life-cycle byte, and its life cycle in words
 unfoldable pub lifeLine : ℕ → List ℕ
-lifeLine b = (32 ∷ hex b ++ (32 ∷ [])) ++ lifeWord (lifeOf b)
+lifeLine b = markLine b (lifeWord (lifeOf b))

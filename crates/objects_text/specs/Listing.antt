@@ -21,7 +21,7 @@ isWhole (Whole tag start end) = true
 
 -- what stands behind tag and length: of 8A its life cycle, if it is one byte; else the line ends
 unfoldable pub restOf : List ℕ → ℕ → ℕ → ℕ → List ℕ
-restOf s tag start end = cond (eqb tag 0x8A && eqb (end - start) 1) (lifeLine (getD s start 0)) (10 ∷ [])
+restOf s tag start end = cond (eqb tag 0x8A && eqb (end - start) 1) ((32 ∷ []) ++ lifeLine (getD s start 0)) (10 ∷ [])
 
 abbrev pub lineOf : List ℕ → ℕ → Object → List ℕ
 lineOf s at Broken = []

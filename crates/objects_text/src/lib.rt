@@ -9,7 +9,7 @@ ghost use mathlib.Core.Path.{_≡_};
 ghost use Prim.Native.Nat.{_+_, _<_, _≤_};
 ghost use lib.ListN.{length};
 ghost use Rattle.text.specs.Written.{WroteAt, Wrote, Counted};
-ghost use Rattle.objects_text.specs.Lines.{markLine, lifeWord, lifeLine};
+ghost use Rattle.objects_text.specs.Lines.{markLine, lifeLine};
 ghost use Rattle.objects_text.specs.Listing.{wholeAt, restOf, lineAt, stopAt, linesFrom, headOf, readingOf, listOf};
 use create_data::Data;
 use create_data::judge;
@@ -17,7 +17,7 @@ use rules::life_cycle;
 use template::Object;
 use template::gather;
 
-// Writes a place in two hex digits, and a word behind it.
+// Writes a place or a byte in two hex digits, and a word behind it.
 fn put_mark(out: &mut [u8], put: usize, at: u16, word: &[u8]) -> usize
     requires { ⌜ (at < 256) × (put + 3 + length (now word) ≤ length (now out)) ⌝ }
     ensures { λ r. ⌜ WroteAt put r (now (out .entry)) (now (out .exit)) (markLine at (now (word .entry))) ⌝ }
@@ -38,39 +38,29 @@ fn is_whole(s: &[u8], at: usize) -> bool
     }
 }
 
-// Writes the life cycle of a class in words, to the end of the line.
-fn put_class(out: &mut [u8], put: usize, class: u16) -> usize
-    requires { ⌜ put + 15 ≤ length (now out) ⌝ }
-    ensures { λ r. ⌜ WroteAt put r (now (out .entry)) (now (out .exit)) (lifeWord class) ⌝ }
-{
-    if class == life_cycle::CREATION {
-        return text::put(out, put, b"creation\n");
-    }
-    if class == life_cycle::INITIALISATION {
-        return text::put(out, put, b"initialisation\n");
-    }
-    if class == life_cycle::ACTIVATED {
-        return text::put(out, put, b"activated\n");
-    }
-    if class == life_cycle::DEACTIVATED {
-        return text::put(out, put, b"deactivated\n");
-    }
-    if class == life_cycle::TERMINATED {
-        return text::put(out, put, b"terminated\n");
-    }
-    text::put(out, put, b"unknown\n")
-}
-
 // Writes a life-cycle byte, and its life cycle in words.
 fn put_life(out: &mut [u8], put: usize, x: u8) -> usize
-    requires { ⌜ put + 19 ≤ length (now out) ⌝ }
+    requires { ⌜ put + 18 ≤ length (now out) ⌝ }
     ensures { λ r. ⌜ WroteAt put r (now (out .entry)) (now (out .exit)) (lifeLine x) ⌝ }
 {
     let byte = numbers::wide(x);
-    let a = text::digit(byte / 16);
-    let b = text::digit(byte % 16);
-    let next = text::put(out, put, &[b' ', a, b, b' ']);
-    put_class(out, next, life_cycle::class(x))
+    let class = life_cycle::class(x);
+    if class == life_cycle::CREATION {
+        return put_mark(out, put, byte, b"creation\n");
+    }
+    if class == life_cycle::INITIALISATION {
+        return put_mark(out, put, byte, b"initialisation\n");
+    }
+    if class == life_cycle::ACTIVATED {
+        return put_mark(out, put, byte, b"activated\n");
+    }
+    if class == life_cycle::DEACTIVATED {
+        return put_mark(out, put, byte, b"deactivated\n");
+    }
+    if class == life_cycle::TERMINATED {
+        return put_mark(out, put, byte, b"terminated\n");
+    }
+    put_mark(out, put, byte, b"unknown\n")
 }
 
 // Writes what stands behind an object's tag and length: of 8A its life cycle, if it is one byte; else the line ends.
@@ -84,7 +74,8 @@ fn put_rest(s: &[u8], tag: u8, start: usize, end: usize, out: &mut [u8], put: us
     if end - start != 1 {
         return text::put(out, put, b"\n");
     }
-    put_life(out, put, s[start])
+    let next = text::put(out, put, b" ");
+    put_life(out, next, s[start])
 }
 
 // Writes the line of the object at a place: place, tag, length, and what stands behind. Nothing where none is whole.

@@ -7,7 +7,7 @@ use mathlib.Core.List.{List, [], _∷_, _++_}
 use lib.Dec.{eqb}
 use Rattle.laws.specs.Walks.{countBelow, sumBelow}
 use Rattle.rules.specs.Descriptor.{classOf, df, ef, neither}
-use Rattle.rules.specs.Life.{lifeOf, creation, initialisation, activated, deactivated, terminated}
+use Rattle.rules.specs.Life.{lifeOf, creation, initialisation, isActivated, isDeactivated, isTerminated}
 use Rattle.rules.specs.Life.{knownLife, newLife, canActivate}
 
 -- how many descriptor bytes have a class
@@ -33,11 +33,12 @@ pub known-lives : these 256 knownLife ∷ these 256 newLife ∷ these 256 canAct
 unfolding knownLife newLife canActivate lifeOf
 known-lives = refl
 
--- those of each class
+-- those of each class: creation, initialisation, activated, deactivated, terminated
 abbrev pub livesIn : ℕ → List ℕ
 livesIn class = these 256 (λ x. eqb (lifeOf x) class)
 
-pub classed-lives : livesIn creation ∷ livesIn initialisation ∷ livesIn activated ∷ livesIn deactivated ∷ livesIn terminated ∷ []
+pub classed-lives :
+    livesIn creation ∷ livesIn initialisation ∷ these 256 isActivated ∷ these 256 isDeactivated ∷ these 256 isTerminated ∷ []
     ≡ (0x01 ∷ []) ∷ (0x03 ∷ []) ∷ (0x05 ∷ 0x07 ∷ []) ∷ (0x04 ∷ 0x06 ∷ []) ∷ (0x0C ∷ []) ∷ []
 unfolding lifeOf
 classed-lives = refl

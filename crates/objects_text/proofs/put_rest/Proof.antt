@@ -33,6 +33,12 @@ returns-2 c =
     let taken = c .before .before .before .before .before in
     not-one _ _ _ _ (taken .before .if1 .left) (taken .if2 .taken) (c .before .before .put2 .ensures)
 
+slice-aggregate-put-3 : tie.Need-slice-aggregate-put-3
+slice-aggregate-put-3 c = search needs
+
+put-requires-3 : tie.Need-put-requires-3
+put-requires-3 c κs = search needs
+
 shared-slice-read-put-life : tie.Need-shared-slice-read-put-life
 shared-slice-read-put-life c = search needs
 
@@ -44,8 +50,9 @@ same-length-3 c = search needs
 
 returns-3 : tie.Need-returns-3
 returns-3 c =
-    let left = c .before .before .before .before .before in
-    one-life _ _ _ _ (left .before .if1 .left) (left .if2 .left) (c .before .before .put-life .ensures)
+    let left = c .before .before .before .before .before .before .before .before .before .before in
+    one-life _ _ _ _ (left .before .if1 .left) (left .if2 .left) (c .before .before .before .before .before .before .before .put3 .ensures)
+    (c .before .before .put-life .ensures)
 
 pub put-rest-spec : {M : Type 1} → statement M
 put-rest-spec =
@@ -60,6 +67,8 @@ put-rest-spec =
     put-requires-2
     same-length-2
     returns-2
+    slice-aggregate-put-3
+    put-requires-3
     shared-slice-read-put-life
     put-life-requires
     same-length-3
