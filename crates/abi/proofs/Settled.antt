@@ -1,26 +1,39 @@
 -- Any two results that a C function's promise allows are equal: each names one result; and the numbers that C sees.
-use mathlib.Core.Path.{_∙_}
+use mathlib.Core.Path.{_≡_, ap, _∙_}
 use mathlib.Core.Bool.{cond}
 use mathlib.Core.List.{List}
 use Prim.Native.Nat.{ℕ}
 use native.Mathlib.Omega.{arith}
-use Rattle.card.specs.Command.{replyOf}
-use Rattle.laws.proofs.Settling.{settled, pair-settled}
-use Rattle.abi.specs.Promises.{HullSound, EachSettles, HullNumbers}
+use lib.ListN.{length}
+use Rattle.card.specs.declared.Reply.{Reply}
+use Rattle.card.specs.declared.Reply.the-variants.{Word, Damaged, Short}
+use Rattle.card.specs.Command.{answerNumber, answerWord, replyOf}
+use Rattle.laws.proofs.Settling.{settled, both-are, pair-settled}
+use Rattle.abi.specs.Promises.{HullCommand, HullSound, EachSettles, HullNumbers}
+use Rattle.abi.specs.Numbers.{packed}
 
 pub each-settles : EachSettles
 each-settles = record {
   make = λ img total rule. pair-settled _ _;
-  command = λ img c st. pair-settled _ _;
+  command = λ img c st o.
+      settled (λ p. HullCommand img c st o (p .0) (p .1 .0) (p .1 .1 .0) (p .1 .1 .1)) (_, (_, (_, _)))
+      (λ p k. both-are _ _ p (k .result) (both-are _ _ (p .1) (k .image) (both-are _ _ (p .1 .1) (k .response-is) (k .numbers-are))));
   report = λ img. pair-settled _ _;
   sound = λ img. settled (HullSound img) _ (λ x e. e);
 }
 
+-- a reply's number, where its answer is 0
+word-only : (r : Reply) → answerNumber r ≡ 0 → packed r ≡ answerWord r
+word-only (Word w n) e = omega arith
+word-only Damaged e = absurd (omega arith)
+word-only Short e = absurd (omega arith)
+
 pub hull-numbers : HullNumbers
 unfolding replyOf
 hull-numbers = record {
-  damaged = λ img c st r left p e. p .0 ∙ rw e;
-  word = λ img c st r left p e. p .0 ∙ rw e (omega arith);
+  damaged = λ img c st o r left y numbers p e. p .result ∙ rw e;
+  short = λ img c st o r left y numbers p e. p .result ∙ ap packed e;
+  word = λ img c st o r left y numbers p e. p .result ∙ word-only (replyOf img c st (length o)) e;
   sound = λ img r p e. p ∙ rw e;
   unsound = λ img r p e. p ∙ rw e;
 }

@@ -1,8 +1,9 @@
 -- How the numbers of a C call stand for what 01 names: the state that a command is given, and its reply as one number.
 use Prim.Native.Nat.{ℕ, _+_, _*_}
+use mathlib.Core.List.{List, [], _∷_}
 use Rattle.verdict.specs.declared.State.{State}
 use Rattle.card.specs.declared.Reply.{Reply}
-use Rattle.card.specs.Command.{answerNumber, answerWord}
+use Rattle.card.specs.Command.{answerNumber, answerWord, answerTold}
 
 -- three sets, then the byte of open channels
 abbrev pub stateOf : ℕ → ℕ → ℕ → ℕ → State
@@ -14,3 +15,8 @@ stateOf m e u ch = record {
 -- the answer above the sixteen bits of the word
 abbrev pub packed : Reply → ℕ
 packed r = answerNumber r * 65536 + answerWord r
+
+-- what a command tells beside its word: how many bytes of data; two entries are kept for what a security refusal lacks and for the bytes
+-- moved (02 Tickets 6 and 8), and are 0
+abbrev pub toldNumbers : Reply → List ℕ
+toldNumbers r = answerTold r ∷ 0 ∷ 0 ∷ []

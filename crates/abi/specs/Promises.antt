@@ -4,19 +4,25 @@ use mathlib.Core.Path.{_≡_}
 use mathlib.Core.Bool.{true, false, cond}
 use mathlib.Core.List.{List}
 use Prim.Native.Nat.{ℕ}
+use lib.ListN.{length}
 use Rattle.laws.specs.Settled.{Settles}
 use Rattle.sound.specs.Sound.{soundb}
 use Rattle.maker.specs.Making.{madeNumber, madeOf, leftBy}
 use Rattle.maker.specs.Reporting.{reportedNumber, numbersOf, reportedOf}
 use Rattle.verdict.specs.declared.State.{State}
-use Rattle.card.specs.Command.{answerWord, replyOf, imageOf}
-use Rattle.abi.specs.Numbers.{packed}
+use Rattle.card.specs.declared.Reply.the-variants.{Short}
+use Rattle.card.specs.Command.{answerNumber, answerWord, replyOf, imageOf, responseOf}
+use Rattle.abi.specs.Numbers.{packed, toldNumbers}
 
 abbrev pub HullMake : List ℕ → ℕ → List ℕ → ℕ → List ℕ → Type 0
 HullMake img total rule r left = (r ≡ madeNumber (madeOf img total rule)) × (left ≡ leftBy (madeOf img total rule) img total rule)
 
-abbrev pub HullCommand : List ℕ → List ℕ → State → ℕ → List ℕ → Type 0
-HullCommand img c st r left = (r ≡ packed (replyOf img c st)) × (left ≡ imageOf img c st)
+-- a command: its number, the image, the response and the three numbers
+pub record HullCommand (img c : List ℕ) (st : State) (response : List ℕ) (r : ℕ) (left answered numbers : List ℕ) : Type 0 where
+  pub result : r ≡ packed (replyOf img c st (length response))
+  pub image : left ≡ imageOf img c st (length response)
+  pub response-is : answered ≡ responseOf img c st response
+  pub numbers-are : numbers ≡ toldNumbers (replyOf img c st (length response))
 
 abbrev pub HullReport : List ℕ → ℕ → List ℕ → Type 0
 HullReport img r numbers = (r ≡ reportedNumber (reportedOf img)) × (numbers ≡ numbersOf (reportedOf img))
@@ -27,16 +33,21 @@ HullSound img r = r ≡ cond (soundb img) 1 0
 
 pub record EachSettles : Type 0 where
   pub make : (img : List ℕ) (total : ℕ) (rule : List ℕ) → Settles (ℕ × List ℕ) (λ p. HullMake img total rule (p .0) (p .1))
-  pub command : (img c : List ℕ) (st : State) → Settles (ℕ × List ℕ) (λ p. HullCommand img c st (p .0) (p .1))
+  pub command : (img c : List ℕ) (st : State) (response : List ℕ)
+      → Settles (ℕ × (List ℕ × (List ℕ × List ℕ))) (λ p. HullCommand img c st response (p .0) (p .1 .0) (p .1 .1 .0) (p .1 .1 .1))
   pub report : (img : List ℕ) → Settles (ℕ × List ℕ) (λ p. HullReport img (p .0) (p .1))
   pub sound : (img : List ℕ) → Settles ℕ (HullSound img)
 
--- the numbers that C sees (`hull-numbers`): a command on a damaged image gives 65536, on a sound one its word; hull_sound gives 1
--- for a sound image and 0 for any other. Those of hull_make and hull_report are the maker's and the report's
+-- the numbers that C sees (`hull-numbers`): a command on a damaged image gives 65536, one whose data don't fit 327680, any other its
+-- word; hull_sound gives 1 for a sound image and 0 for any other. Those of hull_make and hull_report are the maker's and the report's
 -- (maker/specs, `MakerAnswers`, `ReportAnswers`)
 pub record HullNumbers : Type 0 where
-  pub damaged : (img c : List ℕ) (st : State) (r : ℕ) (left : List ℕ) → HullCommand img c st r left → soundb img ≡ false → r ≡ 65536
-  pub word : (img c : List ℕ) (st : State) (r : ℕ) (left : List ℕ) → HullCommand img c st r left → soundb img ≡ true
-      → r ≡ answerWord (replyOf img c st)
+  pub damaged : (img c : List ℕ) (st : State) (response : List ℕ) (r : ℕ) (left answered numbers : List ℕ)
+      → HullCommand img c st response r left answered numbers → soundb img ≡ false → r ≡ 65536
+  pub short : (img c : List ℕ) (st : State) (response : List ℕ) (r : ℕ) (left answered numbers : List ℕ)
+      → HullCommand img c st response r left answered numbers → replyOf img c st (length response) ≡ Short → r ≡ 327680
+  pub word : (img c : List ℕ) (st : State) (response : List ℕ) (r : ℕ) (left answered numbers : List ℕ)
+      → HullCommand img c st response r left answered numbers → answerNumber (replyOf img c st (length response)) ≡ 0
+      → r ≡ answerWord (replyOf img c st (length response))
   pub sound : (img : List ℕ) (r : ℕ) → HullSound img r → soundb img ≡ true → r ≡ 1
   pub unsound : (img : List ℕ) (r : ℕ) → HullSound img r → soundb img ≡ false → r ≡ 0

@@ -22,18 +22,21 @@ pub extern "C" fn hull_make(image: &mut [u8], total: u32, rule: &[u8]) -> u32
     }
 }
 
-// One command on an image: 65536 times the answer, plus the word.
+// One command on an image: 65536 times the answer, plus the word; what it tells at the start of the response, and how many bytes that
+// is in the first of three numbers.
 #[no_mangle]
 pub extern "C" fn hull_command(
     image: &mut [u8],
     command: &[u8],
+    response: &mut [u8],
     messaging: u16,
     external: u16,
     user: u16,
     channels: u8,
+    numbers: &mut [u32; 3],
 ) -> u32
     ensures { λ r. ⌜ HullCommand (now (image .entry)) (now (command .entry)) (stateOf messaging external user channels)
-        r (now (image .exit)) ⌝ }
+        (now (response .entry)) r (now (image .exit)) (now (response .exit)) (now (numbers .exit)) ⌝ }
 {
     let sets = Sets {
         messaging: messaging,
@@ -44,10 +47,20 @@ pub extern "C" fn hull_command(
         sets: sets,
         channels: channels,
     };
-    let reply = card::command(image, command, state);
+    let reply = card::command(image, command, response, state);
     match reply {
-        Reply::Word(word) => word as u32,
-        Reply::Damaged => 65536,
+        Reply::Word { word, told } => {
+            *numbers = [told as u32, 0, 0];
+            word as u32
+        }
+        Reply::Damaged => {
+            *numbers = [0, 0, 0];
+            65536
+        }
+        Reply::Short => {
+            *numbers = [0, 0, 0];
+            327680
+        }
     }
 }
 

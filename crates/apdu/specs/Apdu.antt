@@ -71,12 +71,16 @@ otherChannel st = not (eqb (st .channels / 2 % 8) 0)
 unfoldable pub crowded : ℕ → State → Bool
 crowded i st = wantsAlone i && otherChannel st
 
--- P1 P2 are 00 00, of SELECT 00 0C
-unfoldable pub wantedParameters : ℕ → ℕ
-wantedParameters i = cond (eqb i selectFile) 0x000C 0x0000
+-- SELECT's P2: 0C for no data, 04 for the template of the file
+unfoldable pub wantsTemplate : List ℕ → Bool
+wantsTemplate c = eqb (getD c 3 0) 0x04
+
+-- P1 P2 are 00 00, of SELECT 00 0C or 00 04
+unfoldable pub goodParameters : ℕ → ℕ → Bool
+goodParameters i p = cond (eqb i selectFile) (eqb p 0x000C || eqb p 0x0004) (eqb p 0x0000)
 
 unfoldable pub fitParameters : List ℕ → Bool
-fitParameters c = eqb (parameters c) (wantedParameters (instruction c))
+fitParameters c = goodParameters (instruction c) (parameters c)
 
 -- 5+Lc bytes with Lc at least 1; 7 bytes with Lc 2
 unfoldable pub hasData : List ℕ → Bool
@@ -85,11 +89,15 @@ hasData c = leb 6 (length c) && eqb (length c) (5 + lc c)
 unfoldable pub isSeven : List ℕ → Bool
 isSeven c = eqb (length c) 7 && eqb (lc c) 2
 
--- CREATE 5+Lc with Lc at least 1; DELETE, SELECT 7 with Lc 2; others 4
+-- 8 bytes with Lc 2 and Le 00
+unfoldable pub isEight : List ℕ → Bool
+isEight c = eqb (length c) 8 && (eqb (lc c) 2 && eqb (getD c 7 0) 0x00)
+
+-- CREATE 5+Lc with Lc at least 1; SELECT 8 with Lc 2 and Le 00 where P2 is 04, else 7 with Lc 2; DELETE 7 with Lc 2; others 4
 unfoldable pub fitLength : List ℕ → Bool
 fitLength c =
     cond (eqb (instruction c) createFile) (hasData c)
-    (cond (eqb (instruction c) selectFile) (isSeven c)
+    (cond (eqb (instruction c) selectFile) (cond (wantsTemplate c) (isEight c) (isSeven c))
     (cond (eqb (instruction c) deleteFile) (isSeven c)
     (eqb (length c) 4)))
 

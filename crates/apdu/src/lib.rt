@@ -1,11 +1,12 @@
 // The bytes of a command and the tests of the steps A to G, which all commands share (01 "The order in which a command
 // is judged"), and the parts of a command.
 ghost use mathlib.Core.Path.{_≡_};
+ghost use mathlib.Core.Bool.{cond};
 ghost use Prim.Native.Nat.{_≤_};
 ghost use lib.ListN.{length};
 ghost use Rattle.verdict.specs.Applied.{sentData};
-ghost use Rattle.apdu.specs.Apdu.{isTerminate, isKnown, wantsAlone, otherChannel, crowded, wantedParameters, fitParameters};
-ghost use Rattle.apdu.specs.Apdu.{isSeven, hasData, fitLength, onOtherChannel, sentIdentifier};
+ghost use Rattle.apdu.specs.Apdu.{isTerminate, isKnown, wantsAlone, otherChannel, crowded, wantsTemplate, goodParameters};
+ghost use Rattle.apdu.specs.Apdu.{fitParameters, isSeven, isEight, hasData, fitLength, onOtherChannel, sentIdentifier};
 use verdict::State;
 
 // The instructions of 01 by their names, the same as in specs/Apdu.
@@ -86,22 +87,34 @@ pub fn is_crowded(i: u8, state: State) -> bool
     other_channel(state)
 }
 
-// P1 P2 as the instruction wants them.
-fn wanted_parameters(i: u8) -> u16
-    ensures { λ r. ⌜ r ≡ wantedParameters i ⌝ }
+// Whether SELECT's P2 asks for the template.
+pub fn wants_template(command: &[u8]) -> bool
+    ensures { λ r. ⌜ r ≡ wantsTemplate (now (command .entry)) ⌝ }
+{
+    if command.len() < 4 {
+        return false;
+    }
+    command[3] == 0x04
+}
+
+// P1 P2, as one number, as the instruction wants them.
+fn good_parameters(i: u8, p: u16) -> bool
+    ensures { λ r. ⌜ r ≡ goodParameters i p ⌝ }
 {
     if i == SELECT_FILE {
-        return 0x000C;
+        if p == 0x000C {
+            return true;
+        }
+        return p == 0x0004;
     }
-    0x0000
+    p == 0x0000
 }
 
 pub fn fit_parameters(command: &[u8]) -> bool
     requires { ⌜ 4 ≤ length (now command) ⌝ }
     ensures { λ r. ⌜ r ≡ fitParameters (now (command .entry)) ⌝ }
 {
-    let i = command[1];
-    numbers::u16_at(command, 2) == wanted_parameters(i)
+    good_parameters(command[1], numbers::u16_at(command, 2))
 }
 
 // Seven bytes with Lc 2: SELECT and DELETE.
@@ -114,6 +127,19 @@ fn is_seven(command: &[u8]) -> bool
     command[4] == 2
 }
 
+// Eight bytes with Lc 2 and Le 00: SELECT that asks for the template.
+fn is_eight(command: &[u8]) -> bool
+    ensures { λ r. ⌜ r ≡ isEight (now (command .entry)) ⌝ }
+{
+    if command.len() != 8 {
+        return false;
+    }
+    if command[4] != 2 {
+        return false;
+    }
+    command[7] == 0x00
+}
+
 // 5 + Lc bytes with Lc at least 1: CREATE.
 fn has_data(command: &[u8]) -> bool
     ensures { λ r. ⌜ r ≡ hasData (now (command .entry)) ⌝ }
@@ -122,6 +148,17 @@ fn has_data(command: &[u8]) -> bool
         return false;
     }
     command.len() == 5 + (numbers::wide(command[4]) as usize)
+}
+
+// As long as SELECT's P2 wants it.
+fn select_length(command: &[u8]) -> bool
+    requires { ⌜ 4 ≤ length (now command) ⌝ }
+    ensures { λ r. ⌜ r ≡ cond (wantsTemplate (now (command .entry))) (isEight (now (command .entry))) (isSeven (now (command .entry))) ⌝ }
+{
+    if wants_template(command) {
+        return is_eight(command);
+    }
+    is_seven(command)
 }
 
 pub fn fit_length(command: &[u8]) -> bool
@@ -133,7 +170,7 @@ pub fn fit_length(command: &[u8]) -> bool
         return has_data(command);
     }
     if i == SELECT_FILE {
-        return is_seven(command);
+        return select_length(command);
     }
     if i == DELETE_FILE {
         return is_seven(command);

@@ -1,8 +1,8 @@
 -- The tests that judging makes, each beside the sentence that it stands for (specs/Conditions).
 use mathlib.Core.Path.{_≡_, refl, sym, ap, _∙_}
-use mathlib.Core.Bool.{Bool, true, false, not, false≢true}
+use mathlib.Core.Bool.{Bool, true, false, not, cond, false≢true}
 use mathlib.Core.List.{List}
-use mathlib.Core.Logic.{_↔_, _⊎_}
+use mathlib.Core.Logic.{_↔_, _⊎_, inl, inr, ⊎-elim}
 use Prim.Native.Nat.{ℕ, suc, _+_, _*_, _/_, _%_, _<_, _≤_}
 use native.Mathlib.Omega.{arith}
 use lib.Dec.{eqb}
@@ -25,10 +25,11 @@ use Rattle.create_data.proofs.Grammar.{data-exactly}
 use Rattle.verdict.specs.declared.State.{State}
 use Rattle.judge_target.specs.Target.{lifeAt, allowedAt, describes}
 use Rattle.apdu.specs.Apdu.{instruction, lc, onOtherChannel, isKnown, wantsAlone, otherChannel, crowded}
-use Rattle.apdu.specs.Apdu.{wantedParameters, fitParameters, hasData, isSeven, fitLength, selectFile, createFile, deleteFile}
+use Rattle.apdu.specs.Apdu.{wantsTemplate, goodParameters, fitParameters, hasData, isSeven, isEight, fitLength, selectFile, createFile}
+use Rattle.apdu.specs.Apdu.{deleteFile}
 use Rattle.judge_create.specs.Creation.{takesFiles}
 use Rattle.judge_commands.specs.Commands.{mayDelete}
-use Rattle.card.specs.Conditions.{NoneTerminated, FreeIdentifier}
+use Rattle.card.specs.Conditions.{NoneTerminated, FreeIdentifier, AsksTemplate, SelectLong}
 
 pub not-twice : (b : Bool) → (not (not b) ≡ true) ↔ (b ≡ true)
 not-twice true = ((λ e. e), (λ e. e))
@@ -97,9 +98,20 @@ module _ (c : List ℕ) (st : State) (i : ℕ) (e : instruction c ≡ i) where
   unfolding crowded otherChannel
   alone-says w = rw (e, w) ((λ h. eq-says _ _ .0 (not-twice _ .0 h)), (λ h. not-twice _ .1 (eq-says _ _ .1 h)))
 
-  pub parameters-say : (p : ℕ) → wantedParameters i ≡ p → p < 256 → (fitParameters c ≡ true) ↔ ((getD c 2 0 ≡ 0x00) × (getD c 3 0 ≡ p))
-  unfolding fitParameters
-  parameters-say p w l = rw (e, w) (pair-says c p l)
+  pub parameters-say : eqb i selectFile ≡ false → (fitParameters c ≡ true) ↔ ((getD c 2 0 ≡ 0x00) × (getD c 3 0 ≡ 0x00))
+  unfolding fitParameters goodParameters
+  parameters-say q = rw (e, q) (pair-says c 0x00 (omega arith))
+
+-- F of SELECT: one of two
+pub select-parameters : (c : List ℕ) → instruction c ≡ selectFile
+    → (fitParameters c ≡ true) ↔ ((getD c 2 0 ≡ 0x00) × ((getD c 3 0 ≡ 0x0C) ⊎ AsksTemplate c))
+unfolding fitParameters goodParameters
+select-parameters c e = rw e (
+  (λ h. ⊎-elim (λ p. let q = pair-says c 0x0C (omega arith) .0 p in (q .0, inl (q .1)))
+      (λ p. let q = pair-says c 0x04 (omega arith) .0 p in (q .0, inr (q .1))) (or-says _ _ .0 h)),
+  (λ h. or-says _ _ .1 (⊎-elim (λ p. inl (pair-says c 0x0C (omega arith) .1 (h .0, p)))
+      (λ p. inr (pair-says c 0x04 (omega arith) .1 (h .0, p))) (h .1))),
+)
 
 -- G
 pub data-says : (c : List ℕ) → instruction c ≡ createFile → (fitLength c ≡ true) ↔ ((1 ≤ lc c) × (length c ≡ 5 + lc c))
@@ -116,9 +128,27 @@ seven-says : (c : List ℕ) → (isSeven c ≡ true) ↔ ((length c ≡ 7) × (l
 unfolding isSeven
 seven-says c = simp says ((λ h. h), (λ h. h))
 
-pub select-length : (c : List ℕ) → instruction c ≡ selectFile → (fitLength c ≡ true) ↔ ((length c ≡ 7) × (lc c ≡ 2))
+eight-says : (c : List ℕ) → (isEight c ≡ true) ↔ ((length c ≡ 8) × ((lc c ≡ 2) × (getD c 7 0 ≡ 0x00)))
+unfolding isEight
+eight-says c = simp says ((λ h. h), (λ h. h))
+
+pub template-says : (c : List ℕ) → (wantsTemplate c ≡ true) ↔ AsksTemplate c
+unfolding wantsTemplate
+template-says c = eq-says _ _
+
+pub select-length : (c : List ℕ) → instruction c ≡ selectFile → (fitLength c ≡ true) ↔ SelectLong c
 unfolding fitLength
-select-length c e = rw e (seven-says c)
+select-length c e = rw e (go (wantsTemplate c) refl)
+  where
+    go : (b : Bool) → wantsTemplate c ≡ b → (cond b (isEight c) (isSeven c) ≡ true) ↔ SelectLong c
+    go true q = (
+      (λ h. inl (template-says c .0 q, eight-says c .0 h)),
+      (λ h. ⊎-elim (λ k. eight-says c .1 (k .1)) (λ k. absurd (k .0 (template-says c .0 q))) h),
+    )
+    go false q = (
+      (λ h. inr ((λ k. false≢true (sym q ∙ template-says c .1 k)), seven-says c .0 h)),
+      (λ h. ⊎-elim (λ k. absurd (false≢true (sym q ∙ template-says c .1 (k .0)))) (λ k. seven-says c .1 (k .1)) h),
+    )
 
 pub delete-length : (c : List ℕ) → instruction c ≡ deleteFile → (fitLength c ≡ true) ↔ ((length c ≡ 7) × (lc c ≡ 2))
 unfolding fitLength

@@ -1,99 +1,48 @@
--- Demands 1 and 2, proved: each statement of specs/Demands under its own name.
+-- Demand 2, proved: each statement of specs/Demands under its own name.
 use mathlib.Core.Path.{_≡_, refl, sym, ap, _∙_}
-use mathlib.Core.Bool.{Bool, true, false, cond}
+use mathlib.Core.Bool.{Bool, true, false, cond, false≢true}
 use mathlib.Core.List.{List, [], _∷_, _++_}
 use mathlib.Core.Logic.{_⊎_, inl, inr, ⊎-elim}
 use Prim.Native.Nat.{ℕ}
 use native.Mathlib.Omega.{arith}
-use lib.Dec.{eqb}
+use lib.Dec.{eqb, leb}
 use lib.ListN.{length}
-use borrow.Author.Tests.{eqb-true, ne-eqb}
+use borrow.Author.Tests.{eqb-true, ne-eqb, le-leb}
+use Rattle.laws.specs.Lists.{splice}
 use Rattle.laws.proofs.Says.{and-says}
-use Rattle.laws.proofs.Settling.{settled, both-are}
+use Rattle.laws.proofs.Splices.{splice-nil}
 use Rattle.laws.proofs.Firsts.{first-is}
 use Rattle.rules.specs.Life.{isTerminated}
 use Rattle.image.specs.declared.Head.{Head}
 use Rattle.image.specs.Layout.{recAt, freeBytes, kindOf, lifeCycleOf, countOf, currentDfOf}
 use Rattle.image.proofs.Headers.{same-count}
-use Rattle.sound.specs.Sound.{Sound, soundb}
+use Rattle.sound.specs.Sound.{Sound}
 use Rattle.sound.specs.Table.{viewAt}
 use Rattle.sound.specs.Kinship.{terminatedAt, atOrBeneath, freeSlot}
 use Rattle.sound.specs.Effects.{Creates}
-use Rattle.sound.proofs.Says.{sound-says}
 use Rattle.verdict.specs.declared.State.{State}
 use Rattle.verdict.specs.declared.Verdict.{Verdict}
 use Rattle.verdict.specs.declared.Verdict.the-variants.{Refuse, Select, Create, Delete, SetLife}
 use Rattle.verdict.specs.Applied.{wordOf, appliedOf}
-use Rattle.judge_target.specs.Steps.{Step, allHold, followed}
-use Rattle.apdu.specs.Apdu.{instruction}
+use Rattle.judge_target.specs.Steps.{Step, judged, allHold, followed}
 use Rattle.judge.specs.Shared.{sharedSteps}
 use Rattle.judge.specs.Judge.{planFor, judgeFor, judgeOf}
-use Rattle.card.specs.declared.Reply.the-variants.{Word, Damaged}
-use Rattle.card.specs.Command.{answerWord, replyOf, imageOf, CommandPromises}
-use Rattle.card.specs.Steps.{stepsOf, effectOf, firstFailing}
+use Rattle.effect.specs.Told.{told}
+use Rattle.card.specs.declared.Reply.the-variants.{Word, Short}
+use Rattle.card.specs.Command.{answerWord, fits, dueOf, replyOf}
+use Rattle.card.specs.Steps.{stepsOf, lastStep, allSteps, effectOf, firstFailing}
+use Rattle.card.specs.Obeyed.{refusal, isOneOf}
 use Rattle.card.specs.After.{recordAfter}
-use Rattle.card.specs.Demands.{DamagedRefused, SoundAnswered, Succeeds, OtherWordsLeave, OnlyTheseWords, WarnsInSelect}
-use Rattle.card.specs.Demands.{StaysSound, LengthStays, RepliesInOrder, SucceedsExactly, EffectAndNoOther, Deleting}
-use Rattle.card.specs.Demands.{TerminatedStays, TerminatedForGood, OneResult}
+use Rattle.card.specs.Demands.{Succeeds, wordsOfTable, RepliesInOrder, SucceedsExactly, EffectAndNoOther, Deleting, imageAfter}
+use Rattle.card.specs.Demands.{TerminatedStays, TerminatedForGood}
 use Rattle.card.proofs.Steps.{judged-append, judged-all, judged-first}
-use Rattle.card.proofs.Tells.{Tells, sound-applied}
-use Rattle.card.proofs.Telling.{judge-tells}
-use Rattle.card.proofs.Speaks.{Spoken, judge-speaks, plan-acts, succeeds}
+use Rattle.card.proofs.Tells.{Tells}
+use Rattle.card.proofs.Speaks.{plan-acts, succeeds}
 use Rattle.card.proofs.After.{records-after, front-after, current-after, df-after, ef-after}
-use Rattle.card.proofs.Words.{judge-worded, judge-warns}
-use Rattle.card.proofs.Ordered.{Erases, Ordered, judge-ordered}
-
-pub damaged-refused : DamagedRefused
-unfolding replyOf imageOf
-damaged-refused img c st e = rw e (refl, refl, refl)
-
-pub sound-answered : SoundAnswered
-unfolding replyOf
-sound-answered img c st e = rw e
-
--- on a sound image: the word and the image of the verdict
-module _ (img c : List ℕ) (st : State) (sound : Sound img) where
-  pub image-is : imageOf img c st ≡ appliedOf img c (judgeOf img c st)
-  unfolding imageOf
-  image-is = rw (sound-says img .1 sound)
-
-  pub reply-is : replyOf img c st ≡ Word (wordOf (judgeOf img c st))
-  unfolding replyOf
-  reply-is = rw (sound-says img .1 sound)
-
-  pub word-is : answerWord (replyOf img c st) ≡ wordOf (judgeOf img c st)
-  word-is = ap answerWord reply-is
-
-  tells : Tells img c (judgeOf img c st)
-  tells = judge-tells img c sound st
-
--- a verdict whose word is no success leaves the image
-leaves : (img c : List ℕ) (v : Verdict) → Spoken v → (Succeeds (wordOf v) → ⊥) → appliedOf img c v ≡ img
-leaves img c (Refuse w) s z = refl
-leaves img c (Select d e w) s z = absurd (z s)
-leaves img c (Create x) s z = absurd (z (inl refl))
-leaves img c (Delete x) s z = absurd (z (inl refl))
-leaves img c (SetLife x life) s z = absurd (z (inl refl))
-
-pub other-words-leave : OtherWordsLeave
-unfolding replyOf imageOf
-other-words-leave img c st z = go (soundb img) z
-  where
-    go : (b : Bool) → (Succeeds (answerWord (cond b (Word (wordOf (judgeOf img c st))) Damaged)) → ⊥)
-        → cond b (appliedOf img c (judgeOf img c st)) img ≡ img
-    go true q = leaves img c (judgeOf img c st) (judge-speaks img c st) q
-    go false q = refl
-
-pub stays-sound : StaysSound
-stays-sound img c st sound = rw (image-is img c st sound) (sound-applied img c (judgeOf img c st) sound (tells img c st sound))
-
-pub length-stays : LengthStays
-unfolding imageOf
-length-stays img c st = go (soundb img) refl
-  where
-    go : (b : Bool) → soundb img ≡ b → length (cond b (appliedOf img c (judgeOf img c st)) img) ≡ length img
-    go true q = let sound = sound-says img .0 q in front-after img c sound (judgeOf img c st) (tells img c st sound) .long
-    go false q = refl
+use Rattle.card.proofs.Words.{judge-worded}
+use Rattle.card.proofs.Ordered.{Erases, Ordered}
+use Rattle.card.proofs.Due.{due-tells, due-speaks, due-ordered, due-fit, due-unfit}
+use Rattle.card.proofs.Answered.{image-is, reply-is, word-is, response-is, stays-sound}
 
 -- the verdict: the effect where all steps hold, else a refusal with the word of the first that fails
 pub judged-in-order : (img c : List ℕ) (st : State)
@@ -104,57 +53,118 @@ judged-in-order img c st =
     let e = judged-append (sharedSteps img c st) (planFor img (countOf img) (currentDfOf img) c st .steps) (effectOf img c st) in
     (λ h. sym e ∙ judged-all (stepsOf img c st) (effectOf img c st) h, λ h. sym e ∙ judged-first (stepsOf img c st) (effectOf img c st) h)
 
-pub replies-in-order : RepliesInOrder
-replies-in-order img c st sound = (
-  (λ h. let e = judged-in-order img c st .0 h in
-      (reply-is img c st sound ∙ ap (λ (v : Verdict). Word (wordOf v)) e, image-is img c st sound ∙ ap (appliedOf img c) e)),
-  (λ h. let e = judged-in-order img c st .1 h in
-      (reply-is img c st sound ∙ ap (λ (v : Verdict). Word (wordOf v)) e, image-is img c st sound ∙ ap (appliedOf img c) e)),
-)
+-- a list of steps holds as a whole or not
+all-or-not : (b : Bool) → (b ≡ true) ⊎ (b ≡ false)
+all-or-not true = inl refl
+all-or-not false = inr refl
 
--- the later of two lists holds where both do
-later : (xs ys : List Step) → allHold (xs ++ ys) ≡ true → allHold ys ≡ true
-later [] ys h = h
-later (s ∷ xs) ys h = later xs ys (and-says (s .holds) (allHold (xs ++ ys)) .0 h .1)
+-- two lists hold where both do
+both-hold : (xs ys : List Step) → allHold (xs ++ ys) ≡ true → (allHold xs ≡ true) × (allHold ys ≡ true)
+both-hold [] ys h = (refl, h)
+both-hold (s ∷ xs) ys h =
+    let p = and-says (s .holds) (allHold (xs ++ ys)) .0 h in
+    let q = both-hold xs ys (p .1) in
+    (and-says (s .holds) (allHold xs) .1 (p .0, q .0), q .1)
+
+-- the verdict that stands is judged by all steps, the last check among them
+due-judged : (img c : List ℕ) (st : State) (lent : ℕ) → dueOf img c st lent ≡ judged (allSteps img c st lent) (effectOf img c st)
+unfolding dueOf fits
+due-judged img c st lent = ⊎-elim hold fail (all-or-not (allHold (stepsOf img c st)))
+  where
+    last : List Step
+    last = lastStep img c st lent ∷ []
+
+    apart : judged (allSteps img c st lent) (effectOf img c st) ≡ judged (stepsOf img c st) (judged last (effectOf img c st))
+    apart = judged-append (stepsOf img c st) last (effectOf img c st)
+
+    stands : Verdict → Verdict
+    stands v = cond (leb (length (told img c v)) lent) v (Refuse 0x0000)
+
+    hold : allHold (stepsOf img c st) ≡ true → stands (judgeOf img c st) ≡ judged (allSteps img c st lent) (effectOf img c st)
+    hold h = ap stands (judged-in-order img c st .0 h) ∙ sym (judged-all (stepsOf img c st) (judged last (effectOf img c st)) h) ∙ sym apart
+
+    fail : allHold (stepsOf img c st) ≡ false → stands (judgeOf img c st) ≡ judged (allSteps img c st lent) (effectOf img c st)
+    fail h =
+        ap stands (judged-in-order img c st .1 h) ∙ rw (le-leb 0 lent (omega arith)) refl
+        ∙ sym (judged-first (stepsOf img c st) (judged last (effectOf img c st)) h) ∙ sym apart
+
+module _ (img c : List ℕ) (st : State) (lent : ℕ) where
+  pub due-in-order : (allHold (allSteps img c st lent) ≡ true → dueOf img c st lent ≡ effectOf img c st)
+      × (allHold (allSteps img c st lent) ≡ false → dueOf img c st lent ≡ Refuse (firstFailing (allSteps img c st lent)))
+  due-in-order =
+      let e = due-judged img c st lent in
+      ((λ h. e ∙ judged-all (allSteps img c st lent) (effectOf img c st) h), (λ h. e ∙ judged-first (allSteps img c st lent) (effectOf img c st) h))
+
+  -- where all hold, the last check does
+  all-fit : allHold (allSteps img c st lent) ≡ true → fits img c st lent ≡ true
+  unfolding fits
+  all-fit h =
+      let p = both-hold (stepsOf img c st) (lastStep img c st lent ∷ []) h in
+      rw (judged-in-order img c st .0 (p .0)) (and-says _ _ .0 (p .1) .0)
+
+  -- a refusal with its word, or answer 5
+  refused-as : Sound img → (w : ℕ) → dueOf img c st lent ≡ Refuse w → replyOf img c st lent ≡ refusal w
+  refused-as sound w e = reply-is img c st lent sound ∙ go (fits img c st lent) refl
+    where
+      worded : (n : ℕ) → isOneOf n wordsOfTable ≡ true → eqb n 0x0000 ≡ false
+      worded n h = ne-eqb n 0x0000 (λ z. false≢true (rw z at h))
+
+      go : (b : Bool) → fits img c st lent ≡ b
+          → cond b (Word (wordOf (dueOf img c st lent)) (length (told img c (dueOf img c st lent)))) Short ≡ refusal w
+      go true q =
+          let n = worded w (rw (sym (due-fit img c st lent q) ∙ e) at (judge-worded img c st)) in
+          rw (e, n) refl
+      go false q = let z : w ≡ 0x0000 = ap wordOf (sym e ∙ due-unfit img c st lent q) in rw z refl
+
+pub replies-in-order : RepliesInOrder
+replies-in-order img c st response sound = (
+  (λ h. let e = due-in-order img c st (length response) .0 h in (
+    reply-is img c st (length response) sound ∙ rw (all-fit img c st (length response) h, e) refl,
+    image-is img c st (length response) sound ∙ ap (appliedOf img c) e,
+    response-is img c st response sound ∙ ap (λ (v : Verdict). splice response 0 (told img c v)) e,
+  )),
+  (λ h. let e = due-in-order img c st (length response) .1 h in (
+    refused-as img c st (length response) sound _ e,
+    image-is img c st (length response) sound ∙ ap (appliedOf img c) e,
+    response-is img c st response sound ∙ ap (λ (v : Verdict). splice response 0 (told img c v)) e ∙ splice-nil response 0,
+  )),
+)
 
 -- the slot that CREATE takes is free
 new-free : (img : List ℕ) (s : ℕ) (h : Head) (name rule : List ℕ) → Creates img s h name rule → kindOf (recAt img s) ≡ 0
 unfolding freeSlot
 new-free img s h name rule k = eqb-true _ _ (first-is (countOf img) (λ t. eqb (viewAt img t .kind) 0) s (k .slot) .here)
 
--- a list of steps holds as a whole or not
-all-or-not : (b : Bool) → (b ≡ true) ⊎ (b ≡ false)
-all-or-not true = inl refl
-all-or-not false = inr refl
-
-own-hold : (img c : List ℕ) (st : State) → allHold (stepsOf img c st) ≡ true
+own-hold : (img c : List ℕ) (st : State) (lent : ℕ) → allHold (allSteps img c st lent) ≡ true
     → allHold (planFor img (countOf img) (currentDfOf img) c st .steps) ≡ true
-own-hold img c st h = later (sharedSteps img c st) (planFor img (countOf img) (currentDfOf img) c st .steps) h
+own-hold img c st lent h =
+    both-hold (sharedSteps img c st) (planFor img (countOf img) (currentDfOf img) c st .steps)
+    (both-hold (stepsOf img c st) (lastStep img c st lent ∷ []) h .0) .1
 
 pub succeeds-exactly : SucceedsExactly
-succeeds-exactly img c st sound = (all-hold, succeeded)
+succeeds-exactly img c st lent sound = (all-hold, succeeded)
   where
-    word : answerWord (replyOf img c st) ≡ wordOf (judgeOf img c st)
-    word = word-is img c st sound
+    word : answerWord (replyOf img c st lent) ≡ wordOf (dueOf img c st lent)
+    word = word-is img c st lent sound
 
-    all-hold : allHold (stepsOf img c st) ≡ true → Succeeds (answerWord (replyOf img c st))
+    all-hold : allHold (allSteps img c st lent) ≡ true → Succeeds (answerWord (replyOf img c st lent))
     all-hold h =
-        let e = judged-in-order img c st .0 h in
+        let e = due-in-order img c st lent .0 h in
         rw (word, e)
-        (succeeds (effectOf img c st) (plan-acts img (countOf img) (currentDfOf img) c st (own-hold img c st h))
-        (rw e at (judge-speaks img c st)))
+        (succeeds (effectOf img c st) (plan-acts img (countOf img) (currentDfOf img) c st (own-hold img c st lent h))
+        (rw e at (due-speaks img c st lent)))
 
-    succeeded : Succeeds (answerWord (replyOf img c st)) → allHold (stepsOf img c st) ≡ true
+    succeeded : Succeeds (answerWord (replyOf img c st lent)) → allHold (allSteps img c st lent) ≡ true
     succeeded s = ⊎-elim (λ h. h)
-        (λ h. absurd ((rw (judged-in-order img c st .1 h) at (judge-speaks img c st)) (rw (word, judged-in-order img c st .1 h) at s)))
-        (all-or-not (allHold (stepsOf img c st)))
+        (λ h. let e = due-in-order img c st lent .1 h in absurd ((rw e at (due-speaks img c st lent)) (rw (word, e) at s)))
+        (all-or-not (allHold (allSteps img c st lent)))
 
 pub effect-and-no-other : EffectAndNoOther
-effect-and-no-other img c st sound =
-    let v = judgeOf img c st in
-    let k = tells img c st sound in
+effect-and-no-other img c st lent sound =
+    let v = dueOf img c st lent in
+    let k = due-tells img c st lent sound in
     let f = front-after img c sound v k in
-    rw (image-is img c st sound) (record {
+    rw (image-is img c st lent sound) (record {
       long = f .long;
       start = f .start;
       current = current-after img c sound v k;
@@ -186,49 +196,30 @@ module _ (img c : List ℕ) (s : ℕ) (used : kindOf (recAt img s) ≡ 0 → ⊥
   verdict-stays (SetLife x life) k o = inr (rw (ne-eqb s x (λ e. o .2 (rw e at dead))))
 
 -- only a DELETE that was carried out erases
-deleting : (img c : List ℕ) (st : State) (s : ℕ) → Sound img → (v : Verdict) → judgeOf img c st ≡ v → Erases img s v → Ordered img c v
-    → Deleting img c st s
-deleting img c st s sound (Refuse w) e k n = absurd k
-deleting img c st s sound (Select d f w) e k n = absurd k
-deleting img c st s sound (Create x) e k n = absurd k
-deleting img c st s sound (Delete x) e k n =
-    record { delete = n .0; answered = word-is img c st sound ∙ ap wordOf e; top = x; child = n .1; over = k }
-deleting img c st s sound (SetLife x life) e k n = absurd k
+deleting : (img c : List ℕ) (st : State) (lent s : ℕ) → Sound img → (v : Verdict) → dueOf img c st lent ≡ v → Erases img s v
+    → Ordered img c v → Deleting img c st lent s
+deleting img c st lent s sound (Refuse w) e k n = absurd k
+deleting img c st lent s sound (Select d f w) e k n = absurd k
+deleting img c st lent s sound (Create x) e k n = absurd k
+deleting img c st lent s sound (Delete x) e k n =
+    record { delete = n .0; answered = word-is img c st lent sound ∙ ap wordOf e; top = x; child = n .1; over = k }
+deleting img c st lent s sound (SetLife x life) e k n = absurd k
 
 pub terminated-stays : TerminatedStays
 unfolding Stays
-terminated-stays img c st s sound low used dead =
-    let e = effect-and-no-other img c st sound .records s low in
-    ⊎-elim (λ f. inl (deleting img c st s sound (judgeOf img c st) refl (f .0) (judge-ordered img c st), e ∙ f .1)) (λ f. inr (e ∙ f))
-    (verdict-stays img c s used dead (judgeOf img c st) (tells img c st sound) (judge-ordered img c st))
+terminated-stays img c st lent s sound low used dead =
+    let e = effect-and-no-other img c st lent sound .records s low in
+    let o = due-ordered img c st lent in
+    ⊎-elim (λ f. inl (deleting img c st lent s sound (dueOf img c st lent) refl (f .0) o, e ∙ f .1)) (λ f. inr (e ∙ f))
+    (verdict-stays img c s used dead (dueOf img c st lent) (due-tells img c st lent sound) o)
 
 pub terminated-for-good : TerminatedForGood
 unfolding terminatedAt
 terminated-for-good [] img s sound low used dead = inr refl
 terminated-for-good (x ∷ rest) img s sound low used dead =
-    let next = imageOf img (x .command) (x .state) in
     ⊎-elim (λ f. inl (inl (f .0)))
     (λ f. ⊎-elim (λ g. inl (inr g)) (λ g. inr (g ∙ f))
-    (terminated-for-good rest next s (stays-sound img (x .command) (x .state) sound)
-    (rw (effect-and-no-other img (x .command) (x .state) sound .count) low) (λ z. used (ap kindOf (sym f) ∙ z))
+    (terminated-for-good rest (imageAfter img x) s (stays-sound img (x .command) (x .state) (x .lent) sound)
+    (rw (effect-and-no-other img (x .command) (x .state) (x .lent) sound .count) low) (λ z. used (ap kindOf (sym f) ∙ z))
     (ap (λ (r : List ℕ). isTerminated (lifeCycleOf r)) f ∙ dead)))
-    (terminated-stays img (x .command) (x .state) s sound low used dead)
-
--- the words, and which of them warn
-pub only-these-words : OnlyTheseWords
-only-these-words img c st e = rw (word-is img c st (sound-says img .0 e)) (judge-worded img c st)
-
-pub warns-in-select : WarnsInSelect
-unfolding replyOf
-warns-in-select img c st w = go (soundb img) w
-  where
-    go : (b : Bool)
-        → (answerWord (cond b (Word (wordOf (judgeOf img c st))) Damaged) ≡ 0x6283)
-        ⊎ (answerWord (cond b (Word (wordOf (judgeOf img c st))) Damaged) ≡ 0x6285)
-        → instruction c ≡ 0xA4
-    go true h = judge-warns img c st h
-    go false h = ⊎-elim (λ q. absurd (omega arith)) (λ q. absurd (omega arith)) h
-
-pub one-result : OneResult
-one-result img c st =
-    settled (λ p. CommandPromises img c st (p .0) (p .1)) (replyOf img c st, imageOf img c st) (λ p k. both-are _ _ p (k .0) (k .1))
+    (terminated-stays img (x .command) (x .state) (x .lent) s sound low used dead)

@@ -3,11 +3,13 @@ pub mod Matching
 pub mod Asked
 pub mod Tells
 pub mod Telling
-pub mod Called
 pub mod Speaks
 pub mod Words
 pub mod Ordered
+pub mod Due
+pub mod Called
 pub mod After
+pub mod Answered
 pub mod Demands
 pub mod Obeyed
 pub mod Lives

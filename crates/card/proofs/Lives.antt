@@ -28,16 +28,16 @@ use Rattle.verdict.specs.declared.Verdict.the-variants.{Refuse, Select, Create,
 use Rattle.verdict.specs.Applied.{sentData, wordOf}
 use Rattle.judge_target.specs.Target.{lifeAt, slotIn}
 use Rattle.apdu.specs.Apdu.{instruction}
-use Rattle.judge.specs.Judge.{judgeOf}
-use Rattle.card.specs.Command.{imageOf}
+use Rattle.card.specs.Command.{dueOf, imageOf}
 use Rattle.card.specs.After.{recordAfter}
 use Rattle.card.specs.Lives.{LifeCommand, writtenBy, TransitionsWrite, OnlyCreated, KeptAsGiven}
 use Rattle.card.proofs.Steps.{cond-by}
 use Rattle.card.proofs.Tells.{Tells}
-use Rattle.card.proofs.Telling.{judge-tells}
-use Rattle.card.proofs.Speaks.{Spoken, judge-speaks}
-use Rattle.card.proofs.Ordered.{Ordered, judge-ordered, sentLife}
-use Rattle.card.proofs.Demands.{word-is, effect-and-no-other, damaged-refused}
+use Rattle.card.proofs.Speaks.{Spoken}
+use Rattle.card.proofs.Ordered.{Ordered, sentLife}
+use Rattle.card.proofs.Due.{due-tells, due-speaks, due-ordered}
+use Rattle.card.proofs.Answered.{damaged-left, damaged-word, word-is}
+use Rattle.card.proofs.Demands.{effect-and-no-other}
 
 -- over a command i a life cycle stays, is the command's own, is erased by DELETE, or was sent by CREATE
 abbrev pub Changes : ℕ → ℕ → ℕ → Type 0
@@ -58,26 +58,27 @@ verdict-changes img c s whole (SetLife x life) o =
     (λ q. inr (inl (life-set (recAt img s) life whole ∙ o .1))) (λ q. inl refl)
 
 -- .. and under a call, whatever the image
-changes : (img c : List ℕ) (st : State) (s : ℕ) → s < countOf img
-    → Changes (instruction c) (lifeAt img s) (lifeAt (imageOf img c st) s)
-changes img c st s low = go (soundb img) refl
+changes : (img c : List ℕ) (st : State) (lent s : ℕ) → s < countOf img
+    → Changes (instruction c) (lifeAt img s) (lifeAt (imageOf img c st lent) s)
+changes img c st lent s low = go (soundb img) refl
   where
-    go : (b : Bool) → soundb img ≡ b → Changes (instruction c) (lifeAt img s) (lifeAt (imageOf img c st) s)
+    go : (b : Bool) → soundb img ≡ b → Changes (instruction c) (lifeAt img s) (lifeAt (imageOf img c st lent) s)
     go true q =
         let sound = sound-says img .0 q in
-        rw (effect-and-no-other img c st sound .records s low)
-        (verdict-changes img c s (length-record img s (omega (arith, sound-sized img sound))) (judgeOf img c st) (judge-ordered img c st))
-    go false q = inl (ap (λ (x : List ℕ). lifeAt x s) (damaged-refused img c st q .2))
+        rw (effect-and-no-other img c st lent sound .records s low)
+        (verdict-changes img c s (length-record img s (omega (arith, sound-sized img sound))) (dueOf img c st lent)
+        (due-ordered img c st lent))
+    go false q = inl (ap (λ (x : List ℕ). lifeAt x s) (damaged-left img c st lent q))
 
 -- a life-cycle command is none that isn't one, such as DELETE and CREATE
 no-other : (i k : ℕ) → LifeCommand i → (LifeCommand k → ⊥) → i ≡ k → ⊥
 no-other i k h z e = z (rw e at h)
 
 pub transitions-write : TransitionsWrite
-transitions-write img c st s low command = ⊎-elim inl
+transitions-write img c st lent s low command = ⊎-elim inl
     (λ g. ⊎-elim inr
     (λ h. ⊎-elim (λ k. absurd (no-other _ 0xE4 command false≢true (k .0))) (λ k. absurd (no-other _ 0xE0 command false≢true k)) h) g)
-    (changes img c st s low)
+    (changes img c st lent s low)
 
 -- what a command writes is neither 06 nor 07
 Plain : ℕ → Type 0
@@ -95,10 +96,10 @@ unfolding Plain
 neither i x e h = written-plain i (rw e at h)
 
 pub only-created : OnlyCreated
-only-created img c st s low other h = ⊎-elim (λ e. e)
+only-created img c st lent s low other h = ⊎-elim (λ e. e)
     (λ g. ⊎-elim (λ e. absurd (neither (instruction c) _ e h))
     (λ k. ⊎-elim (λ e. ⊎-elim (λ l. absurd (omega (arith, e .1, l))) (λ l. absurd (omega (arith, e .1, l))) h) (λ e. absurd (other e)) k) g)
-    (changes img c st s low)
+    (changes img c st lent s low)
 
 -- the life cycle that is read is the one in object 8A
 read-df : (s : List ℕ) (t : DfData s) (x : Data) → DfRead s t x → sentLife x ≡ first (t .life)
@@ -126,19 +127,20 @@ new-life img c left (Delete x) e done spoken o k r = absurd (omega (arith, e, o 
 new-life img c left (SetLife x life) e done spoken o k r = absurd (o .0 e)
 
 pub kept-as-given : KeptAsGiven
-kept-as-given img c st e done = go (soundb img) refl
+kept-as-given img c st lent e done = go (soundb img) refl
   where
     go : (b : Bool) → soundb img ≡ b
-        → ((t : DfData (sentData c)) → lifeAt (imageOf img c st) (slotIn (freeSlot (countOf img) (viewAt img))) ≡ first (t .life))
-        × ((t : EfData (sentData c)) → lifeAt (imageOf img c st) (slotIn (freeSlot (countOf img) (viewAt img))) ≡ first (t .life))
+        → ((t : DfData (sentData c)) → lifeAt (imageOf img c st lent) (slotIn (freeSlot (countOf img) (viewAt img))) ≡ first (t .life))
+        × ((t : EfData (sentData c)) → lifeAt (imageOf img c st lent) (slotIn (freeSlot (countOf img) (viewAt img))) ≡ first (t .life))
     go true q =
         let sound = sound-says img .0 q in
         let life =
-            new-life img c (imageOf img c st) (judgeOf img c st) e (sym (word-is img c st sound) ∙ done) (judge-speaks img c st)
-            (judge-ordered img c st) (judge-tells img c sound st) (effect-and-no-other img c st sound .records)
+            new-life img c (imageOf img c st lent) (dueOf img c st lent) e (sym (word-is img c st lent sound) ∙ done)
+            (due-speaks img c st lent) (due-ordered img c st lent) (due-tells img c st lent sound)
+            (effect-and-no-other img c st lent sound .records)
         in
         (
           (λ t. life ∙ read-df (sentData c) t (dataOf (sentData c)) (data-read (sentData c) .0 t)),
           (λ t. life ∙ read-ef (sentData c) t (dataOf (sentData c)) (data-read (sentData c) .1 t)),
         )
-    go false q = absurd (omega (arith, done, damaged-refused img c st q .1))
+    go false q = absurd (omega (arith, done, damaged-word img c st lent q))

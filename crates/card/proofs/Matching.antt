@@ -1,8 +1,8 @@
 -- A list of steps and a list of asks that say the same: each ask is a step, in the same order and with the same word; a step
 -- that always holds may stand between.
-use mathlib.Core.Path.{_≡_, refl, sym, _∙_}
+use mathlib.Core.Path.{_≡_, refl, sym, ap, _∙_}
 use mathlib.Core.Bool.{Bool, true, false, cond, _&&_, false≢true}
-use mathlib.Core.List.{List, [], _∷_}
+use mathlib.Core.List.{List, [], _∷_, _++_}
 use mathlib.Core.Logic.{_↔_, _⊎_, inl, inr, ⊎-elim}
 use Prim.Native.Nat.{ℕ}
 use Rattle.laws.proofs.Says.{and-says}
@@ -51,3 +51,27 @@ reads-stop false v w steps e q = record {
   refused = λ h. inl ((λ c. c), q);
   first = λ x f. ⊎-elim (λ g. (refl, q ∙ sym (g .1))) (λ g. absurd (g .0)) f;
 }
+
+-- a last step that holds
+pub reads-end : (b : Bool) (v : ℕ) (steps : List Step) (asks : List Ask) → b ≡ true → Reads steps asks
+    → Reads (steps ++ (record { holds = b; word = v } ∷ [])) asks
+reads-end b v steps asks e r = record {
+  met = λ h. r .met (sym (same steps) ∙ h);
+  holds = λ m. same steps ∙ r .holds m;
+  refused = λ h. rw (first steps (sym (same steps) ∙ h)) (r .refused (sym (same steps) ∙ h));
+  first = λ w f. let q = r .first w f in (same steps ∙ q .0, first steps (q .0) ∙ q .1);
+}
+  where
+    same : (xs : List Step) → allHold (xs ++ (record { holds = b; word = v } ∷ [])) ≡ allHold xs
+    same [] = rw e
+    same (x ∷ xs) = ap (λ (t : Bool). x .holds && t) (same xs)
+
+    first : (xs : List Step) → allHold xs ≡ false → firstFailing (xs ++ (record { holds = b; word = v } ∷ [])) ≡ firstFailing xs
+    first [] h = absurd (false≢true (sym h))
+    first (x ∷ xs) h = go (x .holds) h (λ q. first xs q)
+      where
+        go : (t : Bool) → (t && allHold xs) ≡ false
+            → (allHold xs ≡ false → firstFailing (xs ++ (record { holds = b; word = v } ∷ [])) ≡ firstFailing xs)
+            → cond t (firstFailing (xs ++ (record { holds = b; word = v } ∷ []))) (x .word) ≡ cond t (firstFailing xs) (x .word)
+        go true q rec = rec q
+        go false q rec = refl

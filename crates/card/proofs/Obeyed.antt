@@ -1,18 +1,22 @@
 -- Demand 2, command by command (specs/Obeyed): the steps that judging makes are the asks of specs/Conditions, in their order
 -- and with their words, and the effect is the stated one.
-use mathlib.Core.Path.{_≡_, refl, ap, _∙_}
+use mathlib.Core.Path.{_≡_, refl, sym, ap, subst, _∙_}
 use mathlib.Core.Bool.{Bool, true, false, cond, _||_, false≢true}
 use mathlib.Core.List.{List, [], _∷_, _++_}
-use mathlib.Core.Logic.{_⊎_, inl, inr, ⊎-elim}
-use Prim.Native.Nat.{ℕ}
+use mathlib.Core.Logic.{_↔_, _⊎_, inl, inr, ⊎-elim}
+use Prim.Native.Nat.{ℕ, _<_, _≤_}
 use native.Mathlib.Omega.{arith}
-use lib.Dec.{eqb}
+use lib.Dec.{eqb, leb}
+use lib.ListN.{length, getD}
+use borrow.Author.Tests.{ne-eqb, le-leb}
 use Rattle.laws.proofs.Says.{eq-says, le-says, or-says}
-use Rattle.laws.specs.Lists.{part}
+use Rattle.laws.specs.declared.Found.{Found}
+use Rattle.laws.specs.declared.Found.the-variants.{At, Nothing}
+use Rattle.laws.specs.Lists.{part, splice}
 use Rattle.rules.specs.Descriptor.{df}
 use Rattle.rules.specs.Life.{lifeOf}
 use Rattle.rules.proofs.Lives.{activates-says}
-use Rattle.image.specs.Layout.{countOf, currentDfOf, currentEfOf, none, setCurrent}
+use Rattle.image.specs.Layout.{countOf, currentDfOf, currentEfOf, none, recAt, setCurrent}
 use Rattle.sound.specs.Table.{viewAt}
 use Rattle.sound.specs.Sound.{Sound}
 use Rattle.sound.specs.Kinship.{freeSlot}
@@ -21,49 +25,83 @@ use Rattle.create_data.specs.declared.Data.{Data}
 use Rattle.create_data.specs.declared.Data.the-variants.{Df, Ef, Bad}
 use Rattle.create_data.specs.Data.{dataOf}
 use Rattle.verdict.specs.declared.State.{State}
+use Rattle.verdict.specs.declared.Verdict.{Verdict}
 use Rattle.verdict.specs.declared.Verdict.the-variants.{Select}
 use Rattle.verdict.specs.Applied.{sentData, wordOf, appliedOf}
-use Rattle.judge_target.specs.Steps.{Step, allHold, Plan}
+use Rattle.judge_target.specs.Steps.{Step, step, allHold, Plan}
 use Rattle.judge_target.specs.Target.{currentFile, lifeAt, slotIn, selected, describes, creating as creatingIt}
-use Rattle.apdu.specs.Apdu.{classByte, instruction, sentIdentifier, isTerminate, isKnown, wantsAlone, wantedParameters}
+use Rattle.apdu.specs.Apdu.{classByte, instruction, sentIdentifier, isTerminate, isKnown, wantsAlone, wantsTemplate}
 use Rattle.judge_create.specs.Creation.{create}
 use Rattle.judge_commands.specs.Commands.{selectWord, selecting as selectingIt, select, delete, activate, deactivate, terminateTheEf}
 use Rattle.judge_commands.specs.Commands.{terminateTheDf, terminateTheCard}
 use Rattle.judge.specs.Shared.{laterSteps, sharedSteps}
 use Rattle.judge.specs.Judge.{lifePlan, planFor}
+use Rattle.judge_target.proofs.FromSound.{judgeable, selected-stands}
+use Rattle.fcp.specs.Template.{templateOf}
+use Rattle.effect.specs.Told.{chosen, told}
 use Rattle.card.specs.declared.Reply.the-variants.{Word}
-use Rattle.card.specs.Steps.{stepsOf, effectOf, firstFailing}
-use Rattle.card.specs.Conditions.{Ask, Met, Refused, alone, parametersAre, fourBytes, knownAsks, unknownAsks, selectAsks}
+use Rattle.card.specs.Steps.{allSteps, effectOf, firstFailing}
+use Rattle.card.specs.Conditions.{Ask, Met, Refused, alone, parametersAre, fourBytes, knownAsks, unknownAsks, AsksTemplate, selectAsks}
 use Rattle.card.specs.Conditions.{createAsks, deleteAsks, activateAsks, deactivateAsks, terminateEfAsks, terminateDfAsks}
-use Rattle.card.specs.Conditions.{terminateCardAsks}
-use Rattle.card.specs.Obeyed.{Obeys, wordFor, selecting, creating, isOneOf, SelectObeys, CreateObeys, DeleteObeys, ActivateObeys}
+use Rattle.card.specs.Conditions.{terminateCardAsks, found}
+use Rattle.card.specs.Obeyed.{refusal, Obeys, wordFor, selecting, telling, creating, isOneOf, SelectObeys, CreateObeys, DeleteObeys, ActivateObeys}
 use Rattle.card.specs.Obeyed.{DeactivateObeys, TerminateEfObeys, TerminateDfObeys, TerminateCardObeys, OthersRefused, NoBodiesYet}
-use Rattle.card.proofs.Matching.{Reads, reads-none, reads-ask, reads-skip, reads-stop}
+use Rattle.card.proofs.Matching.{Reads, reads-none, reads-ask, reads-skip, reads-stop, reads-end}
 use Rattle.card.proofs.Asked.{channel-says, alive-says, none-says, takes-says, deletes-says, identifier-free}
-use Rattle.card.proofs.Asked.{is-not-says, known, calm, alone-says, parameters-say, data-says, select-length, delete-length}
-use Rattle.card.proofs.Asked.{four-says, file-says}
+use Rattle.card.proofs.Asked.{is-not-says, known, calm, alone-says, parameters-say, select-parameters, data-says, select-length}
+use Rattle.card.proofs.Asked.{delete-length, four-says, file-says}
 use Rattle.card.proofs.Demands.{replies-in-order}
 
 -- a command with this plan, whose steps read as these asks, and whose effect gives this word and image where all hold
-module _ (img c : List ℕ) (st : State) (sound : Sound img) (p : Plan) (is : planFor img (countOf img) (currentDfOf img) c st ≡ p) where
-  obeys : (asks : List Ask) (word : ℕ) (left : List ℕ) → Reads (sharedSteps img c st ++ p .steps) asks
-      → (Met asks → (wordOf (p .effect) ≡ word) × (appliedOf img c (p .effect) ≡ left)) → Obeys img c st asks word left
-  obeys asks word left reads gives = record {
-    met = λ m. let r = replies-in-order img c st sound .0 (reads-them .holds m) in
-        (r .0 ∙ ap Word (ap wordOf effect ∙ gives m .0), r .1 ∙ ap (appliedOf img c) effect ∙ gives m .1);
-    refused = λ w f. let q = reads-them .first w f in let r = replies-in-order img c st sound .1 (q .0) in (r .0 ∙ ap Word (q .1), r .1);
-    always = either-way (allHold (stepsOf img c st)) refl;
+module _ (img c : List ℕ) (st : State) (response : List ℕ) (sound : Sound img) (p : Plan)
+    (is : planFor img (countOf img) (currentDfOf img) c st ≡ p) where
+  -- its last step, by what the effect tells
+  final : Step
+  final = step (leb (length (told img c (p .effect))) (length response)) 0x0000
+
+  obeys : (asks : List Ask) (word : ℕ) (left answer : List ℕ) → Reads ((sharedSteps img c st ++ p .steps) ++ (final ∷ [])) asks
+      → (Met asks → (wordOf (p .effect) ≡ word) × (appliedOf img c (p .effect) ≡ left) × (told img c (p .effect) ≡ answer))
+      → Obeys img c st response asks word left answer
+  unfolding final
+  obeys asks word left answer reads gives = record {
+    met = λ m.
+        let r = replies-in-order img c st response sound .0 (reads-them .holds m) in
+        let g = gives m in
+        let tells = ap (told img c) effect ∙ g .2 in
+        (
+          r .0 ∙ ap (λ (n : ℕ). Word n (length (told img c (effectOf img c st)))) (ap wordOf effect ∙ g .0)
+          ∙ ap (λ (l : List ℕ). Word word (length l)) tells,
+          r .1 ∙ ap (appliedOf img c) effect ∙ g .1,
+          r .2 ∙ ap (splice response 0) tells,
+        );
+    refused = λ w f.
+        let q = reads-them .first w f in
+        let r = replies-in-order img c st response sound .1 (q .0) in
+        (r .0 ∙ ap refusal (q .1), r .1, r .2);
+    always = either-way (allHold (allSteps img c st (length response))) refl;
   }
     where
-      reads-them : Reads (stepsOf img c st) asks
-      reads-them = rw is reads
+      reads-them : Reads (allSteps img c st (length response)) asks
+      reads-them = subst
+          (λ (q : Plan). Reads
+          ((sharedSteps img c st ++ q .steps) ++ (step (leb (length (told img c (q .effect))) (length response)) 0x0000 ∷ [])) asks)
+          (sym is) reads
 
       effect : effectOf img c st ≡ p .effect
       effect = ap (λ (x : Plan). x .effect) is
 
-      either-way : (b : Bool) → allHold (stepsOf img c st) ≡ b → Met asks ⊎ ((w : ℕ) × Refused asks w)
+      either-way : (b : Bool) → allHold (allSteps img c st (length response)) ≡ b → Met asks ⊎ ((w : ℕ) × Refused asks w)
       either-way true e = inl (reads-them .met e)
-      either-way false e = inr (firstFailing (stepsOf img c st), reads-them .refused e)
+      either-way false e = inr (firstFailing (allSteps img c st (length response)), reads-them .refused e)
+
+  -- an effect that tells nothing
+  obeys-silent : (asks : List Ask) (word : ℕ) (left : List ℕ) → told img c (p .effect) ≡ [] → Reads (sharedSteps img c st ++ p .steps) asks
+      → (Met asks → (wordOf (p .effect) ≡ word) × (appliedOf img c (p .effect) ≡ left)) → Obeys img c st response asks word left []
+  unfolding final
+  obeys-silent asks word left silent reads gives =
+      let none : length (told img c (p .effect)) ≤ length response = omega (arith, ap length silent) in
+      obeys asks word left [] (reads-end _ _ _ asks (le-leb _ _ none) reads)
+      (λ m. let g = gives m in (g .0, g .1, silent))
 
 -- the steps A to D of an instruction i that 01 lists
 module _ (img c : List ℕ) (st : State) (i : ℕ) (e : instruction c ≡ i) (k : isKnown i ≡ true) where
@@ -76,37 +114,67 @@ module _ (img c : List ℕ) (st : State) (i : ℕ) (e : instruction c ≡ i) (k 
       (reads-skip _ _ _ _ (known c st i e k)
       (reads-ask _ _ _ _ _ _ (alive-says img 0) refl r))))
 
+-- what SELECT finds has a slot, the root's where nothing was found
+found-low : (img : List ℕ) → Sound img → (x : ℕ) → slotIn (selected img (countOf img) (currentDfOf img) x) < countOf img
+found-low img sound x = go (selected img (countOf img) (currentDfOf img) x) refl
+  where
+    go : (f : Found) → selected img (countOf img) (currentDfOf img) x ≡ f → slotIn f < countOf img
+    go Nothing e = omega (arith, sound .header .least)
+    go (At s) e = selected-stands img (countOf img) (currentDfOf img) x s (judgeable img sound) e .low
+
+-- SELECT's effect, of the file in slot s: its word, the image, and what it tells
+module _ (img c : List ℕ) (s : ℕ) (low : s ≡ none → ⊥) where
+  abbrev Gives : Verdict → List ℕ → Type 0
+  Gives v left =
+      (wordOf v ≡ wordFor (lifeOf (lifeAt img s))) × (appliedOf img c v ≡ left) × (told img c v ≡ telling img c s)
+
+  select-gives : Gives (selectingIt img (currentDfOf img) s) (selecting img s)
+  unfolding selectingIt selectWord chosen wantsTemplate
+  select-gives = go (eqb (viewAt img s .kind) df)
+    where
+      go : (b : Bool)
+          → Gives (cond b (Select s none (selectWord (lifeAt img s))) (Select (currentDfOf img) s (selectWord (lifeAt img s))))
+          (cond b (setCurrent img s none) (setCurrent img (currentDfOf img) s))
+      go true = (refl, refl, refl)
+      go false = (refl, refl, rw (ne-eqb s none low))
+
+-- the last ask of SELECT
+fits-says : (c t : List ℕ) (lent : ℕ)
+    → (leb (length (cond (eqb (getD c 3 0) 0x04) t [])) lent ≡ true) ↔ (AsksTemplate c → length t ≤ lent)
+fits-says c t lent = go (eqb (getD c 3 0) 0x04) refl
+  where
+    go : (b : Bool) → eqb (getD c 3 0) 0x04 ≡ b → (leb (length (cond b t [])) lent ≡ true) ↔ (AsksTemplate c → length t ≤ lent)
+    go true q = ((λ h k. le-says _ _ .0 h), (λ h. le-says _ _ .1 (h (eq-says _ _ .0 q))))
+    go false q = ((λ h k. absurd (false≢true (sym q ∙ eq-says _ _ .1 k))), (λ h. le-says 0 lent .1 (omega arith)))
+
 pub select-obeys : SelectObeys
-unfolding planFor isKnown wantsAlone isTerminate wantedParameters selectingIt selectWord
-select-obeys img c st sound e =
-    obeys img c st sound (select img (countOf img) (currentDfOf img) (sentIdentifier c)) (rw e) (selectAsks img c) _ _
+unfolding planFor isKnown wantsAlone isTerminate final
+select-obeys img c st response sound e =
+    obeys img c st response sound (select img (countOf img) (currentDfOf img) (sentIdentifier c)) (rw e)
+    (selectAsks img c (length response)) _ _ _
     (opens img c st 0xA4 e refl _ _
     (reads-skip _ _ _ _ (calm c st 0xA4 e refl)
-    (reads-ask _ _ _ _ _ _ (parameters-say c st 0xA4 e 0x0C refl (omega arith)) refl
+    (reads-ask _ _ _ _ _ _ (select-parameters c e) refl
     (reads-ask _ _ _ _ _ _ (select-length c e) refl
     (reads-ask _ _ _ _ _ _ ((λ h. h), (λ h. h)) refl
-    reads-none)))))
-    (λ m. gives (slotIn (selected img (countOf img) (currentDfOf img) (sentIdentifier c))))
+    (reads-ask _ _ _ _ _ _ (rw (gives .2) (fits-says c (templateOf (recAt img (found img c))) (length response))) refl
+    reads-none))))))
+    (λ m. gives)
   where
-    gives : (s : ℕ) → (wordOf (selectingIt img (currentDfOf img) s) ≡ wordFor (lifeOf (lifeAt img s)))
-        × (appliedOf img c (selectingIt img (currentDfOf img) s) ≡ selecting img s)
-    gives s = go (eqb (viewAt img s .kind) df)
-      where
-        go : (b : Bool)
-            → (wordOf (cond b (Select s none (selectWord (lifeAt img s))) (Select (currentDfOf img) s (selectWord (lifeAt img s))))
-            ≡ wordFor (lifeOf (lifeAt img s)))
-            × (appliedOf img c (cond b (Select s none (selectWord (lifeAt img s))) (Select (currentDfOf img) s (selectWord (lifeAt img s))))
-            ≡ cond b (setCurrent img s none) (setCurrent img (currentDfOf img) s))
-        go true = (refl, refl)
-        go false = (refl, refl)
+    some : found img c ≡ none → ⊥
+    some z = omega (arith, z, found-low img sound (sentIdentifier c), sound .header .most)
+
+    gives : Gives img c (found img c) some (selectingIt img (currentDfOf img) (found img c)) (selecting img (found img c))
+    gives = select-gives img c (found img c) some
 
 pub create-obeys : CreateObeys
-unfolding planFor isKnown wantsAlone isTerminate wantedParameters part
-create-obeys img c st sound e =
-    obeys img c st sound (create img (countOf img) (currentDfOf img) (sentData c) (st .sets)) (rw e) (createAsks img c st) _ _
+unfolding planFor isKnown wantsAlone isTerminate part
+create-obeys img c st response sound e =
+    obeys-silent img c st response sound (create img (countOf img) (currentDfOf img) (sentData c) (st .sets)) (rw e) (createAsks img c st) _ _
+    (create-silent (dataOf (sentData c)))
     (opens img c st 0xE0 e refl _ _
     (reads-ask _ _ _ _ _ _ (alone-says c st 0xE0 e refl) refl
-    (reads-ask _ _ _ _ _ _ (parameters-say c st 0xE0 e 0x00 refl (omega arith)) refl
+    (reads-ask _ _ _ _ _ _ (parameters-say c st 0xE0 e refl) refl
     (reads-ask _ _ _ _ _ _ (data-says c e) refl
     (reads-ask _ _ _ _ _ _ (file-says (sentData c)) refl
     (reads-ask _ _ _ _ _ _ ((λ h. h), (λ h. h)) refl
@@ -120,6 +188,11 @@ create-obeys img c st sound e =
     slot : ℕ
     slot = slotIn (freeSlot (countOf img) (viewAt img))
 
+    create-silent : (new : Data) → told img c (creatingIt img (currentDfOf img) slot new) ≡ []
+    create-silent Bad = refl
+    create-silent (Df x) = refl
+    create-silent (Ef x) = refl
+
     gives : (new : Data) → describes new ≡ true → (wordOf (creatingIt img (currentDfOf img) slot new) ≡ 0x9000)
         × (appliedOf img c (creatingIt img (currentDfOf img) slot new) ≡ creating img (sentData c) slot new)
     gives Bad h = absurd (false≢true h)
@@ -127,12 +200,12 @@ create-obeys img c st sound e =
     gives (Ef x) h = (refl, refl)
 
 pub delete-obeys : DeleteObeys
-unfolding planFor isKnown wantsAlone isTerminate wantedParameters
-delete-obeys img c st sound e =
-    obeys img c st sound (delete img (countOf img) (currentDfOf img) (sentIdentifier c) (st .sets)) (rw e) (deleteAsks img c st) _ _
+unfolding planFor isKnown wantsAlone isTerminate
+delete-obeys img c st response sound e =
+    obeys-silent img c st response sound (delete img (countOf img) (currentDfOf img) (sentIdentifier c) (st .sets)) (rw e) (deleteAsks img c st) _ _ refl
     (opens img c st 0xE4 e refl _ _
     (reads-ask _ _ _ _ _ _ (alone-says c st 0xE4 e refl) refl
-    (reads-ask _ _ _ _ _ _ (parameters-say c st 0xE4 e 0x00 refl (omega arith)) refl
+    (reads-ask _ _ _ _ _ _ (parameters-say c st 0xE4 e refl) refl
     (reads-ask _ _ _ _ _ _ (delete-length c e) refl
     (reads-ask _ _ _ _ _ _ ((λ h. h), (λ h. h)) refl
     (reads-ask _ _ _ _ _ _ (deletes-says img (currentDfOf img) _ (st .sets)) refl
@@ -140,14 +213,14 @@ delete-obeys img c st sound e =
     (λ m. (refl, refl))
 
 -- the life-cycle commands have no data
-module _ (img c : List ℕ) (st : State) (i : ℕ) (e : instruction c ≡ i) (k : isKnown i ≡ true) (wanted : wantedParameters i ≡ 0x00)
+module _ (img c : List ℕ) (st : State) (i : ℕ) (e : instruction c ≡ i) (k : isKnown i ≡ true)
     (p : eqb i 0xE0 ≡ false) (q : eqb i 0xA4 ≡ false) (r : eqb i 0xE4 ≡ false) where
   opens-anyway : wantsAlone i ≡ false → (steps : List Step) (rest : List Ask) → Reads steps rest
       → Reads (sharedSteps img c st ++ steps) (knownAsks img c (parametersAre c 0x00 0x00 ∷ fourBytes c ∷ rest))
   opens-anyway w steps rest more =
       opens img c st i e k _ _
       (reads-skip _ _ _ _ (calm c st i e w)
-      (reads-ask _ _ _ _ _ _ (parameters-say c st i e 0x00 wanted (omega arith)) refl
+      (reads-ask _ _ _ _ _ _ (parameters-say c st i e q) refl
       (reads-ask _ _ _ _ _ _ (four-says c i e p q r) refl more)))
 
   opens-alone : wantsAlone i ≡ true → (steps : List Step) (rest : List Ask) → Reads steps rest
@@ -155,14 +228,14 @@ module _ (img c : List ℕ) (st : State) (i : ℕ) (e : instruction c ≡ i) (k 
   opens-alone w steps rest more =
       opens img c st i e k _ _
       (reads-ask _ _ _ _ _ _ (alone-says c st i e w) refl
-      (reads-ask _ _ _ _ _ _ (parameters-say c st i e 0x00 wanted (omega arith)) refl
+      (reads-ask _ _ _ _ _ _ (parameters-say c st i e q) refl
       (reads-ask _ _ _ _ _ _ (four-says c i e p q r) refl more)))
 
 pub activate-obeys : ActivateObeys
-unfolding planFor lifePlan isKnown wantsAlone isTerminate wantedParameters
-activate-obeys img c st sound e =
-    obeys img c st sound (activate img (currentFile img) (st .sets)) (rw e) (activateAsks img c st) _ _
-    (opens-anyway img c st 0x44 e refl refl refl refl refl refl _ _
+unfolding planFor lifePlan isKnown wantsAlone isTerminate
+activate-obeys img c st response sound e =
+    obeys-silent img c st response sound (activate img (currentFile img) (st .sets)) (rw e) (activateAsks img c st) _ _ refl
+    (opens-anyway img c st 0x44 e refl refl refl refl refl _ _
     (reads-ask _ _ _ _ _ _ ((λ h. h), (λ h. h)) refl
     (reads-ask _ _ _ _ _ _ (none-says img (currentFile img)) refl
     (reads-ask _ _ _ _ _ _ (activates-says (lifeAt img (currentFile img))) refl
@@ -170,10 +243,10 @@ activate-obeys img c st sound e =
     (λ m. (refl, refl))
 
 pub deactivate-obeys : DeactivateObeys
-unfolding planFor lifePlan isKnown wantsAlone isTerminate wantedParameters
-deactivate-obeys img c st sound e =
-    obeys img c st sound (deactivate img (currentFile img) (st .sets)) (rw e) (deactivateAsks img c st) _ _
-    (opens-anyway img c st 0x04 e refl refl refl refl refl refl _ _
+unfolding planFor lifePlan isKnown wantsAlone isTerminate
+deactivate-obeys img c st response sound e =
+    obeys-silent img c st response sound (deactivate img (currentFile img) (st .sets)) (rw e) (deactivateAsks img c st) _ _ refl
+    (opens-anyway img c st 0x04 e refl refl refl refl refl _ _
     (reads-ask _ _ _ _ _ _ ((λ h. h), (λ h. h)) refl
     (reads-ask _ _ _ _ _ _ (none-says img (currentFile img)) refl
     (reads-ask _ _ _ _ _ _ (eq-says _ _) refl
@@ -181,10 +254,10 @@ deactivate-obeys img c st sound e =
     (λ m. (refl, refl))
 
 pub terminate-ef-obeys : TerminateEfObeys
-unfolding planFor lifePlan isKnown wantsAlone isTerminate wantedParameters
-terminate-ef-obeys img c st sound e =
-    obeys img c st sound (terminateTheEf img (currentEfOf img) (st .sets)) (rw e) (terminateEfAsks img c st) _ _
-    (opens-alone img c st 0xE8 e refl refl refl refl refl refl _ _
+unfolding planFor lifePlan isKnown wantsAlone isTerminate
+terminate-ef-obeys img c st response sound e =
+    obeys-silent img c st response sound (terminateTheEf img (currentEfOf img) (st .sets)) (rw e) (terminateEfAsks img c st) _ _ refl
+    (opens-alone img c st 0xE8 e refl refl refl refl refl _ _
     (reads-ask _ _ _ _ _ _ (is-not-says _ _) refl
     (reads-ask _ _ _ _ _ _ ((λ h. h), (λ h. h)) refl
     (reads-ask _ _ _ _ _ _ (none-says img (currentEfOf img)) refl
@@ -192,10 +265,10 @@ terminate-ef-obeys img c st sound e =
     (λ m. (refl, refl))
 
 pub terminate-df-obeys : TerminateDfObeys
-unfolding planFor lifePlan isKnown wantsAlone isTerminate wantedParameters
-terminate-df-obeys img c st sound e =
-    obeys img c st sound (terminateTheDf img (currentDfOf img) (st .sets)) (rw e) (terminateDfAsks img c st) _ _
-    (opens-alone img c st 0xE6 e refl refl refl refl refl refl _ _
+unfolding planFor lifePlan isKnown wantsAlone isTerminate
+terminate-df-obeys img c st response sound e =
+    obeys-silent img c st response sound (terminateTheDf img (currentDfOf img) (st .sets)) (rw e) (terminateDfAsks img c st) _ _ refl
+    (opens-alone img c st 0xE6 e refl refl refl refl refl _ _
     (reads-ask _ _ _ _ _ _ ((λ h. h), (λ h. h)) refl
     (reads-ask _ _ _ _ _ _ (is-not-says _ _) refl
     (reads-ask _ _ _ _ _ _ (none-says img (currentDfOf img)) refl
@@ -203,10 +276,10 @@ terminate-df-obeys img c st sound e =
     (λ m. (refl, refl))
 
 pub terminate-card-obeys : TerminateCardObeys
-unfolding planFor lifePlan isKnown wantsAlone isTerminate wantedParameters
-terminate-card-obeys img c st sound e =
-    obeys img c st sound (terminateTheCard img (st .sets)) (rw e) (terminateCardAsks img c st) _ _
-    (opens-alone img c st 0xFE e refl refl refl refl refl refl _ _
+unfolding planFor lifePlan isKnown wantsAlone isTerminate
+terminate-card-obeys img c st response sound e =
+    obeys-silent img c st response sound (terminateTheCard img (st .sets)) (rw e) (terminateCardAsks img c st) _ _ refl
+    (opens-alone img c st 0xFE e refl refl refl refl refl _ _
     (reads-ask _ _ _ _ _ _ ((λ h. h), (λ h. h)) refl
     reads-none))
     (λ m. (refl, refl))
@@ -221,8 +294,8 @@ unfolding isKnown isTerminate
 unknown i h = rw (or-none (eqb i 0xFE)) at h
 
 pub others-refused : OthersRefused
-others-refused img c st sound h =
-    obeys img c st sound (planFor img (countOf img) (currentDfOf img) c st) refl (unknownAsks c) 0x6D00 img
+others-refused img c st response sound h =
+    obeys img c st response sound (planFor img (countOf img) (currentDfOf img) c st) refl (unknownAsks c) 0x6D00 img []
     (reads-ask _ _ _ _ _ _ (le-says _ _) refl
     (reads-ask _ _ _ _ _ _ (channel-says (classByte c)) refl
     (reads-ask _ _ _ _ _ _ (eq-says _ _) refl
@@ -230,8 +303,8 @@ others-refused img c st sound h =
     (λ m. absurd (m .1 .1 .1 .0))
 
 pub no-bodies-yet : NoBodiesYet
-no-bodies-yet img c st sound long class body =
-    others-refused img c st sound (other (instruction c) body) .refused 0x6D00
+no-bodies-yet img c st response sound long class body =
+    others-refused img c st response sound (other (instruction c) body) .refused 0x6D00
     (inr (long, inr ((λ k. omega (arith, k .0, class)), inr (class, inl ((λ z. z), refl)))))
   where
     other : (i : ℕ) → isOneOf i (0xB0 ∷ 0xD6 ∷ 0xB2 ∷ 0xDC ∷ []) ≡ true

@@ -18,10 +18,11 @@ use Rattle.rules.specs.declared.Sets.{Sets}
 use Rattle.rules.specs.declared.Right.{Right}
 use Rattle.rules.specs.declared.Right.the-variants.{CreateDf, CreateEf}
 use Rattle.laws.specs.Tests.{either}
-use Rattle.rules.specs.Descriptor.{classOf, isDf, isEf, hasRecords, df, ef}
+use Rattle.rules.specs.Descriptor.{classOf, df, ef}
+use Rattle.rules.proofs.Descriptors.{df-plain}
 use Rattle.rules.proofs.Lives.{activated-known, deactivated-known, terminated-known, new-known}
 use Rattle.rules.proofs.Groups.{fits-short}
-use Rattle.rules.specs.Value.{goodLength, wholeRecords}
+use Rattle.rules.specs.Value.{goodLength}
 use Rattle.image.specs.Layout.{countOf, currentDfOf, recAt, descriptorOf}
 use Rattle.sound.specs.Table.{viewAt, File}
 use Rattle.sound.specs.Sound.{Sound}
@@ -58,22 +59,10 @@ use Rattle.judge.proofs.Plans.{current-stands, create-long}
 use Rattle.card.proofs.Steps.{cond-by, judged-by, followed-by, chosen-by, anyWord}
 use Rattle.card.proofs.Tells.{Tells}
 
--- a DF's structure has no records
-df-plain : (k z : ℕ) → classOf k ≡ df → goodLength k 0 z ≡ true
-unfolding classOf goodLength either hasRecords
-df-plain k z e = go (isDf k) refl e
-  where
-    plain : k % 8 ≡ 0 → cond (eqb (k % 8) 2 || eqb (k % 8) 6) (wholeRecords 0 z) (eqb 0 0) ≡ true
-    plain q = rw q
-
-    other : (b : Bool) → cond b ef 0 ≡ df → ⊥
-    other true q = omega arith
-    other false q = omega arith
-
-    go : (b : Bool) → isDf k ≡ b → cond b df (cond (isEf k) ef 0) ≡ df
-        → cond (eqb (k % 8) 2 || eqb (k % 8) 6) (wholeRecords 0 z) (eqb 0 0) ≡ true
-    go true q r = plain (eqb-true (k % 8) 0 ((simp and-says at q) .1 .1))
-    go false q r = absurd (other (isEf k) r)
+-- so a DF has record length 0
+df-length : (k z : ℕ) → classOf k ≡ df → goodLength k 0 z ≡ true
+unfolding goodLength either
+df-length k z e = rw (df-plain k e)
 
 -- a part of a slice is as long as it is said to be
 part-long : (s : List ℕ) (a b : ℕ) → a ≤ b → b ≤ length s → length (part s a (b - a)) ≡ b - a
@@ -231,7 +220,7 @@ module _ (img c : List ℕ) (sound : Sound img) where
       life = new-known (x .life) (g .file .life);
       identifier = g .file .identifier;
       size = some-size (x .size) (g .total);
-      records = rw (g .plain) (df-plain (x .descriptor) (x .size) (g .class));
+      records = rw (g .plain) (df-length (x .descriptor) (x .size) (g .class));
       name-short = omega (arith, name-long x (g .file), g .name-short);
       nameless = λ e. absurd (omega arith);
       rule-short = fits-short _ (g .file .rule);

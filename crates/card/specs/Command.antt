@@ -1,35 +1,69 @@
--- What one call gives, for any image, command and state: the reply, and every byte of the image afterwards.
-use Prim.Native.Nat.{ℕ}
+-- What one call gives, for any image, command, state and response: the reply, every byte of the image afterwards, and every byte of
+-- the response. `lent` is how many bytes the response has.
+use Prim.Native.Nat.{ℕ, _≤_}
 use mathlib.Core.Path.{_≡_}
-use mathlib.Core.Bool.{cond}
+use mathlib.Core.Bool.{Bool, cond}
 use mathlib.Core.List.{List}
+use lib.Dec.{leb}
+use lib.ListN.{length}
+use Rattle.laws.specs.Lists.{splice}
 use Rattle.sound.specs.Sound.{soundb}
 use Rattle.verdict.specs.declared.State.{State}
+use Rattle.verdict.specs.declared.Verdict.{Verdict}
+use Rattle.verdict.specs.declared.Verdict.the-variants.{Refuse}
 use Rattle.verdict.specs.Applied.{wordOf, appliedOf}
 use Rattle.judge.specs.Judge.{judgeOf}
+use Rattle.effect.specs.Told.{told}
 use Rattle.card.specs.declared.Reply.{Reply}
-use Rattle.card.specs.declared.Reply.the-variants.{Word, Damaged}
+use Rattle.card.specs.declared.Reply.the-variants.{Word, Damaged, Short}
 
--- 01's number and word for each reply: 0 and the word of the command; 1 and 0000 where the image isn't sound
+-- 01's number and word for each reply, and how many bytes were told: 0 and the word of the command; 1 and 0000 where the image isn't
+-- sound; 5 and 0000 where the response is too short (02 Ticket 2)
 abbrev pub answerNumber : Reply → ℕ
-answerNumber (Word w) = 0
+answerNumber (Word w n) = 0
 answerNumber Damaged = 1
+answerNumber Short = 5
 
 abbrev pub answerWord : Reply → ℕ
-answerWord (Word w) = w
+answerWord (Word w n) = w
 answerWord Damaged = 0x0000
+answerWord Short = 0x0000
 
--- soundness first; then the command is judged, and has its effect
-unfoldable pub replyOf : List ℕ → List ℕ → State → Reply
-replyOf img c st = cond (soundb img) (Word (wordOf (judgeOf img c st))) Damaged
+abbrev pub answerTold : Reply → ℕ
+answerTold (Word w n) = n
+answerTold Damaged = 0
+answerTold Short = 0
 
-unfoldable pub imageOf : List ℕ → List ℕ → State → List ℕ
-imageOf img c st = cond (soundb img) (appliedOf img c (judgeOf img c st)) img
+-- the last check: what the verdict tells fits the response
+unfoldable pub fits : List ℕ → List ℕ → State → ℕ → Bool
+fits img c st lent = leb (length (told img c (judgeOf img c st))) lent
 
--- WHAT A CALL PROMISES: the reply, with 01's number and word for it, and every byte of the image afterwards
-abbrev pub CommandPromises : List ℕ → List ℕ → State → Reply → List ℕ → Type 0
-CommandPromises img c st r left =
-    (r ≡ replyOf img c st)
-    × (left ≡ imageOf img c st)
-    × (answerNumber r ≡ cond (soundb img) 0 1)
-    × (answerWord r ≡ cond (soundb img) (wordOf (judgeOf img c st)) 0x0000)
+-- the verdict that stands: where that check fails, a refusal without a word
+unfoldable pub dueOf : List ℕ → List ℕ → State → ℕ → Verdict
+dueOf img c st lent = cond (fits img c st lent) (judgeOf img c st) (Refuse 0x0000)
+
+-- soundness first; then the command is judged, tells, and has its effect
+unfoldable pub replyOf : List ℕ → List ℕ → State → ℕ → Reply
+replyOf img c st lent =
+    let due : Verdict = dueOf img c st lent in
+    cond (soundb img) (cond (fits img c st lent) (Word (wordOf due) (length (told img c due))) Short) Damaged
+
+unfoldable pub imageOf : List ℕ → List ℕ → State → ℕ → List ℕ
+imageOf img c st lent = cond (soundb img) (appliedOf img c (dueOf img c st lent)) img
+
+-- what is told stands at the start of the response; the bytes past it stay
+unfoldable pub responseOf : List ℕ → List ℕ → State → List ℕ → List ℕ
+responseOf img c st response =
+    cond (soundb img) (splice response 0 (told img c (dueOf img c st (length response)))) response
+
+-- WHAT A CALL PROMISES: the reply, with its number, its word and how many bytes were told; every byte of the image and of the response
+-- afterwards
+pub record CommandPromises (img c : List ℕ) (st : State) (response : List ℕ) (r : Reply) (left answered : List ℕ) : Type 0 where
+  pub reply : r ≡ replyOf img c st (length response)
+  pub image : left ≡ imageOf img c st (length response)
+  pub response-is : answered ≡ responseOf img c st response
+  pub number : answerNumber r ≡ cond (soundb img) (cond (fits img c st (length response)) 0 5) 1
+  pub word : answerWord r ≡ cond (soundb img) (wordOf (dueOf img c st (length response))) 0x0000
+  pub bytes : answerTold r ≡ cond (soundb img) (length (told img c (dueOf img c st (length response)))) 0
+  -- so few that every number holds them
+  pub few : answerTold r ≤ 53

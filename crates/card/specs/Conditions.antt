@@ -1,6 +1,7 @@
 -- What each command asks, in 01's order, each condition beside the word of its failure (01 "The order in which a command is
 -- judged" and the commands' paragraphs). The words, instructions and lengths are 01's own numbers, and a condition is a
--- sentence about the bytes of the command and the records of the image: nothing here rests on the tests that judging makes.
+-- sentence about the bytes of the command and the records of the image: nothing here rests on the tests that judging makes. `lent` is
+-- how many bytes the response has.
 use mathlib.Core.Path.{_≡_}
 use mathlib.Core.Bool.{true}
 use mathlib.Core.List.{List, [], _∷_}
@@ -9,7 +10,7 @@ use Prim.Native.Nat.{ℕ, _+_, _/_, _%_, _<_, _≤_}
 use lib.ListN.{length, getD}
 use Rattle.rules.specs.declared.Right.the-variants.{DeleteSelf, Terminate, Activate, Deactivate, DeleteChild}
 use Rattle.rules.specs.Life.{lifeOf, creation, initialisation, activated, deactivated, terminated}
-use Rattle.image.specs.Layout.{countOf, currentDfOf, currentEfOf, none}
+use Rattle.image.specs.Layout.{countOf, currentDfOf, currentEfOf, none, recAt}
 use Rattle.sound.specs.Table.{File, viewAt, up}
 use Rattle.sound.specs.Kinship.{childNamed, roomFor}
 use Rattle.create_data.specs.Data.{dataOf}
@@ -18,6 +19,7 @@ use Rattle.verdict.specs.declared.State.{State}
 use Rattle.verdict.specs.Applied.{sentData}
 use Rattle.judge_target.specs.Target.{currentFile, lifeAt, allowedAt, isFound, slotIn, selected, rightFor, newIdentifier, newName, newSize}
 use Rattle.apdu.specs.Apdu.{classByte, lc, sentIdentifier}
+use Rattle.fcp.specs.Template.{templateOf}
 
 pub record Ask : Type 1 where
   pub condition : Type 0
@@ -67,12 +69,27 @@ parametersAre c p1 p2 = ask ((getD c 2 0 ≡ p1) × (getD c 3 0 ≡ p2)) 0x6B00
 abbrev pub fourBytes : List ℕ → Ask
 fourBytes c = ask (length c ≡ 4) 0x6700
 
-abbrev pub selectAsks : List ℕ → List ℕ → List Ask
-selectAsks img c =
+-- SELECT's P2 asks for the template of the file
+abbrev pub AsksTemplate : List ℕ → Type 0
+AsksTemplate c = getD c 3 0 ≡ 0x04
+
+-- with it SELECT has 8 bytes, Lc 2 and Le 00; without it 7, Lc 2
+abbrev pub SelectLong : List ℕ → Type 0
+SelectLong c =
+    (AsksTemplate c × ((length c ≡ 8) × ((lc c ≡ 2) × (getD c 7 0 ≡ 0x00))))
+    ⊎ ((AsksTemplate c → ⊥) × ((length c ≡ 7) × (lc c ≡ 2)))
+
+-- the file that SELECT finds
+abbrev pub found : List ℕ → List ℕ → ℕ
+found img c = slotIn (selected img (countOf img) (currentDfOf img) (sentIdentifier c))
+
+abbrev pub selectAsks : List ℕ → List ℕ → ℕ → List Ask
+selectAsks img c lent =
     knownAsks img c
-    (parametersAre c 0x00 0x0C                                                                       -- F
-    ∷ ask ((length c ≡ 7) × (lc c ≡ 2)) 0x6700                                                       -- G
+    (ask ((getD c 2 0 ≡ 0x00) × ((getD c 3 0 ≡ 0x0C) ⊎ AsksTemplate c)) 0x6B00                       -- F
+    ∷ ask (SelectLong c) 0x6700                                                                      -- G
     ∷ ask (isFound (selected img (countOf img) (currentDfOf img) (sentIdentifier c)) ≡ true) 0x6A82  -- I
+    ∷ ask (AsksTemplate c → length (templateOf (recAt img (found img c))) ≤ lent) 0x0000             -- answer 5
     ∷ [])
 
 -- no file of directory d has identifier i, nor has d, nor a directory above it

@@ -4,9 +4,10 @@ use mathlib.Core.Path.{_≡_}
 use mathlib.Core.Bool.{true, false}
 use mathlib.Core.List.{List, [], _∷_}
 use mathlib.Core.Logic.{_⊎_}
-use Prim.Native.Nat.{ℕ, _+_, _<_}
+use Prim.Native.Nat.{ℕ, _+_, _<_, _≤_}
 use lib.ListN.{length, getD}
 use Rattle.laws.specs.declared.Found.the-variants.{At}
+use Rattle.laws.specs.Lists.{splice}
 use Rattle.laws.specs.Settled.{Settles}
 use Rattle.image.specs.Layout.{recAt, freeBytes, kindOf, countOf, currentDfOf, currentEfOf}
 use Rattle.sound.specs.Table.{viewAt}
@@ -19,63 +20,96 @@ use Rattle.verdict.specs.Applied.{wordOf, appliedOf}
 use Rattle.judge_target.specs.Steps.{allHold}
 use Rattle.apdu.specs.Apdu.{instruction, sentIdentifier}
 use Rattle.judge.specs.Judge.{judgeOf}
+use Rattle.effect.specs.Told.{told}
 use Rattle.card.specs.declared.Reply.{Reply}
-use Rattle.card.specs.declared.Reply.the-variants.{Word}
-use Rattle.card.specs.Command.{answerNumber, answerWord, replyOf, imageOf, CommandPromises}
-use Rattle.card.specs.Steps.{stepsOf, effectOf, firstFailing}
-use Rattle.card.specs.Obeyed.{isOneOf}
+use Rattle.card.specs.declared.Reply.the-variants.{Word, Short}
+use Rattle.card.specs.Command.{answerNumber, answerWord, answerTold, dueOf, replyOf, imageOf, responseOf, CommandPromises}
+use Rattle.card.specs.Steps.{allSteps, effectOf, firstFailing}
+use Rattle.card.specs.Obeyed.{refusal, isOneOf}
 use Rattle.card.specs.After.{recordAfter, currentAfter, dfAfter, efAfter}
 
--- Demand 1: a damaged image is refused as answer 1 with word 0000, and left as it came; a sound one is answer 0
+-- Demand 1: a damaged image is refused as answer 1 with word 0000; image and response are as they came
 abbrev pub DamagedRefused : Type 0
-DamagedRefused = (img c : List ℕ) (st : State) → soundb img ≡ false
-    → (answerNumber (replyOf img c st) ≡ 1) × (answerWord (replyOf img c st) ≡ 0x0000) × (imageOf img c st ≡ img)
+DamagedRefused = (img c : List ℕ) (st : State) (response : List ℕ) → soundb img ≡ false
+    → (answerNumber (replyOf img c st (length response)) ≡ 1) × (answerWord (replyOf img c st (length response)) ≡ 0x0000)
+    × (imageOf img c st (length response) ≡ img) × (responseOf img c st response ≡ response)
 
+-- .. a sound one is answer 0, or 5 with word 0000 where the response is shorter than what the command tells
 abbrev pub SoundAnswered : Type 0
-SoundAnswered = (img c : List ℕ) (st : State) → soundb img ≡ true → answerNumber (replyOf img c st) ≡ 0
+SoundAnswered = (img c : List ℕ) (st : State) (lent : ℕ) → soundb img ≡ true
+    → (length (told img c (judgeOf img c st)) ≤ lent → answerNumber (replyOf img c st lent) ≡ 0)
+    × (lent < length (told img c (judgeOf img c st)) → (answerNumber (replyOf img c st lent) ≡ 5) × (answerWord (replyOf img c st lent) ≡ 0x0000))
 
 -- 9000, 6283 or 6285
 abbrev pub Succeeds : ℕ → Type 0
 Succeeds w = (w ≡ done) ⊎ ((w ≡ fileDeactivated) ⊎ (w ≡ fileTerminated))
 
--- Demand 1: any word but 9000, 6283 or 6285 leaves the image as it came, whatever the image
+-- Demand 1: any word but 9000, 6283 or 6285 leaves image and response as they came, whatever the image; no byte is told
 abbrev pub OtherWordsLeave : Type 0
-OtherWordsLeave = (img c : List ℕ) (st : State) → (Succeeds (answerWord (replyOf img c st)) → ⊥) → imageOf img c st ≡ img
+OtherWordsLeave = (img c : List ℕ) (st : State) (response : List ℕ) → (Succeeds (answerWord (replyOf img c st (length response))) → ⊥)
+    → (imageOf img c st (length response) ≡ img) × (responseOf img c st response ≡ response)
+    × (answerTold (replyOf img c st (length response)) ≡ 0)
 
--- all words that a call can give: those of 01's table and no other, so never 63 0X, 65 81 or 6F XX; 0000 is for answer 1
+-- all words that a call can give: those of 01's table and no other, so never 63 0X, 65 81 or 6F XX; 0000 is for the answers 1 and 5
 abbrev pub wordsOfTable : List ℕ
 wordsOfTable =
     0x9000 ∷ 0x6283 ∷ 0x6285 ∷ 0x6700 ∷ 0x6982 ∷ 0x6985 ∷ 0x6986 ∷ 0x6A80 ∷ 0x6A82 ∷ 0x6A84 ∷ 0x6A89 ∷ 0x6A8A ∷ 0x6B00 ∷ 0x6D00 ∷ 0x6E00
     ∷ []
 
 abbrev pub OnlyTheseWords : Type 0
-OnlyTheseWords = (img c : List ℕ) (st : State) → soundb img ≡ true → isOneOf (answerWord (replyOf img c st)) wordsOfTable ≡ true
+OnlyTheseWords = (img c : List ℕ) (st : State) (lent : ℕ) → soundb img ≡ true
+    → ((answerNumber (replyOf img c st lent) ≡ 0) × (isOneOf (answerWord (replyOf img c st lent)) wordsOfTable ≡ true))
+    ⊎ (replyOf img c st lent ≡ Short)
 
 -- 6283 and 6285 come from SELECT alone
 abbrev pub WarnsInSelect : Type 0
-WarnsInSelect = (img c : List ℕ) (st : State) → (answerWord (replyOf img c st) ≡ 0x6283) ⊎ (answerWord (replyOf img c st) ≡ 0x6285)
-    → instruction c ≡ 0xA4
+WarnsInSelect = (img c : List ℕ) (st : State) (lent : ℕ)
+    → (answerWord (replyOf img c st lent) ≡ 0x6283) ⊎ (answerWord (replyOf img c st lent) ≡ 0x6285) → instruction c ≡ 0xA4
+
+-- every command but SELECT, and SELECT with another P2 than 04, leaves the response and is never answer 5, on any image
+abbrev pub OthersTellNothing : Type 0
+OthersTellNothing = (img c : List ℕ) (st : State) (response : List ℕ) → (instruction c ≡ 0xA4 → getD c 3 0 ≡ 0x04 → ⊥)
+    → (responseOf img c st response ≡ response) × (answerTold (replyOf img c st (length response)) ≡ 0)
+    × (replyOf img c st (length response) ≡ Short → ⊥)
+
+-- a response of 53 bytes is never too short
+abbrev pub LongEnough : Type 0
+LongEnough = (img c : List ℕ) (st : State) (lent : ℕ) → 53 ≤ lent → replyOf img c st lent ≡ Short → ⊥
+
+-- the response keeps its length, and every byte past what was told
+pub record PastStays (response answered : List ℕ) (n : ℕ) : Type 0 where
+  pub long : length answered ≡ length response
+  pub within : n ≤ length response
+  pub past : (k : ℕ) → n ≤ k → getD answered k 0 ≡ getD response k 0
+
+abbrev pub ResponseStays : Type 0
+ResponseStays = (img c : List ℕ) (st : State) (response : List ℕ)
+    → PastStays response (responseOf img c st response) (answerTold (replyOf img c st (length response)))
 
 -- a sound image stays sound; the length of any image stays
 abbrev pub StaysSound : Type 0
-StaysSound = (img c : List ℕ) (st : State) → Sound img → Sound (imageOf img c st)
+StaysSound = (img c : List ℕ) (st : State) (lent : ℕ) → Sound img → Sound (imageOf img c st lent)
 
 abbrev pub LengthStays : Type 0
-LengthStays = (img c : List ℕ) (st : State) → length (imageOf img c st) ≡ length img
+LengthStays = (img c : List ℕ) (st : State) (lent : ℕ) → length (imageOf img c st lent) ≡ length img
 
--- Demand 2: where all steps hold, the reply is the word of the effect and the image has it; else the reply is the word of
--- the first that fails, and the image is as it came
+-- Demand 2: where all steps hold, the reply is the word of the effect, the image has it, and what it tells stands at the start of the
+-- response; else the reply is the word of the first that fails, and image and response are as they came
 abbrev pub RepliesInOrder : Type 0
-RepliesInOrder = (img c : List ℕ) (st : State) → Sound img
-    → (allHold (stepsOf img c st) ≡ true
-    → (replyOf img c st ≡ Word (wordOf (effectOf img c st))) × (imageOf img c st ≡ appliedOf img c (effectOf img c st)))
-    × (allHold (stepsOf img c st) ≡ false → (replyOf img c st ≡ Word (firstFailing (stepsOf img c st))) × (imageOf img c st ≡ img))
+RepliesInOrder = (img c : List ℕ) (st : State) (response : List ℕ) → Sound img
+    → (allHold (allSteps img c st (length response)) ≡ true
+    → (replyOf img c st (length response) ≡ Word (wordOf (effectOf img c st)) (length (told img c (effectOf img c st))))
+    × (imageOf img c st (length response) ≡ appliedOf img c (effectOf img c st))
+    × (responseOf img c st response ≡ splice response 0 (told img c (effectOf img c st))))
+    × (allHold (allSteps img c st (length response)) ≡ false
+    → (replyOf img c st (length response) ≡ refusal (firstFailing (allSteps img c st (length response))))
+    × (imageOf img c st (length response) ≡ img) × (responseOf img c st response ≡ response))
 
 -- Demand 2: the word tells success exactly where all steps hold
 abbrev pub SucceedsExactly : Type 0
-SucceedsExactly = (img c : List ℕ) (st : State) → Sound img
-    → (allHold (stepsOf img c st) ≡ true → Succeeds (answerWord (replyOf img c st)))
-    × (Succeeds (answerWord (replyOf img c st)) → allHold (stepsOf img c st) ≡ true)
+SucceedsExactly = (img c : List ℕ) (st : State) (lent : ℕ) → Sound img
+    → (allHold (allSteps img c st lent) ≡ true → Succeeds (answerWord (replyOf img c st lent)))
+    × (Succeeds (answerWord (replyOf img c st lent)) → allHold (allSteps img c st lent) ≡ true)
 
 -- Demand 2: the effect is the stated one and no other. Of the header only what is current may change, bytes 7 to 10; every
 -- record is told, and with the length every byte
@@ -91,12 +125,12 @@ pub record Effected (img c : List ℕ) (v : Verdict) (left : List ℕ) : Type 0 
   pub ef : currentEfOf left ≡ efAfter img v
 
 abbrev pub EffectAndNoOther : Type 0
-EffectAndNoOther = (img c : List ℕ) (st : State) → Sound img → Effected img c (judgeOf img c st) (imageOf img c st)
+EffectAndNoOther = (img c : List ℕ) (st : State) (lent : ℕ) → Sound img → Effected img c (dueOf img c st lent) (imageOf img c st lent)
 
 -- a call that deletes the file in slot s: a DELETE answered 9000, of it or of one above
-pub record Deleting (img c : List ℕ) (st : State) (s : ℕ) : Type 0 where
+pub record Deleting (img c : List ℕ) (st : State) (lent s : ℕ) : Type 0 where
   pub delete : instruction c ≡ 0xE4
-  pub answered : answerWord (replyOf img c st) ≡ 0x9000
+  pub answered : answerWord (replyOf img c st lent) ≡ 0x9000
   pub top : ℕ
   pub child : childNamed (countOf img) (viewAt img) (currentDfOf img) (sentIdentifier c) ≡ At top
   pub over : atOrBeneath (viewAt img) top s ≡ true
@@ -104,23 +138,27 @@ pub record Deleting (img c : List ℕ) (st : State) (s : ℕ) : Type 0 where
 -- Demand 2: a terminated file stays terminated until it is deleted: over one command, it is deleted, or not one byte of its
 -- record changes
 abbrev pub TerminatedStays : Type 0
-TerminatedStays = (img c : List ℕ) (st : State) (s : ℕ) → Sound img → s < countOf img → (kindOf (recAt img s) ≡ 0 → ⊥)
+TerminatedStays = (img c : List ℕ) (st : State) (lent s : ℕ) → Sound img → s < countOf img → (kindOf (recAt img s) ≡ 0 → ⊥)
     → terminatedAt img s ≡ true
-    → (Deleting img c st s × (recAt (imageOf img c st) s ≡ freeBytes)) ⊎ (recAt (imageOf img c st) s ≡ recAt img s)
+    → (Deleting img c st lent s × (recAt (imageOf img c st lent) s ≡ freeBytes)) ⊎ (recAt (imageOf img c st lent) s ≡ recAt img s)
 
--- a call: the command and the state; the image after a list of them
+-- a call: the command, the state, and how long a response is lent; the image after a list of them
 pub record Call : Type 0 where
   pub command : List ℕ
   pub state : State
+  pub lent : ℕ
+
+abbrev pub imageAfter : List ℕ → Call → List ℕ
+imageAfter img x = imageOf img (x .command) (x .state) (x .lent)
 
 abbrev pub after : List ℕ → List Call → List ℕ
 after img [] = img
-after img (x ∷ rest) = after (imageOf img (x .command) (x .state)) rest
+after img (x ∷ rest) = after (imageAfter img x) rest
 
 -- the file in slot s is deleted by one of the calls
 abbrev pub DeletedIn : List ℕ → List Call → ℕ → Type 0
 DeletedIn img [] s = ⊥
-DeletedIn img (x ∷ rest) s = Deleting img (x .command) (x .state) s ⊎ DeletedIn (imageOf img (x .command) (x .state)) rest s
+DeletedIn img (x ∷ rest) s = Deleting img (x .command) (x .state) (x .lent) s ⊎ DeletedIn (imageAfter img x) rest s
 
 -- .. and over any list of commands
 abbrev pub TerminatedForGood : Type 0
@@ -130,4 +168,5 @@ TerminatedForGood = (calls : List Call) (img : List ℕ) (s : ℕ) → Sound img
 
 -- any two results that the contract of `card::command` allows are equal
 abbrev pub OneResult : Type 0
-OneResult = (img c : List ℕ) (st : State) → Settles (Reply × List ℕ) (λ p. CommandPromises img c st (p .0) (p .1))
+OneResult = (img c : List ℕ) (st : State) (response : List ℕ)
+    → Settles (Reply × (List ℕ × List ℕ)) (λ p. CommandPromises img c st response (p .0) (p .1 .0) (p .1 .1))

@@ -1,3 +1,4 @@
 pub mod Sent
 pub mod Writes
 pub mod Cases
+pub mod Told

@@ -8,9 +8,9 @@ use lib.Dec.{eqb}
 use borrow.Author.Tests.{eq-eqb, ne-eqb, eqb-true}
 use Rattle.laws.proofs.Says.{untrue}
 use Rattle.image.specs.Layout.{currentDfOf}
-use Rattle.card.specs.Demands.{Call}
+use Rattle.card.specs.Demands.{Call, imageAfter}
 use Rattle.history.specs.Ledger.{Entry, Ledger, Announced, makes, deletes, neither, someOf, isOwn, keep, livesIn, entered}
-use Rattle.history.specs.Story.{Story, imageAfter, heard, next}
+use Rattle.history.specs.Story.{Story, heard, next}
 use Rattle.history.specs.Demand3.{here, Lives, Makes}
 
 some-keep : (p q : Entry → Bool) (l : List Entry) → someOf p l ≡ false → someOf p (keep q l) ≡ false

@@ -19,10 +19,11 @@ use Rattle.maker.specs.declared.Made.the-variants.{Done}
 use Rattle.maker.specs.Making.{madeOf, leftBy}
 use Rattle.maker.proofs.Buffers.{sound-made, alone-made}
 use Rattle.verdict.specs.Words.{done, notEnoughMemory}
-use Rattle.card.specs.Demands.{Call}
-use Rattle.card.proofs.Demands.{stays-sound, effect-and-no-other}
+use Rattle.card.specs.Demands.{Call, imageAfter}
+use Rattle.card.proofs.Answered.{stays-sound}
+use Rattle.card.proofs.Demands.{effect-and-no-other}
 use Rattle.history.specs.Ledger.{makes, sumOver, opened}
-use Rattle.history.specs.Story.{Story, begun, imageAfter, heard, next, played, Ready, wordFor, sizeSent}
+use Rattle.history.specs.Story.{Story, begun, heard, next, played, Ready, wordFor, sizeSent}
 use Rattle.history.specs.Demand3.{here, room, Lives, Strikes, Makes, Demand3, History, Demand3Holds}
 use Rattle.history.proofs.Agree.{Agrees, worth, sumFiles, worth-free, worth-root}
 use Rattle.history.proofs.Directories.{Dir, dir-lives, lives-dir, charged-same, total-same, room-same}
@@ -70,7 +71,7 @@ module _ (st : Story) (k : Kept st) (x : Call) where
   some = omega (arith, k .sound .header .least)
 
   count-stays : countOf (imageAfter (st .image) x) ≡ slots st
-  count-stays = effect-and-no-other (st .image) (x .command) (x .state) (k .sound) .count
+  count-stays = effect-and-no-other (st .image) (x .command) (x .state) (x .lent) (k .sound) .count
 
   pub did : Did (slots st) (table st) (tableAfter st x) (heard (st .image) x) (currentDfOf (st .image))
       (currentDfOf (imageAfter (st .image) x))
@@ -83,7 +84,7 @@ module _ (st : Story) (k : Kept st) (x : Call) where
       (heard (st .image) x) (currentDfOf (st .image)) (currentDfOf (imageAfter (st .image) x)) did
 
   sound-after : Sound (imageAfter (st .image) x)
-  sound-after = stays-sound (st .image) (x .command) (x .state) (k .sound)
+  sound-after = stays-sound (st .image) (x .command) (x .state) (x .lent) (k .sound)
 
   pub kin-after : Kin (slots st) (tableAfter st x)
   kin-after = rw count-stays at (sound-after .kin)

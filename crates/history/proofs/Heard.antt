@@ -24,16 +24,17 @@ use Rattle.verdict.specs.declared.Verdict.{Verdict}
 use Rattle.verdict.specs.declared.Verdict.the-variants.{Refuse, Select, Create, Delete, SetLife}
 use Rattle.verdict.specs.Words.{done}
 use Rattle.verdict.specs.Applied.{wordOf}
-use Rattle.judge.specs.Judge.{judgeOf}
+use Rattle.card.specs.Command.{dueOf}
 use Rattle.card.specs.After.{recordAfter, dfAfter}
-use Rattle.card.specs.Demands.{Call}
+use Rattle.card.specs.Demands.{Call, imageAfter}
 use Rattle.card.proofs.Tells.{Tells}
-use Rattle.card.proofs.Telling.{judge-tells}
-use Rattle.card.proofs.Speaks.{Spoken, judge-speaks}
+use Rattle.card.proofs.Speaks.{Spoken}
 use Rattle.card.proofs.After.{records-after}
-use Rattle.card.proofs.Demands.{word-is, effect-and-no-other}
+use Rattle.card.proofs.Due.{due-by, due-tells, due-speaks}
+use Rattle.card.proofs.Answered.{word-is}
+use Rattle.card.proofs.Demands.{effect-and-no-other}
 use Rattle.history.specs.Ledger.{Announced, neither}
-use Rattle.history.specs.Story.{announced, imageAfter, heard}
+use Rattle.history.specs.Story.{announced, heard}
 use Rattle.history.proofs.Did.{OneMore, Did}
 use Rattle.history.proofs.Announced.{Announces, judge-announces}
 
@@ -111,9 +112,8 @@ pub call-did : (img : List ℕ) (x : Call) → Sound img
 unfolding heard said
 call-did img x sound =
     let c = x .command in
-    let v = judgeOf img c (x .state) in
-    let e = effect-and-no-other img c (x .state) sound in
-    rw (word-is img c (x .state) sound)
-    (did img c sound (viewAt (imageAfter img x)) v (judge-tells img c sound (x .state)) (judge-announces img c (x .state))
-    (judge-speaks img c (x .state))
+    let e = effect-and-no-other img c (x .state) (x .lent) sound in
+    rw (word-is img c (x .state) (x .lent) sound)
+    (did img c sound (viewAt (imageAfter img x)) (dueOf img c (x .state) (x .lent)) (due-tells img c (x .state) (x .lent) sound)
+    (due-by img c (x .state) (x .lent) (Announces img c) (judge-announces img c (x .state)) tt) (due-speaks img c (x .state) (x .lent))
     (currentDfOf (imageAfter img x)) (e .df) (λ t l. ap viewOf (e .records t l)))

@@ -5,6 +5,7 @@ use mathlib.Core.Bool.{Bool, true, false, not, cond, _&&_, _||_, false≢true}
 use mathlib.Core.Logic.{_⊎_, inl, inr, ⊎-elim}
 use mathlib.Core.List.{List, [], _∷_, _++_}
 use Prim.Native.Nat.{ℕ}
+use native.Mathlib.Omega.{arith}
 use lib.Dec.{eqb}
 use borrow.Author.Tests.{eq-eqb}
 use Rattle.laws.proofs.Says.{and-says, not-says, or-says}
@@ -28,7 +29,8 @@ use Rattle.judge.specs.Judge.{planFor, judgeOf}
 use Rattle.card.specs.Steps.{stepsOf, effectOf, firstFailing}
 use Rattle.card.specs.Demands.{Call}
 use Rattle.card.proofs.Steps.{allWords}
-use Rattle.card.proofs.Demands.{word-is, judged-in-order}
+use Rattle.card.proofs.Answered.{word-is, due-silent}
+use Rattle.card.proofs.Demands.{judged-in-order}
 use Rattle.history.specs.Story.{wordFor, butLast, Ready, ReadyExactly, sizeSent}
 
 -- a list of steps, and one more
@@ -137,11 +139,18 @@ module _ (img c : List ℕ) (st : State) (e : instruction c ≡ createFile) wher
       let w = ap wordOf (judged-in-order img c st .1 (ap allHold steps-are ∙ f .0)) ∙ ap firstFailing steps-are ∙ f .1 in
       ap another w ∙ first-word another earlier (unfold earlier another in refl) h
 
+-- CREATE tells nothing, so its word is that of the judging
+create-word : (img : List ℕ) (x : Call) → Sound img → instruction (x .command) ≡ createFile
+    → wordFor img x ≡ wordOf (judgeOf img (x .command) (x .state))
+create-word img x sound e =
+    word-is img (x .command) (x .state) (x .lent) sound
+    ∙ ap wordOf (due-silent img (x .command) (x .state) (x .lent) (λ q p. omega (arith, e, q)))
+
 pub memory-decides : (img : List ℕ) (x : Call) → Sound img → Ready img x
     → wordFor img x ≡ cond (fitsRoom (countOf img) (viewAt img) (currentDfOf img) (sizeSent x)) done notEnoughMemory
 unfolding memory new
 memory-decides img x sound r =
-    word-is img (x .command) (x .state) sound ∙ decides img (x .command) (x .state) (r .create) sound (r .earlier) _ refl
+    create-word img x sound (r .create) ∙ decides img (x .command) (x .state) (r .create) sound (r .earlier) _ refl
 
 -- a CREATE on a sound image is ready exactly when its word is 9000 or 6A84
 pub ready-exactly : ReadyExactly
@@ -165,8 +174,8 @@ ready-exactly img x sound e =
       where
         spoken : another (wordOf (judgeOf img (x .command) (x .state))) ≡ true → ⊥
         spoken a = not-says _ .0 a (or-says _ _ .1 (⊎-elim
-            (λ q. inl (eq-eqb _ _ (sym (word-is img (x .command) (x .state) sound) ∙ q)))
-            (λ q. inr (eq-eqb _ _ (sym (word-is img (x .command) (x .state) sound) ∙ q))) h))
+            (λ q. inl (eq-eqb _ _ (sym (create-word img x sound e) ∙ q)))
+            (λ q. inr (eq-eqb _ _ (sym (create-word img x sound e) ∙ q))) h))
 
         holds : allHold (earlier img (x .command) (x .state) e) ≡ true
         holds = go (allHold (earlier img (x .command) (x .state) e)) refl

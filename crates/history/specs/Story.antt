@@ -16,9 +16,9 @@ use Rattle.verdict.specs.Applied.{sentData}
 use Rattle.judge_target.specs.Steps.{Step, allHold}
 use Rattle.judge_target.specs.Target.{newSize}
 use Rattle.apdu.specs.Apdu.{instruction, sentIdentifier, createFile, deleteFile}
-use Rattle.card.specs.Command.{answerWord, replyOf, imageOf}
+use Rattle.card.specs.Command.{answerWord, replyOf}
 use Rattle.card.specs.Steps.{stepsOf}
-use Rattle.card.specs.Demands.{Call}
+use Rattle.card.specs.Demands.{Call, imageAfter}
 use Rattle.history.specs.Ledger.{Ledger, Announced, makes, deletes, neither, entered, opened}
 
 -- what CREATE's data announce, and what a command does
@@ -35,10 +35,7 @@ announced c =
 
 -- the word of a call, on an image
 abbrev pub wordFor : List ℕ → Call → ℕ
-wordFor img x = answerWord (replyOf img (x .command) (x .state))
-
-abbrev pub imageAfter : List ℕ → Call → List ℕ
-imageAfter img x = imageOf img (x .command) (x .state)
+wordFor img x = answerWord (replyOf img (x .command) (x .state) (x .lent))
 
 -- the card, and the ledger beside it
 pub record Story : Type 0 where

@@ -1,6 +1,6 @@
 -- A plan that is chosen by a number, a plan about what is current, and what a fit length says.
 use mathlib.Core.Path.{_≡_, sym, ap, _∙_}
-use mathlib.Core.Bool.{true, cond}
+use mathlib.Core.Bool.{Bool, true, false, cond}
 use mathlib.Core.List.{List}
 use Prim.Native.Nat.{ℕ, _+_, _≤_}
 use native.Mathlib.Omega.{arith}
@@ -14,7 +14,7 @@ use Rattle.image.specs.Layout.{currentDfOf, currentEfOf, none}
 use Rattle.kinship.specs.Climb.{Stands}
 use Rattle.verdict.specs.declared.Verdict.{Verdict}
 use Rattle.judge_target.specs.Judgeable.{Judgeable}
-use Rattle.apdu.specs.Apdu.{instruction, lc, isSeven, hasData, fitLength}
+use Rattle.apdu.specs.Apdu.{instruction, lc, wantsTemplate, isSeven, isEight, hasData, fitLength}
 use Rattle.judge_target.specs.Steps.{Plan, followed}
 use Rattle.judge_target.specs.Target.{currentFile}
 use Rattle.judge_create.specs.Creation.{create}
@@ -63,15 +63,23 @@ current-stands img n d t r e f = ⊎-elim
     on-some : (currentEfOf img ≡ none → ⊥) → cond (eqb (currentEfOf img) none) (currentDfOf img) (currentEfOf img) ≡ currentEfOf img
     on-some z = rw (ne-eqb (currentEfOf img) none z)
 
--- what a fit length says: SELECT and DELETE have seven bytes, CREATE has data
+-- what a fit length says: SELECT and DELETE have seven bytes at least, CREATE has data
 seven : (c : List ℕ) → isSeven c ≡ true → 7 ≤ length c
 unfolding isSeven
 seven c e = omega (arith, eqb-true (length c) 7 (and-says (eqb (length c) 7) (eqb (lc c) 2) .0 e .0))
 
+eight : (c : List ℕ) → isEight c ≡ true → 7 ≤ length c
+unfolding isEight
+eight c e = omega (arith, eqb-true (length c) 8 (and-says (eqb (length c) 8) _ .0 e .0))
+
+seven-or-eight : (c : List ℕ) (b : Bool) → cond b (isEight c) (isSeven c) ≡ true → 7 ≤ length c
+seven-or-eight c true e = eight c e
+seven-or-eight c false e = seven c e
+
 module _ (c : List ℕ) (fit : fitLength c ≡ true) {i : ℕ} (e : i ≡ instruction c) where
   pub select-long : i ≡ 0xA4 → 7 ≤ length c
   unfolding fitLength
-  select-long f = seven c (rw (sym e ∙ f) at fit)
+  select-long f = seven-or-eight c (wantsTemplate c) (rw (sym e ∙ f) at fit)
 
   pub delete-long : i ≡ 0xE4 → 7 ≤ length c
   unfolding fitLength

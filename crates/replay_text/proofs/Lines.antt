@@ -10,10 +10,10 @@ use borrow.Author.Tests.{lt-ltb, le-ltb, ltb-false}
 use Rattle.laws.specs.Lists.{part, splice}
 use Rattle.numbers.specs.Numbers.{u16At}
 use Rattle.card.specs.declared.Reply.{Reply}
-use Rattle.card.specs.Command.{replyOf, imageOf, answerWord}
+use Rattle.card.specs.Command.{replyOf, imageOf, answerWord, CommandPromises}
 use Rattle.text.specs.Digits.{digitOf}
 use Rattle.replay_text.specs.Text.{lineOf}
-use Rattle.replay_text.specs.Replay.{full, sentAt, endOf, cutShort, wordAt, imageAt}
+use Rattle.replay_text.specs.Replay.{full, lent, sentAt, endOf, cutShort, wordAt, imageAt}
 
 pub line-put : (l : List ℕ) (at w a b c d : ℕ) (y : List ℕ) → a ≡ digitOf (w / 4096) → b ≡ digitOf (w / 256 % 16)
     → c ≡ digitOf (w / 16 % 16) → d ≡ digitOf (w % 16) → y ≡ splice l at (a ∷ b ∷ c ∷ d ∷ 10 ∷ []) → y ≡ splice l at (lineOf w)
@@ -49,16 +49,20 @@ sent-part s at to e =
     let f : to - (at + 2) ≡ u16At s at = omega (arith, e) in
     ap (λ (n : ℕ). take n (drop (at + 2) s)) f
 
--- r is what the card answered: the reply k, and the one that it promises
-pub word-is : (r k x : Reply) → r ≡ k → r ≡ x → answerWord k ≡ answerWord x
-word-is r k x e h = ap answerWord (sym e ∙ h)
+-- r is what the card answered, the case k, with a response o that is long enough
+pub stepped : {img c o left y : List ℕ} {r k : Reply} → CommandPromises img c full o r left y → r ≡ k → length o ≡ lent
+    → (answerWord k ≡ answerWord (replyOf img c full lent)) × (left ≡ imageOf img c full lent)
+stepped {img} {c} p e l = (
+  ap answerWord (sym e ∙ p .reply) ∙ ap (λ (n : ℕ). answerWord (replyOf img c full n)) l,
+  p .image ∙ ap (λ (n : ℕ). imageOf img c full n) l,
+)
 
-pub turned-image : (s : List ℕ) (at : ℕ) (img c y : List ℕ) → c ≡ sentAt s at → y ≡ imageOf img c full → y ≡ imageAt s at img
+pub turned-image : (s : List ℕ) (at : ℕ) (img c y : List ℕ) → c ≡ sentAt s at → y ≡ imageOf img c full lent → y ≡ imageAt s at img
 unfolding imageAt
-turned-image s at img c y e h = h ∙ ap (λ (x : List ℕ). imageOf img x full) e
+turned-image s at img c y e h = h ∙ ap (λ (x : List ℕ). imageOf img x full lent) e
 
-pub turned-out : (s : List ℕ) (at : ℕ) (img c out y : List ℕ) (put w : ℕ) → c ≡ sentAt s at → w ≡ answerWord (replyOf img c full)
+pub turned-out : (s : List ℕ) (at : ℕ) (img c out y : List ℕ) (put w : ℕ) → c ≡ sentAt s at → w ≡ answerWord (replyOf img c full lent)
     → y ≡ splice out put (lineOf w) → y ≡ splice out put (lineOf (wordAt s at img))
 unfolding wordAt
 turned-out s at img c out y put w e h g =
-    g ∙ ap (λ (n : ℕ). splice out put (lineOf n)) (h ∙ ap (λ (x : List ℕ). answerWord (replyOf img x full)) e)
+    g ∙ ap (λ (n : ℕ). splice out put (lineOf n)) (h ∙ ap (λ (x : List ℕ). answerWord (replyOf img x full lent)) e)

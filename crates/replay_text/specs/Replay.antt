@@ -35,12 +35,16 @@ endOf s at = at + 2 + u16At s at
 unfoldable pub cutShort : List ℕ → ℕ → Bool
 cutShort s at = ltb (length s) (at + 2) || ltb (length s) (endOf s at)
 
+-- a response that is long enough for all that a command tells (card/specs/Demands, `LongEnough`), and is never shown
+abbrev pub lent : ℕ
+lent = 53
+
 -- what that command gives on an image: its word, and the image afterwards
 unfoldable pub wordAt : List ℕ → ℕ → List ℕ → ℕ
-wordAt s at img = answerWord (replyOf img (sentAt s at) full)
+wordAt s at img = answerWord (replyOf img (sentAt s at) full lent)
 
 unfoldable pub imageAt : List ℕ → ℕ → List ℕ → List ℕ
-imageAt s at img = imageOf img (sentAt s at) full
+imageAt s at img = imageOf img (sentAt s at) full lent
 
 -- the lines from `at` on, of commands on one image in turn. A command has two bytes at least, its length, so that as many
 -- turns as the stream has bytes are enough

@@ -8,7 +8,8 @@ ghost use Rattle.laws.specs.Lists.{splice};
 ghost use Rattle.card.specs.Command.{replyOf, imageOf, answerWord};
 ghost use Rattle.text.specs.Written.{Wrote, Counted};
 ghost use Rattle.replay_text.specs.Text.{lineOf, bad, cut};
-ghost use Rattle.replay_text.specs.Replay.{full, goodHeader, cutShort, sentAt, endOf, wordAt, imageAt, runOf, performOf, replayOf};
+ghost use Rattle.replay_text.specs.Replay.{full, lent, goodHeader, cutShort, sentAt, endOf, wordAt, imageAt, runOf};
+ghost use Rattle.replay_text.specs.Replay.{performOf, replayOf};
 use card::Reply;
 use maker::Made;
 use rules::Sets;
@@ -65,11 +66,12 @@ fn sent(s: &[u8], at: usize) -> &[u8]
     &s[from..to]
 }
 
-// Carries out one command, with full sets and no other channel, and gives its word.
+// Carries out one command, with full sets and no other channel, and gives its word. What it tells is not shown.
 fn step(image: &mut [u8], command: &[u8]) -> u16
-    ensures { λ r. ⌜ (r ≡ answerWord (replyOf (now (image .entry)) (now (command .entry)) full))
-        × (now (image .exit) ≡ imageOf (now (image .entry)) (now (command .entry)) full) ⌝ }
+    ensures { λ r. ⌜ (r ≡ answerWord (replyOf (now (image .entry)) (now (command .entry)) full lent))
+        × (now (image .exit) ≡ imageOf (now (image .entry)) (now (command .entry)) full lent) ⌝ }
 {
+    let mut response = [0u8; 53];
     let sets = Sets {
         messaging: 0xFFFF,
         external: 0xFFFF,
@@ -79,10 +81,11 @@ fn step(image: &mut [u8], command: &[u8]) -> u16
         sets: sets,
         channels: 0,
     };
-    let reply = card::command(image, command, state);
+    let reply = card::command(image, command, &mut response[..53], state);
     match reply {
-        Reply::Word(word) => word,
+        Reply::Word { word, told } => word,
         Reply::Damaged => 0,
+        Reply::Short => 0,
     }
 }
 

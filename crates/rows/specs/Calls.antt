@@ -14,12 +14,12 @@ use Rattle.card.specs.Command.{answerWord, replyOf, imageOf}
 abbrev pub with : Sets → State
 with x = record { sets = x; channels = 0 }
 
--- the word that a command gets, and the image that it leaves
+-- the word that a command gets that is lent no response, and the image that it leaves
 abbrev pub word : Sets → List ℕ → List ℕ → ℕ
-word x img c = answerWord (replyOf img c (with x))
+word x img c = answerWord (replyOf img c (with x) 0)
 
 abbrev pub left : Sets → List ℕ → List ℕ → List ℕ
-left x img c = imageOf img c (with x)
+left x img c = imageOf img c (with x) 0
 
 -- the room of the current directory, and the life cycle of the file in slot s
 abbrev pub room : List ℕ → ℕ

@@ -1,3 +1,4 @@
 pub mod Bits
 pub mod Groups
 pub mod Lives
+pub mod Descriptors

@@ -1,7 +1,6 @@
--- `hull_command`: the answer and the word in one number, and the image that the card leaves.
-use Rattle.abi.proofs.Cases.{by-case, word-alone}
-use mathlib.Core.Path.{_∙_}
-use Rattle.abi.specs.Numbers.{packed}
+-- `hull_command`: the answer and the word in one number, what the card leaves, and the three numbers.
+use mathlib.Core.Path.{refl}
+use Rattle.abi.proofs.Cases.{word-alone, commanded, told-narrow}
 use borrow.Author.Needs.{needs}
 use Rattle.abi.proofs.hull_command.Statement.{statement}
 use Rattle.abi.proofs.hull_command.Tie as tie
@@ -12,30 +11,44 @@ command-requires c κs = search needs
 enum-known-reply : tie.Need-enum-known-reply
 enum-known-reply c = search needs
 
+cast-t19 : tie.Need-cast-t19
+cast-t19 c = search told-narrow
+
 cast-result : tie.Need-cast-result
 cast-result c = search needs
 
 enum-told : tie.Need-enum-told
 enum-told c = search needs
 
+enum-told-2 : tie.Need-enum-told-2
+enum-told-2 c = search needs
+
 same-length : tie.Need-same-length
 same-length c = search needs
-
-returns : tie.Need-returns
-returns c = (
-  word-alone _
-      ∙ by-case packed (c .before .reply .given .1) (c .before .before .before .before .before .command .ensures .0),
-  c .before .before .before .before .before .command .ensures .1,
-)
 
 same-length-2 : tie.Need-same-length-2
 same-length-2 c = search needs
 
+returns : tie.Need-returns
+returns c = search (commanded, word-alone, refl)
+
+same-length-3 : tie.Need-same-length-3
+same-length-3 c = search needs
+
+same-length-4 : tie.Need-same-length-4
+same-length-4 c = search needs
+
 returns-2 : tie.Need-returns-2
-returns-2 c = (
-  by-case packed (c .enum-told .given .1) (c .before .before .before .before .command .ensures .0),
-  c .before .before .before .before .command .ensures .1,
-)
+returns-2 c = search (commanded, refl)
+
+same-length-5 : tie.Need-same-length-5
+same-length-5 c = search needs
+
+same-length-6 : tie.Need-same-length-6
+same-length-6 c = search needs
+
+returns-3 : tie.Need-returns-3
+returns-3 c = search (commanded, refl)
 
 pub hull-command-spec : {M : Type 1} → statement M
 hull-command-spec =
@@ -43,9 +56,16 @@ hull-command-spec =
     (tie.spec
     command-requires
     enum-known-reply
+    cast-t19
     cast-result
     enum-told
+    enum-told-2
     same-length
-    returns
     same-length-2
-    returns-2)
+    returns
+    same-length-3
+    same-length-4
+    returns-2
+    same-length-5
+    same-length-6
+    returns-3)

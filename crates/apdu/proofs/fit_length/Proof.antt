@@ -15,15 +15,15 @@ returns : tie.Need-returns
 unfolding fitLength
 returns c = search branches depth 30
 
-is-seven-requires : tie.Need-is-seven-requires
-is-seven-requires c κs = search needs
+select-length-requires : tie.Need-select-length-requires
+select-length-requires c κs = search needs
 
 returns-2 : tie.Need-returns-2
 unfolding fitLength
 returns-2 c = search branches depth 30
 
-is-seven-requires-2 : tie.Need-is-seven-requires-2
-is-seven-requires-2 c κs = search needs
+is-seven-requires : tie.Need-is-seven-requires
+is-seven-requires c κs = search needs
 
 returns-3 : tie.Need-returns-3
 unfolding fitLength
@@ -40,8 +40,8 @@ fit-length-spec =
     shared-slice-read-i
     has-data-requires
     returns
-    is-seven-requires
+    select-length-requires
     returns-2
-    is-seven-requires-2
+    is-seven-requires
     returns-3
     returns-4)

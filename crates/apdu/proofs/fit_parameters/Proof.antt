@@ -1,17 +1,17 @@
--- `fit_parameters`: P1 P2 against what is wanted.
+-- `fit_parameters`: P1 P2 of the command.
 use Rattle.apdu.specs.Apdu.{fitParameters}
 use borrow.Author.Needs.{needs}
 use Rattle.apdu.proofs.fit_parameters.Statement.{statement}
 use Rattle.apdu.proofs.fit_parameters.Tie as tie
 
-shared-slice-read-i : tie.Need-shared-slice-read-i
-shared-slice-read-i c = search needs
+shared-slice-read-good-parameters : tie.Need-shared-slice-read-good-parameters
+shared-slice-read-good-parameters c = search needs
 
 u16-at-requires : tie.Need-u16-at-requires
 u16-at-requires c κs = search needs
 
-wanted-parameters-requires : tie.Need-wanted-parameters-requires
-wanted-parameters-requires c κs = search needs
+good-parameters-requires : tie.Need-good-parameters-requires
+good-parameters-requires c κs = search needs
 
 returns : tie.Need-returns
 unfolding fitParameters
@@ -19,4 +19,5 @@ returns c = cc
 
 pub fit-parameters-spec : {M : Type 1} → statement M
 fit-parameters-spec =
-    tie.close (tie.spec shared-slice-read-i u16-at-requires wanted-parameters-requires returns)
+    tie.close
+    (tie.spec shared-slice-read-good-parameters u16-at-requires good-parameters-requires returns)

@@ -1,0 +1,113 @@
+-- A used record is what its fields say and nothing else: made again of them under another parent and level, it is the same 64 bytes
+-- but for those two numbers.
+use mathlib.Core.Path.{_≡_, refl, sym, ap, _∙_}
+use mathlib.Core.List.{List, [], _∷_, _++_, append-assoc}
+use Prim.Native.Nat.{ℕ, zero, suc, _+_, _-_, _<_, _≤_}
+use native.Mathlib.Nat.{add-zero}
+use native.Mathlib.Numerals.{add-one}
+use native.Mathlib.Omega.{arith}
+use lib.ListN.{length, getD, take, drop, replicate, length-replicate, getD-replicate, length-drop, take-append-drop}
+use lib.Seq.{drop-cons, drop-drop, getD-drop, ext-getD}
+use Rattle.laws.specs.Lists.{Bytes, part, splice}
+use Rattle.laws.proofs.Branches.{same-cons}
+use Rattle.laws.proofs.Splices.{length-part, getD-part}
+use Rattle.numbers.specs.Numbers.{u16At, u32At, be16}
+use Rattle.image.specs.Layout.{kindOf, descriptorOf, lifeCycleOf, identifierOf, recordLengthOf, sizeOf, fieldAt, nameOf, ruleOf}
+use Rattle.image.specs.Layout.{field, headBytes, recordBytes}
+use Rattle.sound.specs.Own.{Padded, Used}
+use Rattle.fcp.specs.Again.{headAgain, RecordAgain}
+
+-- the k elements of a list from a place on, one by one
+abbrev cells : List ℕ → ℕ → ℕ → List ℕ
+cells r at zero = []
+cells r at (suc k) = getD r at 0 ∷ cells r (suc at) k
+
+cells-drop : (r : List ℕ) (at k : ℕ) → at + k ≤ length r → drop at r ≡ cells r at k ++ drop (at + k) r
+cells-drop r at zero h = ap (λ (i : ℕ). drop i r) (sym (add-zero at))
+cells-drop r at (suc k) h =
+    let e : suc at + k ≡ at + suc k = omega arith in
+    drop-cons r at 0 (omega arith)
+    ∙ ap (λ (l : List ℕ). getD r at 0 ∷ l) (cells-drop r (suc at) k (omega arith) ∙ ap (λ (i : ℕ). cells r (suc at) k ++ drop i r) e)
+
+cells-take : (r : List ℕ) (at k : ℕ) → at + k ≤ length r → take k (drop at r) ≡ cells r at k
+cells-take r at zero h = refl
+cells-take r at (suc k) h =
+    ap (λ (l : List ℕ). take (suc k) l) (drop-cons r at 0 (omega arith))
+    ∙ ap (λ (l : List ℕ). getD r at 0 ∷ l) (cells-take r (suc at) k (omega arith))
+
+-- zeros
+all-zeros : (l : List ℕ) (m : ℕ) → length l ≡ m → ((k : ℕ) → k < m → getD l k 0 ≡ 0) → l ≡ replicate m 0
+all-zeros l m e z =
+    ext-getD 0 l (replicate m 0) (e ∙ sym (length-replicate m 0)) (λ k h. z k (rw e at h) ∙ sym (getD-replicate m k 0 0 (rw e at h)))
+
+-- a length, so many bytes and zeros, at n
+padded : (r : List ℕ) (n : ℕ) → n + 17 ≤ length r → Padded r n → drop n r ≡ field (fieldAt r n) ++ drop (n + 17) r
+unfolding field fieldAt part
+padded r n h p =
+    drop-cons r n 0 (omega arith)
+    ∙ ap (λ (i : ℕ). m ∷ drop i r) (sym (add-one n))
+    ∙ ap (λ (t : List ℕ). m ∷ t) body
+    ∙ ap (λ (k : ℕ). k ∷ (v ++ (replicate (16 - k) 0 ++ drop (n + 17) r))) (sym long)
+    ∙ ap (λ (t : List ℕ). length v ∷ t) (sym (append-assoc v (replicate (16 - length v) 0) (drop (n + 17) r)))
+  where
+    m : ℕ
+    m = getD r n 0
+
+    v : List ℕ
+    v = take m (drop (n + 1) r)
+
+    short : m ≤ 16
+    short = p .short
+
+    long : length v ≡ m
+    long = length-part r (n + 1) m (omega (arith, short))
+
+    zeros : take (16 - m) (drop (n + 1 + m) r) ≡ replicate (16 - m) 0
+    zeros =
+        all-zeros _ (16 - m) (length-part r (n + 1 + m) (16 - m) (omega (arith, short)))
+        (λ k l. getD-part r (n + 1 + m) (16 - m) k l ∙ p .zeros k l)
+
+    end : n + 1 + m + (16 - m) ≡ n + 17
+    end = omega (arith, short)
+
+    body : drop (n + 1) r ≡ v ++ (replicate (16 - m) 0 ++ drop (n + 17) r)
+    body =
+        sym (take-append-drop m (drop (n + 1) r))
+        ∙ ap (λ (t : List ℕ). v ++ t)
+        (drop-drop m (n + 1) r
+        ∙ sym (take-append-drop (16 - m) (drop (n + 1 + m) r))
+        ∙ ap (λ (t : List ℕ). t ++ drop (16 - m) (drop (n + 1 + m) r)) zeros
+        ∙ ap (λ (t : List ℕ). replicate (16 - m) 0 ++ t) (drop-drop (16 - m) (n + 1 + m) r ∙ ap (λ (i : ℕ). drop i r) end))
+
+module _ (r : List ℕ) (p l : ℕ) (long : length r ≡ 64) (b : Bytes r) (u : Used r) where
+  spare : drop 50 r ≡ replicate 14 0
+  spare = all-zeros (drop 50 r) 14 (length-drop 50 r ∙ ap (λ (k : ℕ). k - 50) long) (λ k h. getD-drop 50 r k 0 ∙ u .spare k h)
+
+  tail : field (nameOf r) ++ field (ruleOf r) ++ replicate 14 0 ≡ drop 16 r
+  unfolding nameOf ruleOf
+  tail =
+      append-assoc (field (nameOf r)) (field (ruleOf r)) (replicate 14 0)
+      ∙ ap (λ (t : List ℕ). field (nameOf r) ++ (field (ruleOf r) ++ t)) (sym spare)
+      ∙ ap (λ (t : List ℕ). field (nameOf r) ++ t) (sym (padded r 33 (omega arith) (u .rule)))
+      ∙ sym (padded r 16 (omega arith) (u .name))
+
+  around : (cells r 0 6 ++ (be16 p ++ be16 l)) ++ (cells r 10 6 ++ drop 16 r) ≡ splice r 6 (be16 p ++ be16 l)
+  unfolding splice
+  around =
+      ap (λ (t : List ℕ). t ++ (be16 p ++ be16 l) ++ (cells r 10 6 ++ drop 16 r)) (sym (cells-take r 0 6 (omega arith)))
+      ∙ ap (λ (t : List ℕ). take 6 r ++ (be16 p ++ be16 l) ++ t) (sym (cells-drop r 10 6 (omega arith)))
+
+  same-record : recordBytes (headAgain r p l) (nameOf r) (ruleOf r) ≡ splice r 6 (be16 p ++ be16 l)
+  unfolding recordBytes headBytes kindOf descriptorOf lifeCycleOf identifierOf recordLengthOf sizeOf u32At u16At
+  same-record =
+      same-cons refl (same-cons refl (same-cons refl (same-cons (sym (u .zero))
+      (same-cons (omega (arith, b 5)) (same-cons (omega (arith, b 5))
+      (same-cons refl (same-cons refl (same-cons refl (same-cons refl
+      (same-cons (omega (arith, b 11)) (same-cons (omega (arith, b 11))
+      (same-cons (omega (arith, b 13, b 14, b 15)) (same-cons (omega (arith, b 13, b 14, b 15))
+      (same-cons (omega (arith, b 13, b 14, b 15)) (same-cons (omega (arith, b 13, b 14, b 15))
+      tail)))))))))))))))
+      ∙ around
+
+pub record-again : RecordAgain
+record-again = same-record

@@ -1,0 +1,3 @@
+pub mod Template
+pub mod Writing
+pub mod Again

@@ -1,0 +1,54 @@
+-- All that a call is made of, named once: to unfold `a-call` is to unfold whatever its own line names, so that a table whose rows are
+-- whole calls computes. Each table is a declaration of its own, since one may take only so many steps.
+use Rattle.laws.specs.Lists.{part, splice, sameList}
+use Rattle.laws.specs.Tests.{implies, either}
+use Rattle.laws.specs.Walks.{allBelow, anyBelow, firstBelow, sumBelow, countBelow}
+use Rattle.numbers.specs.Numbers.{u16At, u32At}
+use Rattle.rules.specs.Condition.{met, fulfilled, oneOf, allOf, holdsOf}
+use Rattle.rules.specs.Descriptor.{classOf, hasRecords}
+use Rattle.rules.specs.Group.{scAt, slotsOf, nextOf, groupLength, someGroup}
+use Rattle.rules.specs.Life.{lifeOf, knownLife, newLife, canActivate}
+use Rattle.rules.specs.Rule.{malformedAt, wellFormed, fitsRecord, holdsAt, allowsOf, grantedOf}
+use Rattle.rules.specs.Value.{goodIdentifier, wholeRecords, goodLength}
+use Rattle.create_data.specs.Data.{isTemplate, bothGood, nameGood, newFile, dfOf, sizedEf, efOf, fileOf, dataOf}
+use Rattle.create_data.specs.Form.{lacks, has, onePrivate, firstForm, dfForm, efForm}
+use Rattle.template.specs.Objects.{objectAt, takenAt, takenBelow, objectsOf}
+use Rattle.template.specs.Values.{pairOf, recordLengthOf as recordLengthIn, numberOf, fitsName}
+use Rattle.image.specs.Layout.{versionOf, countOf, currentDfOf, currentEfOf, recAt, kindOf, descriptorOf, lifeCycleOf, identifierOf}
+use Rattle.image.specs.Layout.{parentOf, levelOf, recordLengthOf, sizeOf, fieldAt, nameOf, ruleOf, headBytes, field, recordBytes}
+use Rattle.image.specs.Layout.{putRecord, withLife, setLife, setCurrent}
+use Rattle.sound.specs.Effects.{created, clearBelow, deleted, freshHeader, fresh}
+use Rattle.sound.specs.Kin.{rootb, placedAt, placedb, apartAt, siblingsAt, siblingsb, aboveAt, aboveb, sameName, namesAt, namesb}
+use Rattle.sound.specs.Kin.{chargesAt, chargesb, kinb}
+use Rattle.sound.specs.Kinship.{isChild, isChildNamed, childNamed, freeSlot, atOrBeneath, beneath, childrenOf, filesBeneath, totalFor}
+use Rattle.sound.specs.Kinship.{roomFor, terminatedAt, terminatedUp, namedUp, identifierFree, nameFree, fitsRoom}
+use Rattle.sound.specs.Own.{zerosb, paddedb, classedb, measuredb, nameb, ruledb, usedb, ownb}
+use Rattle.sound.specs.Sound.{headerb, recordsb, currentb, soundb}
+use Rattle.sound.specs.Table.{up, upward, chargeOf, charged}
+use Rattle.kinship.specs.Search.{isDfNamed, dfNamed}
+use Rattle.judge_target.specs.Steps.{followed}
+use Rattle.judge_target.specs.Target.{currentFile, allowedAt, itself, selected}
+use Rattle.apdu.specs.Apdu.{isTerminate, isKnown, wantsAlone, otherChannel, crowded, wantsTemplate, goodParameters, fitParameters}
+use Rattle.apdu.specs.Apdu.{hasData, isSeven, isEight, fitLength, onOtherChannel}
+use Rattle.fcp.specs.Template.{recordBytesOf, sizeTag, bodyOf, templateOf, withC6}
+use Rattle.effect.specs.Told.{chosen}
+use Rattle.judge_create.specs.Creation.{takesFiles}
+use Rattle.judge_commands.specs.Commands.{selectWord, selecting, mayDelete}
+use Rattle.judge.specs.Judge.{lifePlan, planFor, judgeFor, judgeOf}
+use Rattle.card.specs.Command.{fits, dueOf, replyOf, imageOf, responseOf}
+
+unfoldable pub a-call : Unit {0}
+unfolding part splice sameList implies either allBelow anyBelow firstBelow sumBelow countBelow u16At u32At met fulfilled oneOf allOf
+    holdsOf classOf hasRecords scAt slotsOf nextOf groupLength someGroup lifeOf knownLife newLife canActivate malformedAt wellFormed
+    fitsRecord holdsAt allowsOf grantedOf goodIdentifier wholeRecords goodLength isTemplate bothGood nameGood newFile dfOf sizedEf efOf
+    fileOf dataOf lacks has onePrivate firstForm dfForm efForm objectAt takenAt takenBelow objectsOf pairOf recordLengthIn numberOf
+    fitsName versionOf countOf currentDfOf currentEfOf recAt kindOf descriptorOf lifeCycleOf identifierOf parentOf levelOf
+    recordLengthOf sizeOf fieldAt nameOf ruleOf headBytes field recordBytes putRecord withLife setLife setCurrent created clearBelow
+    deleted freshHeader fresh rootb placedAt placedb apartAt siblingsAt siblingsb aboveAt aboveb sameName namesAt namesb chargesAt
+    chargesb kinb isChild isChildNamed childNamed freeSlot atOrBeneath beneath childrenOf filesBeneath totalFor roomFor terminatedAt
+    terminatedUp namedUp identifierFree nameFree fitsRoom zerosb paddedb classedb measuredb nameb ruledb usedb ownb headerb recordsb
+    currentb soundb up upward chargeOf charged isDfNamed dfNamed followed currentFile allowedAt itself selected isTerminate isKnown
+    wantsAlone otherChannel crowded wantsTemplate goodParameters fitParameters hasData isSeven isEight fitLength onOtherChannel
+    takesFiles selectWord selecting mayDelete lifePlan planFor judgeFor judgeOf recordBytesOf sizeTag bodyOf templateOf withC6 chosen fits
+    dueOf replyOf imageOf responseOf
+a-call = tt
