@@ -1,15 +1,20 @@
 //! `uicc export`, then the script played on the card that it asks for: the same
 //! files, and what is lost is told.
 
+use cases::case::History;
+use cases::history::history_of;
 use cases::images::sound_card;
 use cases::random::Random;
+use cases::themes::Theme;
 use cases::worst;
+use model::life_cycle::{is_deactivated, is_terminated};
 use model::Card;
 
 use crate::cards::{current, foretold, tree};
 use crate::folder::{Folder, Ran};
 
 const CARDS: u64 = 250;
+const HISTORIES: u64 = 250;
 const NOT_ALL: i32 = 4;
 const EXAMPLE: &str = include_str!("../../examples/first.apdu");
 
@@ -67,6 +72,41 @@ fn the_examples_card_is_made_again_byte_by_byte() {
     let (export, _) = again(&folder);
     assert_eq!((export.status, export.err.as_str()), (0, ""));
     assert_eq!(folder.read("NEW.card"), folder.read("old"));
+}
+
+/// The card that a history leaves.
+fn played(history: &History) -> Card {
+    let History { slots, total, rule, .. } = history;
+    let mut card = card::Card::make(*slots, *total, rule).expect("a card");
+    for step in &history.steps {
+        let model::State { messaging, external, user, channels } = step.state;
+        let state = card::State { messaging, external, user, channels };
+        card.command(&step.command, &state).expect("a sound card");
+    }
+    Card::decode(card.image()).expect("a card")
+}
+
+/// What commands made of a fresh card, commands make again as a whole: rules
+/// never change, so what was allowed once is allowed again.
+#[test]
+fn nothing_is_lost_of_what_commands_made() {
+    let folder = Folder::new("again-histories");
+    let (mut files, mut closed) = (0, 0);
+    for number in 0..HISTORIES {
+        let mut random = Random::for_case(3, number);
+        let theme = random.pick(Theme::ALL);
+        let old = played(&history_of(&mut random, theme, 24, 60));
+        assert_eq!(compare(&folder, &old, &format!("history {number}")), 0, "history {number}");
+        files += old.used_slots().count() - 1;
+        let is_closed = |slot: &usize| {
+            let life_cycle = old.record(*slot).life_cycle;
+            is_deactivated(life_cycle) || is_terminated(life_cycle)
+        };
+        let has_files = |slot: &usize| old.children(*slot).next().is_some();
+        closed += old.used_slots().filter(is_closed).filter(has_files).count();
+    }
+    assert!(files > 600, "{files} files");
+    assert!(closed > 30, "{closed} directories with files were deactivated or terminated");
 }
 
 /// Cards at random: any tree, life cycles, names and rules, also such as no
