@@ -1,6 +1,7 @@
 //! Measures how long the proved card takes for each kind of command, on cards
 //! of several sizes and shapes, beside the model on the same work and one copy
-//! of the image.
+//! of the image; and how many times as long SELECT takes with the template as
+//! without.
 //!
 //!     cargo run --release -p bench [-- --milliseconds M] [--shape WORD]
 //!

@@ -25,7 +25,7 @@
 //! | what the caller has authenticated | [`State`] |
 //! | status words and their meaning | [`Word`] |
 //! | a word with the data that came with it | [`Reply`] |
-//! | refusals, and what to do about them | [`MakeError`], [`CommandError`], [`Damaged`], [`DamagedImage`] |
+//! | what goes wrong | [`MakeError`], [`CommandError`], [`Damaged`], [`DamagedImage`] |
 
 #![deny(unsafe_code)]
 #![warn(missing_docs)]

@@ -112,7 +112,8 @@ impl Exporter<'_> {
     }
 
     /// The life cycle that a file is made with: its own, unless CREATE takes
-    /// no such byte, or no file would be taken in a directory.
+    /// no such byte, or the directory would take no files then. The maker gives
+    /// the root no other.
     fn first_life_cycle(&self, slot: usize) -> u8 {
         let own = self.source.record(slot).life_cycle;
         let closed = is_deactivated(own) && !self.source.children(slot).is_empty();
@@ -137,8 +138,11 @@ impl Exporter<'_> {
             (false, ROOT) => Some((TERMINATE_CARD, TERMINATED)),
             (false, _) => Some((TERMINATE_DF, TERMINATED)),
         };
+        let name = self.source.name(slot);
         if let Some((instruction, after)) = change {
             let command = [0x00, instruction, 0x00, 0x00];
+            let becomes = describe::life_cycle_and_byte(after);
+            self.target.note(&format!("{name} becomes {becomes}"));
             // TERMINATE CARD USAGE goes by no current file.
             if instruction != TERMINATE_CARD {
                 self.target.make_current(slot)?;
@@ -149,7 +153,6 @@ impl Exporter<'_> {
             }
         }
         if own != now {
-            let name = self.source.name(slot);
             let [own, now] = [own, now].map(describe::life_cycle_and_byte);
             self.lose(format!("{name} is {now} and not {own}: {why}"));
         }

@@ -2,7 +2,8 @@
 //!
 //! A compact rule has groups, each an AM byte and an SC byte for each of its
 //! bits; the groups are alternatives. Here it is turned round: for each right
-//! what suffices for it, and rights that need the same stand together.
+//! what suffices for it, and rights that need the same stand together. A right
+//! that no group names has nothing that suffices.
 
 use model::rule::{groups, Right};
 
@@ -106,7 +107,8 @@ mod tests {
             (
                 &[0x7F, 0, 0, 0, 0, 0, 0, 0],
                 Owner::Directory,
-                "DELETE, TERMINATE, ACTIVATE, DEACTIVATE, CREATE DF, CREATE EF, DELETE CHILD: always",
+                "DELETE, TERMINATE, ACTIVATE, DEACTIVATE, CREATE DF, CREATE EF, \
+                 DELETE CHILD: always",
             ),
             (
                 &[0x43, 0xFF, 0x13, 0x00],
@@ -119,12 +121,14 @@ mod tests {
                 &[0x06, 0x00, 0xFF, 0x02, 0xB2, 0x02, 0x11],
                 Owner::Directory,
                 "DELETE, TERMINATE, ACTIVATE, DEACTIVATE, DELETE CHILD: never; CREATE DF: always; \
-                 CREATE EF: (external authentication 2 and user authentication 2) or user authentication 1",
+                 CREATE EF: (external authentication 2 and user authentication 2) \
+                 or user authentication 1",
             ),
             (
                 &[0x00],
                 Owner::Directory,
-                "DELETE, TERMINATE, ACTIVATE, DEACTIVATE, CREATE DF, CREATE EF, DELETE CHILD: never",
+                "DELETE, TERMINATE, ACTIVATE, DEACTIVATE, CREATE DF, CREATE EF, \
+                 DELETE CHILD: never",
             ),
         ] {
             assert_eq!(words(rule, owner).as_deref(), Some(told), "{rule:02X?}");

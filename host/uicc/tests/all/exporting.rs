@@ -91,11 +91,16 @@ fn life_cycles_come_when_the_files_are_made() {
         "# 7F01 in 3F00: directory, deactivated (04), total 130",
         "# 6F01 in 7F01: transparent, deactivated (06), size 1",
         "# 6F02 in 7F01: transparent, terminated (0C), size 1",
+        "# 6F02 in 7F01 becomes terminated (0C)",
+        "# 7F01 in 3F00 becomes deactivated (04)",
         "# 7F02 in 3F00: directory, terminated (0C), total 130",
+        "# 7F02 in 3F00 becomes terminated (0C)",
         "# 7F03 in 3F00: directory, deactivated (06), total 130",
         "# 7F04 in 3F00: directory, terminated (0C), total 130",
         "# 6F03 in 7F04: transparent, activated (07), size 1",
+        "# 7F04 in 3F00 becomes terminated (0C)",
         "# what is current in the end",
+        "# 3F00 becomes terminated (0C)",
     ];
     assert_eq!(comments, wanted, "{script}");
     assert!(script.contains("no command is refused, and all of the card is made again"));

@@ -36,7 +36,8 @@ CREATE EF: user authentication 1
         kind        directory, descriptor 38
         total       4032 bytes, announced for the files in it
         life cycle  activated (05)
-        rule        DELETE, TERMINATE, ACTIVATE, DEACTIVATE, CREATE DF, CREATE EF, DELETE CHILD: always
+        rule        DELETE, TERMINATE, ACTIVATE, DEACTIVATE, CREATE DF, CREATE EF, \
+DELETE CHILD: always
    6  SELECT 7F20           6283  selected; the file is deactivated
         data        621D8202382183027F208405A0000000878A01048C0518B200021181020080
         identifier  7F20
