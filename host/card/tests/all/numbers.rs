@@ -1,8 +1,12 @@
-//! The bare numbers: each is written by every call, whatever it answers.
+//! The bare numbers: each is written by every call, whatever it answers; and the
+//! header's numbers are the wrapper's.
 
-use card::{ffi, LONGEST_RESPONSE};
+use card::{ffi, CommandError, MakeError};
+use card::{FEWEST_SLOTS, HEADER_BYTES, LONGEST_RESPONSE, MOST_SLOTS, RECORD_BYTES};
 
 use crate::common::{fresh, select, select_told, CREATE_EF};
+
+const HEADER: &str = include_str!("../../../../include/hullplaiter.h");
 
 const FULL: [u16; 3] = [0xFFFF; 3];
 
@@ -26,4 +30,25 @@ fn every_number_is_written_on_every_call() {
     let mut damaged = vec![0; 144];
     let given = ffi::command(&mut damaged, &select_told(0x3F00), &mut [0; 60], FULL, 0);
     assert_eq!(given, (0x1_0000, [0, 0, 0]));
+}
+
+#[test]
+fn the_header_has_the_same_numbers() {
+    let answer = |number: u32| usize::try_from(number).expect("a small number");
+    for (name, value) in [
+        ("HULL_HEADER_BYTES", HEADER_BYTES),
+        ("HULL_RECORD_BYTES", RECORD_BYTES),
+        ("HULL_SLOTS_LEAST", FEWEST_SLOTS),
+        ("HULL_SLOTS_MOST", MOST_SLOTS),
+        ("HULL_RESPONSE_MOST", LONGEST_RESPONSE),
+        ("HULL_NUMBERS", ffi::command(&mut [], &[], &mut [], FULL, 0).1.len()),
+        ("HULL_NOT_SOUND", answer(CommandError::Damaged.answer())),
+        ("HULL_BAD_LENGTH", answer(MakeError::Length.answer())),
+        ("HULL_BAD_TOTAL", answer(MakeError::Total.answer())),
+        ("HULL_BAD_RULE", answer(MakeError::Rule.answer())),
+        ("HULL_SHORT_RESPONSE", answer(CommandError::ShortResponse.answer())),
+    ] {
+        let line = format!("#define {name} {value}u");
+        assert!(HEADER.lines().any(|other| other == line), "{line}");
+    }
 }
