@@ -7,10 +7,12 @@
  *
  * Lending. Every pointer is lent for the time of the call alone. The caller owns the memory before, during and after;
  * the library allocates nothing, keeps no pointer, no number and no other state between calls, writes no memory but
- * `image` of hull_make and hull_command and `numbers` of hull_report, and reads no byte past the length given.
+ * `image` of hull_make and hull_command, `response` of hull_command and `numbers` of hull_command and hull_report, and
+ * reads no byte past the length given.
  *  - A `const` buffer is not written, and during the call nobody else may write it.
  *  - A buffer that is not `const` is the call's alone: during the call nobody else may read or write it, and it may not
- *    overlap any other argument.
+ *    overlap any other argument. So `image`, `response` and `numbers` of hull_command overlap neither one another nor
+ *    `command`.
  *  - A buffer of length 0 may have any pointer, also NULL. Otherwise the pointer must be valid for that many bytes.
  * Calls on different images may run on different threads at the same time, also with the same command or rule. Calls
  * that only read (hull_report, hull_sound) may run at the same time on one image.
@@ -27,7 +29,8 @@
  *   2  maker: the length is not 16 + 64 N with N 2 to 1023: buffer as it came
  *   3  maker: the total is not 1 to 64 (N - 1): buffer as it came
  *   4  maker: the rule is not 1 to 16 bytes, or not well formed: buffer as it came
- * The maker checks 2, 3, 4 in that order. */
+ *   5  command: the response is shorter than the data: word 0000, image and response as they came
+ * The maker checks 2, 3, 4 in that order. A command finds 1 first and 5 last. */
 #ifndef HULLPLAITER_H
 #define HULLPLAITER_H
 
@@ -46,6 +49,15 @@ extern "C" {
 #define HULL_SLOTS_MOST 1023u
 #define HULL_IMAGE_BYTES(slots) (HULL_HEADER_BYTES + HULL_RECORD_BYTES * (size_t)(slots))
 
+/* Data that a command of this version answers at most, so that a response of this length is never too short. It is the
+ * template of a DF with the longest name and the longest rule: 62 LL takes 2 bytes, 82 takes 4, 83 takes 4, 84 takes 18,
+ * 8A takes 3, 8C takes 18 and 81 takes 4. An EF's is shorter, at most 37: its 82 takes 6 where it has records, but it has
+ * no name, and a DF has no records. */
+#define HULL_RESPONSE_MOST 53u
+
+/* The numbers that hull_command writes. */
+#define HULL_NUMBERS 3u
+
 /* Stack that a call takes at most. The compiled library takes 34256 bytes; the rest is left for other builds of it. */
 #define HULL_STACK_BYTES 40960u
 
@@ -54,6 +66,7 @@ extern "C" {
 #define HULL_BAD_LENGTH 2u
 #define HULL_BAD_TOTAL 3u
 #define HULL_BAD_RULE 4u
+#define HULL_SHORT_RESPONSE 5u
 
 /* Makes a fresh card in image[0 .. image_length): the root 3F00 with descriptor 38, life cycle 05, that total and that
  * rule, no name; the root current, no EF; all else free. `rule` is a compact rule (the value of tag 8C); it is copied
@@ -65,27 +78,39 @@ extern "C" {
 uint32_t hull_make(uint8_t *image, size_t image_length, uint32_t total, const uint8_t *rule, size_t rule_length);
 
 /* Carries out one command on an image. `command` is the command as sent: CLA INS P1 P2, then Lc and data where it has
- * them. It may be of any length, also 0 (6700).
+ * them, then Le where data is wanted. It may be of any length, also 0 (6700).
  *
+ * response
+ *         where data is written, of any length, also 0; HULL_RESPONSE_MOST bytes suffice for every command. Only a SELECT
+ *         with P1 P2 00 04 that is answered 9000, 6283 or 6285 has data, the template of the file that it selected. It
+ *         stands at the start, and the bytes past it stay as they came. Every other command, every refusal and every
+ *         other answer leaves the whole response as it came
  * messaging, external, user
  *         what has been authenticated: bit n of each set (bit 0 the lowest) is on if the secure messaging, the external
  *         authentication, the user authentication of environment n is done; n = 15 never counts
  * channels
  *         a bit for each open channel, of which only bits 1 to 3 count: 0 if no other channel than the basic one is open
+ * numbers
+ *         HULL_NUMBERS numbers that the caller lends, each written on every call:
+ *         numbers[0]  how many bytes of data were written to the response; 0 if there are none
+ *         numbers[1]  0; kept for a later version, which tells there what a security refusal lacks
+ *         numbers[2]  0; kept for a later version, which tells there how many bytes were moved
  * returns 65536 times the answer, plus the word: HULL_ANSWER and HULL_WORD take them apart.
  *         Answer HULL_DONE: the word tells. With 9000 the command has had its effect on the image; with 6283 or 6285 the
  *         file is selected; with any other word every byte of the image is as it came.
  *         Answer HULL_NOT_SOUND: the word is 0000, every byte as it came.
+ *         Answer HULL_SHORT_RESPONSE: the word is 0000, every byte of image and response as it came, nothing is selected.
+ *         The SELECT had no other fault, and succeeds with a response that is long enough.
  *         A sound image is sound afterwards.
  *
  * The words, in the order in which 01's table judges a command:
- *   6700  under 4 bytes; or the length does not fit the command: CREATE 5 + Lc with Lc at least 1, SELECT and DELETE 7
- *         with Lc 2, the others 4
+ *   6700  under 4 bytes; or the length does not fit the command: CREATE 5 + Lc with Lc at least 1, DELETE 7 with Lc 2, the
+ *         others 4; SELECT by its P2: with 0C 7 bytes with Lc 2, with 04 8 bytes with Lc 2 and Le 00
  *   6985  CLA 01 to 03; the card is terminated; CREATE, DELETE or TERMINATE while another channel is open; or the life
  *         cycle of the file, or of one above it, does not allow the command
  *   6E00  any other CLA but 00
  *   6D00  an INS that is not built
- *   6B00  P1 P2 not 00 00 (SELECT: not 00 0C)
+ *   6B00  P1 P2 not 00 00 (SELECT: neither 00 0C, without data, nor 00 04, with the template)
  *   6A80  CREATE: wrong data. The life cycle in object 8A may be 01 (creation), 03 (initialisation), 04 or 06 (deactivated),
  *         05 or 07 (activated) and is kept as given; ACTIVATE writes 05, DEACTIVATE 04, TERMINATE 0C
  *   6A82  no such file
@@ -96,9 +121,21 @@ uint32_t hull_make(uint8_t *image, size_t image_length, uint32_t total, const ui
  *   6A84  CREATE: not enough memory
  *   9000  done
  *   6283  SELECT: done, the file is deactivated
- *   6285  SELECT: done, the file is terminated */
+ *   6285  SELECT: done, the file is terminated
+ *
+ * The template is 62 LL and then these objects, each a tag, a length of one byte and a value:
+ *   82  the descriptor, 21, and the record length in two bytes where the file has records
+ *   83  the identifier, two bytes
+ *   84  the name, where the file has one
+ *   8A  the life cycle, the byte that the card holds, 0C among them
+ *   8C  the access rule
+ *   80  an EF's size, or 81 a DF's total, two bytes
+ * With a C6 behind 81, which a card does not keep, it is the data of a CREATE that makes the same file again, unless the
+ * file is the root or terminated. */
 uint32_t hull_command(uint8_t *image, size_t image_length, const uint8_t *command, size_t command_length,
-                      uint16_t messaging, uint16_t external, uint16_t user, uint8_t channels);
+                      uint8_t *response, size_t response_length,
+                      uint16_t messaging, uint16_t external, uint16_t user, uint8_t channels,
+                      uint32_t numbers[3]);
 
 /* The two parts of what hull_command returns. */
 #define HULL_ANSWER(result) ((uint32_t)(result) >> 16)

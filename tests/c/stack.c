@@ -22,15 +22,21 @@ static const uint8_t rule[] = {0x7F, 0, 0, 0, 0, 0, 0, 0};
 
 static const uint8_t *bytes;
 static size_t length;
+static uint8_t response[HULL_RESPONSE_MOST];
+static size_t response_length = sizeof response;
+static uint32_t numbers[HULL_NUMBERS];
 static uint32_t given;
 
 static void make(void) { given = hull_make(image, sizeof image, 64 * (SLOTS - 1), rule, sizeof rule); }
-static void command(void) { given = hull_command(image, sizeof image, bytes, length, 0, 0, 0, 0); }
+static void command(void)
+{
+    given = hull_command(image, sizeof image, bytes, length, response, response_length, 0, 0, 0, 0, numbers);
+}
 static void sound(void) { given = hull_sound(image, sizeof image); }
 static void report(void)
 {
-    uint32_t numbers[4];
-    given = hull_report(image, sizeof image, numbers);
+    uint32_t counts[4];
+    given = hull_report(image, sizeof image, counts);
 }
 
 /* Runs a call on the painted stack; gives what it returned. */
@@ -73,6 +79,7 @@ int main(void)
     const uint8_t ef[] = {0x00, 0xE0, 0x00, 0x00, 0x15, 0x62, 0x13, 0x82, 0x02, 0x41, 0x21, 0x83, 0x02, 0x6F, 0x07, 0x8A,
                           0x01, 0x05, 0x8C, 0x02, 0x01, 0x00, 0x80, 0x02, 0x00, 0x09};
     const uint8_t root[] = {0x00, 0xA4, 0x00, 0x0C, 0x02, 0x3F, 0x00}, erase[] = {0x00, 0xE4, 0x00, 0x00, 0x02, 0x70, 0x00};
+    const uint8_t told[] = {0x00, 0xA4, 0x00, 0x04, 0x02, 0x3F, 0x00, 0x00};
     uint8_t bare[] = {0x00, 0x00, 0x00, 0x00};
     const uint8_t instructions[] = {0x04, 0x44, 0xE8, 0xE6, 0xB0, 0xFE};
     size_t page = (size_t)sysconf(_SC_PAGESIZE), size = (HULL_STACK_BYTES + page - 1) / page * page, level, i;
@@ -97,6 +104,10 @@ int main(void)
         play(bare, sizeof bare);
     }
     must("SELECT", play(root, sizeof root), 0x9000);
+    must("SELECT with the template", play(told, sizeof told), 0x9000);
+    must("the root's template", numbers[0], 27);
+    response_length = 26;
+    must("SELECT with a short response", play(told, sizeof told), (uint32_t)HULL_SHORT_RESPONSE << 16);
     must("DELETE", play(erase, sizeof erase), 0x9000);
     bare[1] = 0xB0;
     must("an unknown instruction", play(bare, sizeof bare), 0x6D00);

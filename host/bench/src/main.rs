@@ -1,6 +1,7 @@
 //! Measures how long the proved card takes for each kind of command, on cards
 //! of several sizes and shapes, beside the model on the same work and one copy
-//! of the image.
+//! of the image; and how many times as long SELECT takes with the template as
+//! without.
 //!
 //!     cargo run --release -p bench [-- --milliseconds M] [--shape WORD]
 //!
@@ -18,7 +19,7 @@ use std::io::{self, Write};
 use std::process::ExitCode;
 use std::time::Duration;
 
-use card::lent;
+use card::{lent, Answer, CommandError, LONGEST_RESPONSE};
 use cases::worst::{self, Worst};
 use clock::{measure, measure_copy, Times};
 use work::{Call, Task};
@@ -68,6 +69,11 @@ fn measure_all(budget: Duration, shape: &str) -> io::Result<()> {
             let cells = images.each_ref().map(|image| cell(task, image, budget));
             writeln!(out, "{}", table::row(task.title(), &SIZES, &cells, &copies))?;
         }
+        writeln!(out, "{}", table::ratio_head(&SIZES))?;
+        for (what, without, with) in Task::TEMPLATES {
+            let ratios = images.each_ref().map(|image| ratio(without, with, image, budget));
+            writeln!(out, "{}", table::ratio_row(what, &ratios))?;
+        }
     }
     out.flush()
 }
@@ -108,11 +114,30 @@ fn cell(task: Task, image: &[u8], budget: Duration) -> Cell {
             measure(&start, budget, |image| lent::report(image), |image| model::report(image))
         }
         Call::Command(bytes) => {
-            let by_card = |image: &mut [u8]| lent::command(image, &bytes, &card::State::FULL);
-            let by_model = |image: &mut [u8]| model::command(image, &bytes, &model::State::FULL);
-            word = by_card(&mut start.clone()).map_or(0, |word| word.0);
+            let by_card = by_card(&bytes);
+            let by_model = |image: &mut [u8]| {
+                let mut response = [0; LONGEST_RESPONSE];
+                model::command(image, &bytes, &mut response, &model::State::FULL)
+            };
+            word = by_card(&mut start.clone()).map_or(0, |answer| answer.word.0);
             measure(&start, budget, by_card, by_model)
         }
     };
     Cell { card, model, word }
+}
+
+/// A command by the proved card, with a response that is long enough.
+fn by_card(bytes: &[u8]) -> impl Fn(&mut [u8]) -> Result<Answer, CommandError> + '_ {
+    |image| lent::command(image, bytes, &mut [0; LONGEST_RESPONSE], &card::State::FULL)
+}
+
+/// How many times as long the proved card takes for the second task as for the
+/// first, both in turn on the same card: by the medians, by the lowest times.
+fn ratio(first: Task, second: Task, image: &[u8], budget: Duration) -> Times {
+    let ((start, one), (_, other)) = (first.prepared(image), second.prepared(image));
+    let (Call::Command(one), Call::Command(other)) = (one, other) else {
+        return Times { median: f64::NAN, lowest: f64::NAN };
+    };
+    let (one, other) = measure(&start, budget, by_card(&one), by_card(&other));
+    Times { median: other.median / one.median, lowest: other.lowest / one.lowest }
 }

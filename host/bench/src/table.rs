@@ -52,6 +52,24 @@ pub fn row(title: &str, sizes: &[usize; 4], cells: &[Cell; 4], copies: &[Times; 
     line(title, &word, [times, others, to_model, to_copy])
 }
 
+/// What the lines of ratios are about.
+pub fn ratio_head(sizes: &[usize; 4]) -> String {
+    let [a, b, c, d] = sizes;
+    let largest = format!("lowest, N {d}");
+    let times = format!("{a:>6} {b:>7} {c:>7} {d:>8}");
+    let what = "SELECT with template / without, in turn in one run: medians at N".to_string();
+    format!("{what}\n{}", line("", "", [times, largest, String::new(), String::new()]))
+}
+
+/// The line of one ratio: of the medians, and of the lowest times at the
+/// largest size.
+pub fn ratio_row(what: &str, ratios: &[Times; 4]) -> String {
+    let [a, b, c, d] = ratios.each_ref().map(|ratio| ratio.median);
+    let times = format!("{a:>6.3} {b:>7.3} {c:>7.3} {d:>8.3}");
+    let lowest = format!("{:>8.3}", ratios[3].lowest);
+    line(what, "", [times, lowest, String::new(), String::new()])
+}
+
 fn line(title: &str, word: &str, parts: [String; 4]) -> String {
     let [times, largest, to_model, to_copy] = parts;
     let text = format!(
@@ -91,5 +109,18 @@ mod tests {
         }
         assert!(row.starts_with("ACTIVATE") && row.contains("9000") && row.contains(" 0.50"));
         assert!(row.ends_with("  128"), "{row}");
+    }
+
+    #[test]
+    fn ratios_stand_below_their_sizes() {
+        let ratio = |median| Times { median, lowest: 1.007 };
+        let row = ratio_row("the root", &[1.2, 1.1, 1.05, 1.012].map(ratio));
+        let head = ratio_head(&[16, 64, 256, 1023]);
+        let head = head.lines().last().expect("a line");
+        for (size, ratio) in [("16", "1.200"), ("256", "1.050"), ("1023", "1.012")] {
+            let end = |text: &str, part: &str| text.find(part).map(|at| at + part.len());
+            assert_eq!(end(head, size), end(&row, ratio), "{head}\n{row}");
+        }
+        assert!(row.starts_with("the root") && row.contains("| ") && row.contains("1.007"));
     }
 }

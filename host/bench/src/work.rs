@@ -19,6 +19,9 @@ pub enum Task {
     Report,
     UnknownInstruction,
     SelectRoot,
+    SelectRootTemplate,
+    SelectFile,
+    SelectFileTemplate,
     SelectNothing,
     CreateDf,
     CreateEf,
@@ -32,11 +35,14 @@ pub enum Task {
 }
 
 impl Task {
-    pub const ALL: [Task; 14] = [
+    pub const ALL: [Task; 17] = [
         Task::Sound,
         Task::Report,
         Task::UnknownInstruction,
         Task::SelectRoot,
+        Task::SelectRootTemplate,
+        Task::SelectFile,
+        Task::SelectFileTemplate,
         Task::SelectNothing,
         Task::CreateDf,
         Task::CreateEf,
@@ -49,12 +55,21 @@ impl Task {
         Task::TerminateCard,
     ];
 
+    /// Each SELECT with the one that answers the template, and what both select.
+    pub const TEMPLATES: [(&'static str, Task, Task); 2] = [
+        ("the root", Task::SelectRoot, Task::SelectRootTemplate),
+        ("last file", Task::SelectFile, Task::SelectFileTemplate),
+    ];
+
     pub fn title(self) -> &'static str {
         match self {
             Task::Sound => "soundness alone",
             Task::Report => "report",
             Task::UnknownInstruction => "unknown instruction",
             Task::SelectRoot => "SELECT, the root",
+            Task::SelectRootTemplate => ".. with its template",
+            Task::SelectFile => "SELECT, last file",
+            Task::SelectFileTemplate => ".. with its template",
             Task::SelectNothing => "SELECT, no such file",
             Task::CreateDf => "CREATE, a DF",
             Task::CreateEf => "CREATE, an EF",
@@ -78,6 +93,9 @@ impl Task {
             Task::Report => Call::Report,
             Task::UnknownInstruction => Call::Command(bare(0xB0)),
             Task::SelectRoot => Call::Command(select(0x3F00)),
+            Task::SelectRootTemplate => Call::Command(with_template(select(0x3F00))),
+            Task::SelectFile => Call::Command(select_last(&mut card)),
+            Task::SelectFileTemplate => Call::Command(with_template(select_last(&mut card))),
             Task::SelectNothing => Call::Command(select(0x5555)),
             Task::CreateDf => Call::Command(last_file_again(&mut card, 0x78)),
             Task::CreateEf => Call::Command(last_file_again(&mut card, 0x41)),
@@ -103,6 +121,20 @@ impl Task {
 /// The last slot in use; nothing stands beneath it in any of the shapes.
 fn last_slot(card: &Card) -> usize {
     card.used_slots().last().unwrap_or(0)
+}
+
+/// Makes the last file's directory current, and gives the SELECT of the file.
+fn select_last(card: &mut Card) -> Vec<u8> {
+    let slot = last_slot(card);
+    card.make_current(card.parent(slot));
+    select(card.record(slot).identifier)
+}
+
+/// A SELECT that wants the template: P2 04 and Le 00.
+fn with_template(mut select: Vec<u8>) -> Vec<u8> {
+    select.iter_mut().skip(3).take(1).for_each(|p2| *p2 = 0x04);
+    select.push(0x00);
+    select
 }
 
 /// Takes the last file away, and gives the CREATE of one like it.
@@ -132,6 +164,23 @@ mod tests {
     use super::*;
     use crate::shapes;
 
+    /// The two SELECTs that are compared start alike and select the same file.
+    #[test]
+    fn a_template_is_compared_with_the_same_select_without() {
+        for worst in shapes(64) {
+            for (_, without, with) in Task::TEMPLATES {
+                let (start, one) = without.prepared(&worst.image);
+                let (same_start, other) = with.prepared(&worst.image);
+                assert_eq!(start, same_start, "{}, {with:?}", worst.title);
+                let (Call::Command(one), Call::Command(other)) = (one, other) else {
+                    panic!("{with:?} is no command");
+                };
+                assert_eq!((one[3], other[3], other[7]), (0x0C, 0x04, 0x00), "{with:?}");
+                assert_eq!(one[4..], other[4..7], "{with:?}");
+            }
+        }
+    }
+
     /// Every command has its effect, but for those that a shape cannot have:
     /// no EF to terminate, nothing to select.
     #[test]
@@ -148,8 +197,13 @@ mod tests {
                     Task::TerminateEf if !has_ef => 0x6986,
                     _ => 0x9000,
                 };
-                let word = card::lent::command(&mut image, &bytes, &card::State::FULL);
-                assert_eq!(word, Ok(card::Word(wanted)), "{}, {task:?}", worst.title);
+                let mut response = [0; card::LONGEST_RESPONSE];
+                let full = card::State::FULL;
+                let answer = card::lent::command(&mut image, &bytes, &mut response, &full);
+                let answer = answer.expect("a sound card and a long response");
+                assert_eq!(answer.word.0, wanted, "{}, {task:?}", worst.title);
+                let has_data = format!("{task:?}").contains("Template");
+                assert_eq!(answer.data_length > 0, has_data, "{}, {task:?}", worst.title);
             }
         }
     }

@@ -2,8 +2,8 @@ use card::{Card, State};
 
 fn main() -> Result<(), Box<dyn std::error::Error>> {
     let mut card = Card::make(8, 448, &card::OPEN_RULE)?;
-    let select_root = [0x00, 0xA4, 0x00, 0x0C, 0x02, 0x3F, 0x00];
-    let word = card.command(&select_root, &State::default())?;
-    println!("{word}: {}", word.meaning());
+    let select_root = [0x00, 0xA4, 0x00, 0x04, 0x02, 0x3F, 0x00, 0x00];
+    let reply = card.command(&select_root, &State::default())?;
+    println!("{}: {}, {} bytes of data", reply.word, reply.word.meaning(), reply.data.len());
     Ok(())
 }

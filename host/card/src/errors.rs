@@ -3,6 +3,8 @@
 use std::error::Error;
 use std::fmt;
 
+use crate::LONGEST_RESPONSE;
+
 /// Why the maker refused. The buffer is as it came.
 #[derive(Clone, Copy, PartialEq, Eq, Debug)]
 pub enum MakeError {
@@ -40,9 +42,7 @@ impl fmt::Display for MakeError {
                 "the root's access rule is malformed: give 1 to 16 bytes, groups of an AM byte \
                  below 80 and one SC byte for each of its bits (7F00000000000000 allows all)",
             ),
-            MakeError::Unknown(answer) => {
-                write!(f, "the card library gave the unknown answer {answer}: build both anew")
-            }
+            MakeError::Unknown(answer) => unknown(*answer, f),
         }
     }
 }
@@ -63,6 +63,50 @@ impl fmt::Display for Damaged {
 }
 
 impl Error for Damaged {}
+
+/// Why a command has no word.
+#[derive(Clone, Copy, PartialEq, Eq, Debug)]
+pub enum CommandError {
+    /// Answer 1: the image is not sound. Image and response are as they came.
+    Damaged,
+    /// Answer 5: the response is shorter than the data. Nothing is selected;
+    /// image and response are as they came.
+    ShortResponse,
+    /// An answer that this version does not know, or data that is longer than
+    /// the response; what became of image and response is not known.
+    Unknown(u32),
+}
+
+impl CommandError {
+    /// The library's number for it.
+    pub fn answer(self) -> u32 {
+        match self {
+            CommandError::Damaged => 1,
+            CommandError::ShortResponse => 5,
+            CommandError::Unknown(answer) => answer,
+        }
+    }
+}
+
+impl fmt::Display for CommandError {
+    fn fmt(&self, f: &mut fmt::Formatter<'_>) -> fmt::Result {
+        match self {
+            CommandError::Damaged => Damaged.fmt(f),
+            CommandError::ShortResponse => write!(
+                f,
+                "the response buffer is too short for the data: {LONGEST_RESPONSE} bytes are \
+                 enough for every command"
+            ),
+            CommandError::Unknown(answer) => unknown(*answer, f),
+        }
+    }
+}
+
+impl Error for CommandError {}
+
+fn unknown(answer: u32, f: &mut fmt::Formatter<'_>) -> fmt::Result {
+    write!(f, "the card library gave the unknown answer {answer}: build both anew")
+}
 
 /// An image that a [`crate::Card`] was not made of, because it is damaged. It
 /// can be had back.

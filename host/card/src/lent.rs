@@ -1,7 +1,7 @@
 //! The four calls of the proved card on a buffer of the caller's. The buffer
 //! may hold anything; what is not a sound image is found and left alone.
 
-use crate::errors::{Damaged, MakeError};
+use crate::errors::{CommandError, Damaged, MakeError};
 use crate::ffi;
 use crate::state::State;
 use crate::word::Word;
@@ -19,6 +19,15 @@ pub struct Report {
     pub beneath: u32,
 }
 
+/// What a command answers.
+#[derive(Clone, Copy, PartialEq, Eq, Debug)]
+pub struct Answer {
+    /// The status word.
+    pub word: Word,
+    /// How many bytes of data stand at the start of the response.
+    pub data_length: usize,
+}
+
 /// Makes a fresh card in the buffer: only the root, which is current.
 pub fn make(image: &mut [u8], total: u32, root_rule: &[u8]) -> Result<(), MakeError> {
     match ffi::make(image, total, root_rule) {
@@ -31,14 +40,26 @@ pub fn make(image: &mut [u8], total: u32, root_rule: &[u8]) -> Result<(), MakeEr
 }
 
 /// Runs one command. The word tells whether it had its effect; after a
-/// refusal, and on a damaged image, the buffer is as it came.
-pub fn command(image: &mut [u8], command: &[u8], state: &State) -> Result<Word, Damaged> {
+/// refusal, on a damaged image and with a response that is too short, image
+/// and response are as they came. Only a SELECT that wants the template has
+/// data; the bytes past it stay, and [`crate::LONGEST_RESPONSE`] bytes are
+/// enough for it.
+pub fn command(
+    image: &mut [u8],
+    command: &[u8],
+    response: &mut [u8],
+    state: &State,
+) -> Result<Answer, CommandError> {
     let sets = [state.messaging, state.external, state.user];
-    let both = ffi::command(image, command, sets, state.channels);
-    let [answer_high, answer_low, word_high, word_low] = both.to_be_bytes();
-    match (answer_high, answer_low) {
-        (0, 0) => Ok(Word(u16::from_be_bytes([word_high, word_low]))),
-        _ => Err(Damaged),
+    let (both, [written, ..]) = ffi::command(image, command, response, sets, state.channels);
+    let data_length = usize::try_from(written).unwrap_or(usize::MAX);
+    match both >> 16 {
+        0 if data_length <= response.len() => {
+            Ok(Answer { word: Word((both & 0xFFFF) as u16), data_length })
+        }
+        1 => Err(CommandError::Damaged),
+        5 => Err(CommandError::ShortResponse),
+        answer => Err(CommandError::Unknown(answer)),
     }
 }
 

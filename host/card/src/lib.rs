@@ -9,8 +9,10 @@
 //! use card::{Card, State};
 //!
 //! let mut card = Card::make(8, 448, &card::OPEN_RULE)?;
-//! let word = card.command(&[0x00, 0xA4, 0x00, 0x0C, 0x02, 0x3F, 0x00], &State::FULL)?;
-//! assert_eq!(format!("{word}: {}", word.meaning()), "9000: done");
+//! let select_root = [0x00, 0xA4, 0x00, 0x04, 0x02, 0x3F, 0x00, 0x00];
+//! let reply = card.command(&select_root, &State::FULL)?;
+//! assert_eq!(format!("{}: {}", reply.word, reply.word.meaning()), "9000: done");
+//! assert_eq!(reply.data[..6], [0x62, 25, 0x82, 2, 0x38, 0x21]);
 //! assert_eq!(card.report()?.room, 448);
 //! # Ok::<(), Box<dyn std::error::Error>>(())
 //! ```
@@ -22,7 +24,8 @@
 //! | the same with the library's bare numbers | [`ffi`] |
 //! | what the caller has authenticated | [`State`] |
 //! | status words and their meaning | [`Word`] |
-//! | refusals, and what to do about them | [`MakeError`], [`Damaged`], [`DamagedImage`] |
+//! | a word with the data that came with it | [`Reply`] |
+//! | what goes wrong | [`MakeError`], [`CommandError`], [`Damaged`], [`DamagedImage`] |
 
 #![deny(unsafe_code)]
 #![warn(missing_docs)]
@@ -42,9 +45,9 @@ mod owned;
 mod state;
 mod word;
 
-pub use errors::{Damaged, DamagedImage, MakeError};
-pub use lent::Report;
-pub use owned::Card;
+pub use errors::{CommandError, Damaged, DamagedImage, MakeError};
+pub use lent::{Answer, Report};
+pub use owned::{Card, Reply};
 pub use state::State;
 pub use word::Word;
 
@@ -56,6 +59,9 @@ pub const RECORD_BYTES: usize = 64;
 pub const FEWEST_SLOTS: usize = 2;
 /// Most slots of a card.
 pub const MOST_SLOTS: usize = 1023;
+/// The most bytes of data that a command answers: the template of a directory
+/// with a name of 16 bytes and a rule of 16.
+pub const LONGEST_RESPONSE: usize = 53;
 /// The access rule that allows everything always.
 pub const OPEN_RULE: [u8; 8] = [0x7F, 0, 0, 0, 0, 0, 0, 0];
 

@@ -2,11 +2,20 @@
 
 use std::fmt;
 
-use crate::errors::{Damaged, DamagedImage, MakeError};
+use crate::errors::{CommandError, Damaged, DamagedImage, MakeError};
 use crate::lent::{self, Report};
 use crate::state::State;
 use crate::word::Word;
-use crate::{image_length, MOST_SLOTS};
+use crate::{image_length, LONGEST_RESPONSE, MOST_SLOTS};
+
+/// What a card replies to a command.
+#[derive(Clone, PartialEq, Eq, Debug)]
+pub struct Reply {
+    /// The status word.
+    pub word: Word,
+    /// The data: the template of a SELECT that wants it, else nothing.
+    pub data: Vec<u8>,
+}
 
 /// A card with its image. It is sound from the start, and that every command
 /// keeps it so is proved.
@@ -34,9 +43,13 @@ impl Card {
         }
     }
 
-    /// Runs one command; see [`lent::command`].
-    pub fn command(&mut self, command: &[u8], state: &State) -> Result<Word, Damaged> {
-        lent::command(&mut self.image, command, state)
+    /// Runs one command; see [`lent::command`]. The response is always long
+    /// enough.
+    pub fn command(&mut self, command: &[u8], state: &State) -> Result<Reply, CommandError> {
+        let mut response = [0; LONGEST_RESPONSE];
+        let answer = lent::command(&mut self.image, command, &mut response, state)?;
+        let data = response.into_iter().take(answer.data_length).collect();
+        Ok(Reply { word: answer.word, data })
     }
 
     /// Reports on the current directory.

@@ -12,9 +12,13 @@ uicc: a test UICC's files, on the proved card
 
   uicc run SCRIPT [--image IMAGE] [card] [state]
         plays a script on a fresh card, or on IMAGE, which is saved afterwards;
-        - is standard input
+        - is standard input. A file's template (SELECT with P2 04) is told in
+        words below its line
   uicc show IMAGE
         prints the tree of files, each directory's room as a bar
+  uicc export IMAGE
+        prints a script that makes the same files again on a fresh card; its
+        first lines say on which
   uicc new IMAGE [card] [--force]
         writes the image of a fresh card; --force replaces a file
 
@@ -38,9 +42,12 @@ state, the conditions that hold while the script is played:
 Exit status: 0 done, also when the card refused commands; 1 a file, an image or
 a script is wrong, or the output could not be written, and nothing was saved;
 2 the command line is wrong; 3 the card WAS saved, but the output could not be
-written: do not play the script again.
+written: do not play the script again; 4 export: the script is printed, but it
+does not make all of the card again, and standard error says what is lost.
 ";
 
+/// What can be done.
+const VERBS: &str = "run, show, export or new";
 const DEFAULT_SLOTS: usize = 64;
 /// The name that means standard input.
 pub const STANDARD_INPUT: &str = "-";
@@ -56,8 +63,9 @@ pub struct Fresh {
 impl Fresh {
     /// The card in a few words.
     pub fn describe(&self) -> String {
-        let rule: String = self.rule.iter().map(|byte| format!("{byte:02X}")).collect();
-        format!("fresh card of {} slots, root total {}, root rule {rule}", self.slots, self.total)
+        let Fresh { slots, total, rule } = self;
+        let rule = hex::row(rule);
+        format!("fresh card of {slots} slots, root total {total}, root rule {rule}")
     }
 }
 
@@ -67,6 +75,7 @@ pub enum Wish {
     Help,
     Run { script: PathBuf, image: Option<PathBuf>, fresh: Fresh, state: State },
     Show { image: PathBuf },
+    Export { image: PathBuf },
     New { image: PathBuf, fresh: Fresh, replace: bool },
 }
 
@@ -86,7 +95,7 @@ pub fn read(arguments: &[OsString]) -> Result<Wish, Failure> {
 fn wish(arguments: &[OsString]) -> Result<Wish, String> {
     let is_help = |word: &OsString| word == "--help" || word == "-h";
     let Some((verb, rest)) = arguments.split_first() else {
-        return Err("say what to do: run, show or new".to_string());
+        return Err(format!("say what to do: {VERBS}"));
     };
     if arguments.iter().take_while(|word| *word != "--").any(is_help) || verb == "help" {
         return Ok(Wish::Help);
@@ -101,16 +110,20 @@ fn wish(arguments: &[OsString]) -> Result<Wish, String> {
             }
             Ok(Wish::Run { script, image, fresh: options.fresh()?, state: options.state()? })
         }
-        Some("show") => {
-            Ok(Wish::Show { image: image(Options::read(rest, &[])?.only_file("an IMAGE")?)? })
-        }
+        Some("show") => Ok(Wish::Show { image: only_image(rest)? }),
+        Some("export") => Ok(Wish::Export { image: only_image(rest)? }),
         Some("new") => {
             let mut options = Options::read(rest, &NEW_OPTIONS)?;
             let image = image(options.only_file("an IMAGE")?)?;
             Ok(Wish::New { image, fresh: options.fresh()?, replace: options.force })
         }
-        _ => Err(format!("{} is nothing to do: run, show or new", verb.to_string_lossy())),
+        _ => Err(format!("{} is nothing to do: {VERBS}", verb.to_string_lossy())),
     }
+}
+
+/// The image that a command line has, and nothing else.
+fn only_image(words: &[OsString]) -> Result<PathBuf, String> {
+    image(Options::read(words, &[])?.only_file("an IMAGE")?)
 }
 
 /// An image is kept in a file, and a stream is none.

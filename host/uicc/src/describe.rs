@@ -1,5 +1,7 @@
-//! The name of a command, with the file that it names.
+//! Words: the name of a command with the file that it names, kinds of files,
+//! life cycles.
 
+use model::descriptor::{class, Class, Structure};
 use model::ledger::announced;
 
 /// The commands that the card knows.
@@ -23,7 +25,9 @@ pub fn command(bytes: &[u8]) -> String {
         return format!("(unknown INS {instruction:02X})");
     };
     let named = match (instruction, bytes) {
-        (0xA4 | 0xE4, [_, _, _, _, 2, high, low]) => Some(u16::from_be_bytes([*high, *low])),
+        (0xA4 | 0xE4, [_, _, _, _, 2, high, low]) | (0xA4, [_, _, _, _, 2, high, low, _]) => {
+            Some(u16::from_be_bytes([*high, *low]))
+        }
         (0xE0, _) => announced(bytes).map(|file| file.identifier),
         _ => None,
     };
@@ -33,16 +37,48 @@ pub fn command(bytes: &[u8]) -> String {
     }
 }
 
+/// What a descriptor byte describes: a directory, or the structure of a file.
+pub fn kind(descriptor: u8) -> &'static str {
+    match class(descriptor) {
+        Class::Df => "directory",
+        Class::Ef(Structure::Transparent) => "transparent",
+        Class::Ef(Structure::LinearFixed) => "linear fixed",
+        Class::Ef(Structure::Cyclic) => "cyclic",
+        Class::Neither => "unknown",
+    }
+}
+
+/// The same without the structure: b6 to b4 tell working files from internal
+/// ones.
+pub fn kind_of_file(descriptor: u8) -> &'static str {
+    match (class(descriptor), descriptor >> 3 & 0b111) {
+        (Class::Df, _) => "directory",
+        (Class::Ef(_), 0) => "working EF",
+        (Class::Ef(_), _) => "internal EF",
+        (Class::Neither, _) => "unknown",
+    }
+}
+
 /// What a life-cycle byte says. 06 and 07 come from a CREATE FILE that sent
 /// them and go with the next change, so they are told apart from 04 and 05.
-pub fn life_cycle(byte: u8) -> &'static str {
+pub fn life_cycle(byte: u8) -> String {
+    match byte {
+        0x06 | 0x07 => life_cycle_and_byte(byte),
+        _ => life_class(byte).to_string(),
+    }
+}
+
+/// What a life-cycle byte says, always with the byte.
+pub fn life_cycle_and_byte(byte: u8) -> String {
+    format!("{} ({byte:02X})", life_class(byte))
+}
+
+fn life_class(byte: u8) -> &'static str {
     match byte {
         0x01 => "creation",
         0x03 => "initialisation",
-        0x04 => "deactivated",
-        0x05 => "activated",
-        0x06 => "deactivated (06)",
-        0x07 => "activated (07)",
+        0x04 | 0x06 => "deactivated",
+        0x05 | 0x07 => "activated",
         0x0C => "terminated",
         _ => "unknown",
     }
@@ -63,6 +99,22 @@ mod tests {
         for (byte, class) in [(0x06, "deactivated"), (0x07, "activated")] {
             assert_eq!(life_cycle(byte), format!("{class} ({byte:02X})"));
             assert_eq!(life_cycle(byte & !0x02), class);
+            assert_eq!(life_cycle_and_byte(byte), life_cycle(byte));
+        }
+        assert_eq!(life_cycle_and_byte(0x0C), "terminated (0C)");
+    }
+
+    #[test]
+    fn kinds_have_words() {
+        for (descriptor, words, without_structure) in [
+            (0x38, "directory", "directory"),
+            (0x41, "transparent", "working EF"),
+            (0x49, "transparent", "internal EF"),
+            (0x02, "linear fixed", "working EF"),
+            (0x0E, "cyclic", "internal EF"),
+            (0x79, "unknown", "unknown"),
+        ] {
+            assert_eq!((kind(descriptor), kind_of_file(descriptor)), (words, without_structure));
         }
     }
 
@@ -70,6 +122,8 @@ mod tests {
     fn commands_have_names_however_broken() {
         for (bytes, name) in [
             (&[0x00, 0xA4, 0x00, 0x0C, 0x02, 0x6F, 0x07][..], "SELECT 6F07"),
+            (&[0x00, 0xA4, 0x00, 0x04, 0x02, 0x6F, 0x07, 0x00], "SELECT 6F07"),
+            (&[0x00, 0xE4, 0x00, 0x00, 0x02, 0x6F, 0x07, 0x00], "DELETE FILE"),
             (&[0x00, 0xA4, 0x00, 0x0C, 0x02, 0x6F], "SELECT"),
             (&[0x00, 0xE0, 0x00, 0x00], "CREATE FILE"),
             (&[0x00, 0xFE, 0x00, 0x00], "TERMINATE CARD USAGE"),

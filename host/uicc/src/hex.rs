@@ -35,6 +35,11 @@ pub fn bytes(text: &str) -> Result<Vec<u8>, Wrong> {
     }
 }
 
+/// Bytes as one row of digits.
+pub fn row(bytes: &[u8]) -> String {
+    bytes.iter().map(|byte| format!("{byte:02X}")).collect()
+}
+
 #[cfg(test)]
 mod tests {
     use super::*;

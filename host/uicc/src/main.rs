@@ -1,31 +1,49 @@
 //! A program for people: plays scripts of commands on the proved card, makes
 //! card images and shows what is on them.
 //!
-//! The proved card decides everything. Only `show`, once the proved card has
-//! found the image sound, reads its records by the model.
+//! The proved card decides everything. Only `show` and `export`, once the proved
+//! card has found the image sound, read its records by the model.
 
 #![forbid(unsafe_code)]
 
 mod arguments;
 mod bar;
 mod describe;
+mod export;
+mod fcp;
 mod hex;
 mod play;
+mod rule;
 mod script;
 mod store;
 mod tree;
 
 use std::io;
-use std::path::PathBuf;
+use std::path::{Path, PathBuf};
 use std::process::ExitCode;
 
 use arguments::{Fresh, Wish};
 use card::{largest_total, Card, MakeError};
+use export::Export;
 
-/// What was done: what is to be printed, and the file that was saved.
+/// What was done: what is to be printed, the file that was saved, and what is
+/// missing, in words.
 struct Done {
     text: String,
     saved: Option<PathBuf>,
+    lost: Vec<String>,
+}
+
+impl Done {
+    /// Something to print, with nothing saved and nothing missing.
+    fn told(text: String) -> Done {
+        Done { text, saved: None, lost: Vec::new() }
+    }
+
+    /// The same with a card saved.
+    fn saved(text: String, card: &Path) -> Done {
+        Done { text, saved: Some(card.to_path_buf()), lost: Vec::new() }
+    }
 }
 
 /// Why the program ends without having done what was asked.
@@ -38,6 +56,8 @@ enum Failure {
 
 /// The exit status where a card was saved and the output was lost.
 const SAVED_UNTOLD: u8 = 3;
+/// The exit status where a script does not make all of a card again.
+const NOT_ALL: u8 = 4;
 
 fn main() -> ExitCode {
     let arguments: Vec<_> = std::env::args_os().skip(1).collect();
@@ -53,7 +73,7 @@ fn main() -> ExitCode {
 /// Does what was asked.
 fn carry_out(wish: Wish) -> Result<Done, Failure> {
     match wish {
-        Wish::Help => Ok(Done { text: arguments::HELP.to_string(), saved: None }),
+        Wish::Help => Ok(Done::told(arguments::HELP.to_string())),
         Wish::Run { script, image, fresh, state } => {
             let steps = script::read(&script).map_err(Failure::Refused)?;
             match image {
@@ -64,14 +84,20 @@ fn carry_out(wish: Wish) -> Result<Done, Failure> {
         }
         Wish::Show { image } => {
             let card = store::look(&image).map_err(Failure::Refused)?;
-            let text = tree::show(&card).map_err(Failure::Refused)?;
-            Ok(Done { text, saved: None })
+            Ok(Done::told(tree::show(&card).map_err(Failure::Refused)?))
+        }
+        Wish::Export { image } => {
+            let card = store::look(&image).map_err(Failure::Refused)?;
+            let Export { script, lost } = export::export(&card).map_err(Failure::Refused)?;
+            let name = image.display();
+            let lost = lost.into_iter().map(|what| format!("{name}: {what}")).collect();
+            Ok(Done { text: script, saved: None, lost })
         }
         Wish::New { image, fresh, replace } => {
             let card = fresh_card(&fresh)?;
             store::make(&image, card.image(), replace).map_err(Failure::Refused)?;
             let text = format!("{}: {}\n", image.display(), fresh.describe());
-            Ok(Done { text, saved: Some(image) })
+            Ok(Done::saved(text, &image))
         }
     }
 }
@@ -91,11 +117,14 @@ fn fresh_card(fresh: &Fresh) -> Result<Card, Failure> {
     })
 }
 
-/// Prints what was done. A reader that has had enough is no failure, unless a
-/// card was saved: nobody may think that it was not, and play a script twice.
+/// Prints what was done, and then what is missing. A reader that has had enough
+/// is no failure, unless a card was saved: nobody may think that it was not,
+/// and play a script twice.
 fn print(done: &Done) -> ExitCode {
     let printed = console::print(&done.text);
-    let Err(error) = printed else { return ExitCode::SUCCESS };
+    done.lost.iter().for_each(|what| console::complain(&format!("uicc: {what}")));
+    let status = ExitCode::from(if done.lost.is_empty() { 0 } else { NOT_ALL });
+    let Err(error) = printed else { return status };
     match &done.saved {
         Some(card) => {
             let name = card.display();
@@ -104,7 +133,7 @@ fn print(done: &Done) -> ExitCode {
             ));
             ExitCode::from(SAVED_UNTOLD)
         }
-        None if error.kind() == io::ErrorKind::BrokenPipe => ExitCode::SUCCESS,
+        None if error.kind() == io::ErrorKind::BrokenPipe => status,
         None => {
             console::complain(&format!("uicc: the output cannot be written: {error}"));
             ExitCode::FAILURE

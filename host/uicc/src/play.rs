@@ -2,17 +2,17 @@
 
 use std::path::Path;
 
-use card::{Card, State};
+use card::{Card, Reply, State};
 
 use crate::arguments::Fresh;
 use crate::script::Step;
-use crate::{describe, store, Done};
+use crate::{describe, fcp, store, Done};
 
 /// Plays on a fresh card, which is not kept.
 pub fn on_fresh(card: &Card, fresh: &Fresh, steps: &[Step], state: &State) -> Result<Done, String> {
     let mut card = card.clone();
     let told = play(&mut card, steps, state)?;
-    Ok(Done { text: format!("{}\n{told}", fresh.describe()), saved: None })
+    Ok(Done::told(format!("{}\n{told}", fresh.describe())))
 }
 
 /// Plays on the card of an image file and saves it; the file is locked from
@@ -24,20 +24,25 @@ pub fn on_image(image: &Path, steps: &[Step], state: &State) -> Result<Done, Str
     let told = play(&mut card, steps, state)?;
     let name = image.display();
     if card == before {
-        return Ok(Done { text: format!("{name}\n{told}{name} is as it was\n"), saved: None });
+        return Ok(Done::told(format!("{name}\n{told}{name} is as it was\n")));
     }
     store::save(image, held, card.image())?;
-    Ok(Done { text: format!("{name}\n{told}{name} saved\n"), saved: Some(image.to_path_buf()) })
+    Ok(Done::saved(format!("{name}\n{told}{name} saved\n"), image))
 }
 
-/// A line for each command, and at the end the current directory.
+/// A line for each command, below it what a template says, and at the end the
+/// current directory.
 fn play(card: &mut Card, steps: &[Step], state: &State) -> Result<String, String> {
     let mut told = String::new();
     for Step { line, command } in steps {
         let name = describe::command(command);
-        let word = card.command(command, state);
-        let word = word.map_err(|error| format!("line {line}, {name}: {error}"))?;
+        let reply = card.command(command, state);
+        let Reply { word, data } =
+            reply.map_err(|error| format!("line {line}, {name}: {error}"))?;
         told += &format!("{line:>4}  {name:<20}  {word}  {}\n", word.meaning());
+        if !data.is_empty() {
+            told += &fcp::told(&data);
+        }
     }
     let report = card.report().map_err(|error| error.to_string())?;
     let files = if report.children == 1 { "file" } else { "files" };

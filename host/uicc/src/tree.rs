@@ -1,10 +1,9 @@
 //! The tree of files on a card, for people.
 
 use card::Card;
-use model::descriptor::{class, Class, Structure};
-use model::{Card as Decoded, Record};
+use model::Card as Decoded;
 
-use crate::{bar, describe};
+use crate::{bar, describe, hex};
 
 /// Deeper levels are no longer drawn further to the right; they are numbered.
 const DEEPEST_DRAWN: u16 = 16;
@@ -28,9 +27,10 @@ pub fn show(card: &Card) -> Result<String, String> {
     told += &line(width, ["file", "kind", "life cycle", "size", "room"]);
     for Row { place, slot } in &rows {
         let record = decoded.record(*slot);
+        let kind = describe::kind(record.descriptor);
         let life_cycle = describe::life_cycle(record.life_cycle);
         let (size, notes) = (record.size.to_string(), notes(&decoded, *slot));
-        told += &line(width, [place, kind(record), life_cycle, &size, &notes]);
+        told += &line(width, [place, kind, &life_cycle, &size, &notes]);
     }
     Ok(told)
 }
@@ -40,14 +40,20 @@ fn line(width: usize, [place, kind, life_cycle, size, notes]: [&str; 5]) -> Stri
     format!("{}\n", text.trim_end())
 }
 
-/// All files, each directory before its children, these in their slots' order.
-fn rows(card: &Decoded) -> Vec<Row> {
+/// The children of each slot, in their slots' order.
+pub fn children(card: &Decoded) -> Vec<Vec<usize>> {
     let mut children = vec![Vec::new(); card.records.len()];
     for slot in card.used_slots().filter(|&slot| slot != 0) {
         if let Some(list) = children.get_mut(card.parent(slot)) {
             list.push(slot);
         }
     }
+    children
+}
+
+/// All files, each directory before its children, these in their slots' order.
+fn rows(card: &Decoded) -> Vec<Row> {
+    let mut children = children(card);
     let mut rows = Vec::new();
     let mut left = vec![(0, String::new(), String::new())];
     while let Some((slot, branch, trunk)) = left.pop() {
@@ -80,8 +86,7 @@ fn notes(card: &Decoded, slot: usize) -> String {
         notes.push(format!("{} records of {length}", record.size / length));
     }
     if !record.name.is_empty() {
-        let name: String = record.name.iter().map(|byte| format!("{byte:02X}")).collect();
-        notes.push(format!("name {name}"));
+        notes.push(format!("name {}", hex::row(&record.name)));
     }
     if slot == card.current_df {
         notes.push("<- current directory".to_string());
@@ -89,14 +94,4 @@ fn notes(card: &Decoded, slot: usize) -> String {
         notes.push("<- current file".to_string());
     }
     notes.join("  ")
-}
-
-fn kind(record: &Record) -> &'static str {
-    match class(record.descriptor) {
-        Class::Df => "directory",
-        Class::Ef(Structure::Transparent) => "transparent",
-        Class::Ef(Structure::LinearFixed) => "linear fixed",
-        Class::Ef(Structure::Cyclic) => "cyclic",
-        Class::Neither => "unknown",
-    }
 }

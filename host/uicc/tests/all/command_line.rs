@@ -7,8 +7,15 @@ fn help_is_printed() {
     let folder = Folder::new("help");
     for arguments in [&["--help"][..], &["-h"], &["help"], &["run", "--help"]] {
         let out = folder.done(arguments);
-        for verb in ["uicc run SCRIPT", "uicc show IMAGE", "uicc new IMAGE", "Exit status"] {
-            assert!(out.contains(verb), "{arguments:?}");
+        for part in [
+            "uicc run SCRIPT",
+            "uicc show IMAGE",
+            "uicc export IMAGE",
+            "uicc new IMAGE",
+            "Exit status: 0 done",
+            "4 export:",
+        ] {
+            assert!(out.contains(part), "{arguments:?}: {part}");
         }
     }
 }
@@ -31,6 +38,10 @@ fn wrong_command_lines_are_refused() {
         (&["run", "script", "--channels", "100"], "this is not a hex number of 8 bits"),
         (&["run", "script", "--image", "card", "--total", "9"], "--total is for a fresh card"),
         (&["show", "card", "--force"], "--force is no option here"),
+        (&["export"], "name an IMAGE"),
+        (&["export", "card", "other"], "only one"),
+        (&["export", "card", "--slots", "8"], "--slots is no option here"),
+        (&["export", "-"], "an IMAGE is a file"),
         (&["new", "card", "--slots", "1"], "--slots 1: a card has 2 to 1,023 slots"),
         (&["new", "card", "--slots", "18446744073709551615"], "2 to 1,023 slots"),
         (

@@ -141,7 +141,9 @@ fn a_damaged_image_is_refused_and_left_alone() {
         ("long", [&good[..], &[0; 70_000]].concat(), "more than 65488 bytes"),
     ] {
         folder.write(name, &bytes);
-        for arguments in [&["show", name][..], &["run", "script", "--image", name]] {
+        for arguments in
+            [&["show", name][..], &["export", name], &["run", "script", "--image", name]]
+        {
             let err = folder.refused(1, arguments);
             assert!(err.contains(name) && err.contains(told), "{arguments:?}: {err}");
         }

@@ -3,13 +3,17 @@
 
 #![forbid(unsafe_code)]
 
+mod cards;
 mod command_line;
+mod exporting;
 mod folder;
 mod images;
 mod killed;
+mod making_again;
 mod saving;
 mod scripts;
 mod sharing;
+mod templates;
 mod told;
 
 /// Says past the capture of the test harness what was not tested; `./test`

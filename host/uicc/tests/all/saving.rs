@@ -137,6 +137,8 @@ fn a_pipe_is_shown() {
         let ran = folder.shell(line);
         assert!(ran.status == 0 && ran.out.starts_with("64 slots"), "{line}: {}", ran.err);
     }
+    let ran = folder.shell("cat card | $UICC export /dev/stdin");
+    assert!(ran.status == 0 && ran.out.contains("--slots 64"), "{}", ran.err);
     assert_eq!(folder.shell("$UICC show /dev/null").status, 1);
 }
 

@@ -59,9 +59,12 @@ fn who_waits_says_for_whom_and_gets_the_card_then() {
     folder.done(&["new", "card"]);
     folder.write("script", "00040000\n");
     let own = std::process::id();
-    for arguments in
-        [&["run", "script", "--image", "card"][..], &["show", "card"], &["new", "card", "--force"]]
-    {
+    for arguments in [
+        &["run", "script", "--image", "card"][..],
+        &["show", "card"],
+        &["export", "card"],
+        &["new", "card", "--force"],
+    ] {
         let held = hold(&folder, Use::Write);
         let (mut child, said) = waiting(&folder, arguments);
         let told = format!("uicc: card: waiting for process {own} (");
@@ -79,6 +82,7 @@ fn readers_share_and_who_writes_waits_for_them() {
     folder.write("script", "00040000\n");
     let held = hold(&folder, Use::Read);
     assert!(folder.done(&["show", "card"]).starts_with("64 slots"));
+    assert!(folder.done(&["export", "card"]).contains("--slots 64"));
     let (mut child, said) = waiting(&folder, &["run", "script", "--image", "card"]);
     assert!(said.contains("waiting for process"), "{said}");
     drop(held);

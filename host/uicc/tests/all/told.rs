@@ -38,7 +38,12 @@ fn a_lost_output_does_not_hide_that_the_card_was_saved() {
 #[test]
 fn a_lost_output_without_a_saved_card_is_a_failure() {
     let folder = folder("unsaved");
-    for line in ["$UICC show card >/dev/full", "$UICC run script >&-", "$UICC --help >/dev/full"] {
+    for line in [
+        "$UICC show card >/dev/full",
+        "$UICC export card >/dev/full",
+        "$UICC run script >&-",
+        "$UICC --help >/dev/full",
+    ] {
         let ran = folder.shell(line);
         assert_eq!(ran.status, 1, "{line}");
         assert!(ran.err.contains("the output cannot be written"), "{line}: {}", ran.err);
@@ -54,6 +59,7 @@ fn a_full_standard_error_makes_no_panic() {
         ("$UICC run script --image card >/dev/full 2>/dev/full", SAVED_UNTOLD),
         ("$UICC show nothing 2>/dev/full", 1),
         ("$UICC show nothing 2>&-", 1),
+        ("$UICC run script --image card && $UICC export card 2>/dev/full", 0),
         ("$UICC nonsense 2>/dev/full", 2),
         ("$UICC run - 2>/dev/full <&-", 1),
     ] {

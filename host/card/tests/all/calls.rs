@@ -1,27 +1,10 @@
-//! The wrapper: each call reaches the library and tells what it answers, and
-//! no input makes it panic.
+//! Each call reaches the library and tells what it answers, whatever it is
+//! handed.
 
-use card::{image_length, largest_total, lent, Card, Damaged, MakeError, State, Word, OPEN_RULE};
+use card::{image_length, largest_total, lent};
+use card::{Card, CommandError, Damaged, MakeError, State, Word, LONGEST_RESPONSE, OPEN_RULE};
 
-/// CREATE of the DF 7F10 with a total of 256.
-const CREATE_DF: &[u8] = &[
-    0x00, 0xE0, 0x00, 0x00, 0x19, 0x62, 0x17, 0x82, 0x02, 0x78, 0x21, 0x83, 0x02, 0x7F, 0x10, 0x8A,
-    0x01, 0x05, 0x8C, 0x03, 0x06, 0x00, 0x00, 0x81, 0x02, 0x01, 0x00, 0xC6, 0x01, 0x00,
-];
-
-/// CREATE of the EF 6F07 of 9 bytes.
-const CREATE_EF: &[u8] = &[
-    0x00, 0xE0, 0x00, 0x00, 0x15, 0x62, 0x13, 0x82, 0x02, 0x41, 0x21, 0x83, 0x02, 0x6F, 0x07, 0x8A,
-    0x01, 0x05, 0x8C, 0x02, 0x01, 0x00, 0x80, 0x02, 0x00, 0x09,
-];
-
-fn fresh() -> Card {
-    Card::make(8, 448, &OPEN_RULE).expect("a card that the maker grants")
-}
-
-fn run(card: &mut Card, command: &[u8]) -> u16 {
-    card.command(command, &State::FULL).expect("a sound card").0
-}
+use crate::common::{fresh, noise, run, select, CREATE_DF, CREATE_EF};
 
 #[test]
 fn the_whole_case_of_the_scope() {
@@ -31,7 +14,7 @@ fn the_whole_case_of_the_scope() {
     assert_eq!(run(&mut card, CREATE_EF), 0x6A89);
     let report = card.report().expect("a sound card");
     assert_eq!(report, lent::Report { total: 256, room: 256 - 73, children: 1, beneath: 1 });
-    assert_eq!(run(&mut card, &[0x00, 0xA4, 0x00, 0x0C, 0x02, 0x3F, 0x00]), 0x9000);
+    assert_eq!(run(&mut card, &select(0x3F00)), 0x9000);
     let report = card.report().expect("a sound card");
     assert_eq!(report, lent::Report { total: 448, room: 128, children: 1, beneath: 2 });
     assert!(card.is_sound());
@@ -41,7 +24,7 @@ fn the_whole_case_of_the_scope() {
 fn a_refusal_leaves_the_image_and_an_effect_changes_it() {
     let mut card = fresh();
     let before = card.image().to_vec();
-    assert_eq!(run(&mut card, &[0x00, 0xA4, 0x00, 0x0C, 0x02, 0x6F, 0x07]), 0x6A82);
+    assert_eq!(run(&mut card, &select(0x6F07)), 0x6A82);
     assert_eq!(card.image(), before);
     assert_eq!(run(&mut card, CREATE_EF), 0x9000);
     assert_ne!(card.image(), before);
@@ -56,22 +39,23 @@ fn the_state_reaches_the_library_field_by_field() {
         (0x11, State { user: 2, ..State::EMPTY }),
     ] {
         let mut card = Card::make(8, 448, &[0x02, condition]).expect("a well-formed rule");
+        let mut word = |state| card.command(CREATE_EF, &state).map(|reply| reply.word.0);
         let others = State {
             messaging: !state.messaging,
             external: !state.external,
             user: !state.user,
             channels: 0,
         };
-        assert_eq!(card.command(CREATE_EF, &others), Ok(Word(0x6982)), "{condition:02X}");
+        assert_eq!(word(others), Ok(0x6982), "{condition:02X}");
         let crowded = State { channels: 0b0010, ..state };
-        assert_eq!(card.command(CREATE_EF, &crowded), Ok(Word(0x6985)), "{condition:02X}");
+        assert_eq!(word(crowded), Ok(0x6985), "{condition:02X}");
         let basic = State { channels: 0b1111_0001, ..state };
-        assert_eq!(card.command(CREATE_EF, &basic), Ok(Word::DONE), "{condition:02X}");
+        assert_eq!(word(basic), Ok(0x9000), "{condition:02X}");
     }
 }
 
 #[test]
-fn the_maker_refuses_in_its_order_and_says_what_to_do() {
+fn the_maker_refuses_in_its_order_and_every_error_says_what_to_do() {
     let refused = |slots, total, rule: &[u8]| Card::make(slots, total, rule).err();
     assert_eq!(refused(1, 0, &[]), Some(MakeError::Length));
     assert_eq!(refused(1024, 1, &OPEN_RULE), Some(MakeError::Length));
@@ -86,6 +70,14 @@ fn the_maker_refuses_in_its_order_and_says_what_to_do() {
         (MakeError::Total, 3, "64 bytes for each slot but the root"),
         (MakeError::Rule, 4, "1 to 16 bytes"),
         (MakeError::Unknown(9), 9, "build both anew"),
+    ] {
+        assert_eq!(error.answer(), answer);
+        assert!(error.to_string().contains(advice), "{error}");
+    }
+    for (error, answer, advice) in [
+        (CommandError::Damaged, 1, "take an older copy"),
+        (CommandError::ShortResponse, 5, "53 bytes are enough"),
+        (CommandError::Unknown(9), 9, "build both anew"),
     ] {
         assert_eq!(error.answer(), answer);
         assert!(error.to_string().contains(advice), "{error}");
@@ -109,8 +101,10 @@ fn a_damaged_image_is_found_and_given_back() {
     assert!(!lent::is_sound(&image));
     assert_eq!(lent::report(&image), Err(Damaged));
     let before = image.clone();
-    assert_eq!(lent::command(&mut image, CREATE_EF, &State::FULL), Err(Damaged));
-    assert_eq!(image, before);
+    let mut response = [0xA5; LONGEST_RESPONSE];
+    let refused = lent::command(&mut image, CREATE_EF, &mut response, &State::FULL);
+    assert_eq!(refused, Err(CommandError::Damaged));
+    assert_eq!((image, response), (before, [0xA5; LONGEST_RESPONSE]));
 }
 
 #[test]
@@ -140,17 +134,6 @@ fn the_largest_total_is_the_one_that_the_maker_grants() {
     assert_eq!([0, 1, 1024, usize::MAX].map(largest_total), [0; 4]);
 }
 
-/// Bytes without a pattern, the same in every run.
-fn noise(seed: u64) -> impl Iterator<Item = u8> {
-    let mut state = seed.wrapping_mul(0x9E37_79B9_7F4A_7C15) | 1;
-    std::iter::repeat_with(move || {
-        state ^= state << 13;
-        state ^= state >> 7;
-        state ^= state << 17;
-        state.to_be_bytes()[0]
-    })
-}
-
 #[test]
 fn no_bytes_make_a_call_panic() {
     for length in [0, 1, 15, 16, 17, 80, 143, 144, 208, 1040, 65_488, 65_489, 70_000] {
@@ -163,8 +146,10 @@ fn no_bytes_make_a_call_panic() {
             assert!(!lent::is_sound(&image));
             assert!(lent::report(&image).is_err());
             let command: Vec<u8> = noise(seed + 99).take(length % 300).collect();
-            assert!(lent::command(&mut image, &command, &State::FULL).is_err());
-            assert_eq!(image, before);
+            let mut response = vec![0xA5; length % 60];
+            let refused = lent::command(&mut image, &command, &mut response, &State::FULL);
+            assert_eq!(refused, Err(CommandError::Damaged));
+            assert_eq!((image, response), (before, vec![0xA5; length % 60]));
         }
     }
     let mut card = fresh();
@@ -173,8 +158,8 @@ fn no_bytes_make_a_call_panic() {
         if let Some(class) = command.first_mut() {
             *class = 0;
         }
-        let word = card.command(&command, &State::FULL).expect("a card stays sound");
-        assert!(Word::all().any(|known| known == word), "{word}");
+        let reply = card.command(&command, &State::FULL).expect("a card stays sound");
+        assert!(Word::all().any(|known| known == reply.word), "{}", reply.word);
     }
     assert!(card.is_sound());
 }

@@ -1,0 +1,49 @@
+//! A card to try things on, and commands for it.
+
+use card::{Card, State, OPEN_RULE};
+
+/// CREATE of the DF 7F10 with a total of 256.
+pub const CREATE_DF: &[u8] = &[
+    0x00, 0xE0, 0x00, 0x00, 0x19, 0x62, 0x17, 0x82, 0x02, 0x78, 0x21, 0x83, 0x02, 0x7F, 0x10, 0x8A,
+    0x01, 0x05, 0x8C, 0x03, 0x06, 0x00, 0x00, 0x81, 0x02, 0x01, 0x00, 0xC6, 0x01, 0x00,
+];
+
+/// CREATE of the EF 6F07 of 9 bytes.
+pub const CREATE_EF: &[u8] = &[
+    0x00, 0xE0, 0x00, 0x00, 0x15, 0x62, 0x13, 0x82, 0x02, 0x41, 0x21, 0x83, 0x02, 0x6F, 0x07, 0x8A,
+    0x01, 0x05, 0x8C, 0x02, 0x01, 0x00, 0x80, 0x02, 0x00, 0x09,
+];
+
+/// SELECT of a file without its template.
+pub fn select(identifier: u16) -> Vec<u8> {
+    let [high, low] = identifier.to_be_bytes();
+    vec![0x00, 0xA4, 0x00, 0x0C, 0x02, high, low]
+}
+
+/// SELECT of a file with its template.
+pub fn select_told(identifier: u16) -> Vec<u8> {
+    let [high, low] = identifier.to_be_bytes();
+    vec![0x00, 0xA4, 0x00, 0x04, 0x02, high, low, 0x00]
+}
+
+pub fn fresh() -> Card {
+    Card::make(8, 448, &OPEN_RULE).expect("a card that the maker grants")
+}
+
+/// The word of a command that has no data.
+pub fn run(card: &mut Card, command: &[u8]) -> u16 {
+    let reply = card.command(command, &State::FULL).expect("a sound card");
+    assert_eq!(reply.data, [], "{command:02X?}");
+    reply.word.0
+}
+
+/// Bytes without a pattern, the same in every run.
+pub fn noise(seed: u64) -> impl Iterator<Item = u8> {
+    let mut state = seed.wrapping_mul(0x9E37_79B9_7F4A_7C15) | 1;
+    std::iter::repeat_with(move || {
+        state ^= state << 13;
+        state ^= state >> 7;
+        state ^= state << 17;
+        state.to_be_bytes()[0]
+    })
+}

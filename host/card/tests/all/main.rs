@@ -1,0 +1,7 @@
+//! The wrapper: each call reaches the library and tells what it answers, and
+//! no input makes it panic.
+
+mod calls;
+mod common;
+mod numbers;
+mod templates;

@@ -1,0 +1,210 @@
+//! The files of a card as a script that makes them again on a fresh card.
+//!
+//! Nothing is foretold: each command is played on a fresh card in memory before
+//! it is written down, with every condition satisfied, and what that card
+//! refuses is told as lost. A directory must not be deactivated or terminated
+//! while files are made in it, so it comes to that after them.
+
+mod source;
+mod target;
+
+use card::{Card, Word};
+use model::life_cycle::{is_deactivated, is_terminated, ACTIVATED, DEACTIVATED, TERMINATED};
+
+use crate::arguments::Fresh;
+use crate::{describe, hex};
+use source::{Source, ROOT};
+use target::Target;
+
+const DEACTIVATE: u8 = 0x04;
+const TERMINATE_EF: u8 = 0xE8;
+const TERMINATE_DF: u8 = 0xE6;
+const TERMINATE_CARD: u8 = 0xFE;
+
+/// A script, and what of the card it does not make again.
+pub struct Export {
+    pub script: String,
+    pub lost: Vec<String>,
+}
+
+/// What is still to be done.
+enum Work {
+    /// A file is made, and what is in it.
+    Make(usize),
+    /// All files of a directory are made.
+    Finish(usize),
+}
+
+/// The script of a card, which is only read.
+pub fn export(card: &Card) -> Result<Export, String> {
+    let source = Source::new(card)?;
+    let fresh = source.fresh();
+    let target = Target::new(&source, &fresh)?;
+    let mut exporter = Exporter { source: &source, target, lost: Vec::new() };
+    exporter.files()?;
+    exporter.root()?;
+    let head = head(&fresh, exporter.lost.len());
+    Ok(Export { script: head + &exporter.target.into_lines(), lost: exporter.lost })
+}
+
+/// What a reader must know first.
+fn head(fresh: &Fresh, lost: usize) -> String {
+    let Fresh { slots, total, rule } = fresh;
+    let rule = hex::row(rule);
+    let told = match lost {
+        0 => "all of the card is made again.".to_string(),
+        1 => "NOT ALL of the card is made again:\n# one line below begins with LOST.".to_string(),
+        _ => format!("NOT ALL of the card is made again:\n# {lost} lines below begin with LOST."),
+    };
+    format!(
+        "# The files of a card, made again on a fresh one of the same size:\n\
+         #     uicc new NEW.card --slots {slots} --total {total} --rule {rule}\n\
+         #     uicc run THIS.apdu --image NEW.card\n\
+         # Tried on such a card: no command is refused, and {told}\n\
+         # No card keeps the C6 of a directory; C60100 stands for it.\n\n"
+    )
+}
+
+struct Exporter<'a> {
+    source: &'a Source,
+    target: Target<'a>,
+    lost: Vec<String>,
+}
+
+impl Exporter<'_> {
+    /// All files but the root, each directory before what is in it.
+    fn files(&mut self) -> Result<(), String> {
+        let make = |slots: &[usize]| slots.iter().rev().copied().map(Work::Make).collect();
+        let mut left: Vec<Work> = make(self.source.children(ROOT));
+        while let Some(work) = left.pop() {
+            match work {
+                Work::Make(slot) if self.make(slot)? => {
+                    left.push(Work::Finish(slot));
+                    left.extend(make(self.source.children(slot)));
+                }
+                Work::Make(_) => {}
+                Work::Finish(slot) => self.finish(slot)?,
+            }
+        }
+        Ok(())
+    }
+
+    /// Makes a file; tells whether it is there now.
+    fn make(&mut self, slot: usize) -> Result<bool, String> {
+        let data = self.source.template(slot)?;
+        let template = self.source.read(&data)?;
+        let name = self.source.name(slot);
+        self.target.reach(self.source.parent(slot))?;
+        self.target.note(&format!("{name}: {}", template.in_short()));
+        let word = self.target.play(&template.create(self.first_life_cycle(slot)))?;
+        if !word.is_success() {
+            let beneath = match self.source.beneath(slot) {
+                0 => String::new(),
+                1 => ", nor the file beneath it".to_string(),
+                many => format!(", nor the {many} files beneath it"),
+            };
+            let refused = refused("CREATE FILE", word);
+            self.lose(format!("{name} is not made{beneath}: {refused}"));
+            return Ok(false);
+        }
+        self.target.made(slot);
+        Ok(true)
+    }
+
+    /// The life cycle that a file is made with: its own, unless CREATE takes
+    /// no such byte, or the directory would take no files then. The maker gives
+    /// the root no other.
+    fn first_life_cycle(&self, slot: usize) -> u8 {
+        let own = self.source.record(slot).life_cycle;
+        let closed = is_deactivated(own) && !self.source.children(slot).is_empty();
+        if closed || is_terminated(own) || slot == ROOT {
+            ACTIVATED
+        } else {
+            own
+        }
+    }
+
+    /// Brings a file whose files are all made to the life cycle that it had.
+    fn finish(&mut self, slot: usize) -> Result<(), String> {
+        let (own, mut now) = (self.source.record(slot).life_cycle, self.first_life_cycle(slot));
+        if own == now {
+            return Ok(());
+        }
+        let mut why = format!("no command writes {own:02X}");
+        let change = match (self.source.record(slot).is_ef(), slot) {
+            _ if is_deactivated(own) => Some((DEACTIVATE, DEACTIVATED)),
+            _ if !is_terminated(own) => None,
+            (true, _) => Some((TERMINATE_EF, TERMINATED)),
+            (false, ROOT) => Some((TERMINATE_CARD, TERMINATED)),
+            (false, _) => Some((TERMINATE_DF, TERMINATED)),
+        };
+        let name = self.source.name(slot);
+        if let Some((instruction, after)) = change {
+            let command = [0x00, instruction, 0x00, 0x00];
+            let becomes = describe::life_cycle_and_byte(after);
+            self.target.note(&format!("{name} becomes {becomes}"));
+            // TERMINATE CARD USAGE goes by no current file.
+            if instruction != TERMINATE_CARD {
+                self.target.make_current(slot)?;
+            }
+            match self.target.play(&command)? {
+                word if word.is_success() => now = after,
+                word => why = refused(&describe::command(&command), word),
+            }
+        }
+        if own != now {
+            let [own, now] = [own, now].map(describe::life_cycle_and_byte);
+            self.lose(format!("{name} is {now} and not {own}: {why}"));
+        }
+        Ok(())
+    }
+
+    /// The root, which the maker made, and what is current. A terminated card
+    /// serves no command, so that this comes last.
+    fn root(&mut self) -> Result<(), String> {
+        let root = self.source.record(ROOT);
+        let descriptor = root.descriptor;
+        if descriptor != self.target.root_descriptor()? {
+            self.lose(format!(
+                "3F00 has not the descriptor {descriptor:02X}: uicc new gives another"
+            ));
+        }
+        if !root.name.is_empty() {
+            let name = hex::row(&root.name);
+            self.lose(format!("3F00 has not the name {name}: uicc new gives none"));
+        }
+        let terminated = is_terminated(root.life_cycle);
+        if !terminated {
+            self.finish(ROOT)?;
+        }
+        self.current()?;
+        if terminated {
+            self.finish(ROOT)?;
+        }
+        Ok(())
+    }
+
+    /// Makes current what was, if it is there, else the root.
+    fn current(&mut self) -> Result<(), String> {
+        let current = self.source.current();
+        if self.target.is_current(current) {
+            return Ok(());
+        }
+        if self.target.has(current) {
+            self.target.note("what is current in the end");
+            return self.target.make_current(current);
+        }
+        let name = self.source.name(current);
+        self.target.note(&format!("3F00 is current in the end, since {name} is not made"));
+        self.target.make_current(ROOT)
+    }
+
+    fn lose(&mut self, what: String) {
+        self.target.note(&format!("LOST: {what}"));
+        self.lost.push(what);
+    }
+}
+
+fn refused(name: &str, word: Word) -> String {
+    format!("{name} is answered {word}, {}", word.meaning())
+}

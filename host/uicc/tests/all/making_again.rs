@@ -1,0 +1,138 @@
+//! `uicc export`, then the script played on the card that it asks for: the same
+//! files, and what is lost is told.
+
+use cases::case::History;
+use cases::history::history_of;
+use cases::images::sound_card;
+use cases::random::Random;
+use cases::themes::Theme;
+use cases::worst;
+use model::life_cycle::{is_deactivated, is_terminated};
+use model::Card;
+
+use crate::cards::{current, foretold, tree};
+use crate::folder::{Folder, Ran};
+
+const CARDS: u64 = 250;
+const HISTORIES: u64 = 250;
+const NOT_ALL: i32 = 4;
+const EXAMPLE: &str = include_str!("../../examples/first.apdu");
+
+/// Exports the card `old` and plays the script on the fresh card that its own
+/// lines ask for.
+fn again(folder: &Folder) -> (Ran, Card) {
+    let before = folder.read("old");
+    let export = folder.uicc(&["export", "old"]);
+    assert_eq!(folder.read("old"), before, "export only reads");
+    folder.write("THIS.apdu", &export.out);
+    let lines = export.out.lines().filter_map(|line| line.strip_prefix("#     uicc "));
+    let lines: Vec<Vec<&str>> = lines.map(|line| line.split(' ').collect()).collect();
+    assert_eq!(lines.len(), 2, "{}", export.out);
+    folder.done(&[&lines[0][..], &["--force"]].concat());
+    let out = folder.done(&lines[1]);
+    let all = out.lines().count();
+    for line in out.lines().skip(1).take(all - 3) {
+        let word = line.get(28..32).unwrap_or_default();
+        assert!(["9000", "6283", "6285"].contains(&word), "{line}\n{}", export.out);
+    }
+    let new = Card::decode(&folder.read("NEW.card")).expect("a card");
+    (export, new)
+}
+
+/// Compares a card that is made again with what is foretold; gives what is
+/// lost.
+fn compare(folder: &Folder, old: &Card, what: &str) -> usize {
+    folder.write("old", old.encode());
+    let foretold = foretold(old);
+    let (export, new) = again(folder);
+    let lost = foretold.lost;
+    assert_eq!(tree(&new), foretold.tree, "{what}:\n{}", export.out);
+    assert_eq!(current(&new), foretold.current, "{what}:\n{}", export.out);
+    assert_eq!(export.status, if lost > 0 { NOT_ALL } else { 0 }, "{what}");
+    assert_eq!(export.err.lines().count(), lost, "{what}: {}", export.err);
+    let told: Vec<_> =
+        export.out.lines().filter_map(|line| line.strip_prefix("# LOST: ")).collect();
+    let also: Vec<_> =
+        export.err.lines().filter_map(|line| line.strip_prefix("uicc: old: ")).collect();
+    assert_eq!(told, also, "{what}");
+    if lost == 0 {
+        assert_eq!((tree(&new), current(&new)), (tree(old), current(old)), "{what}");
+        let once_more = folder.done(&["export", "NEW.card"]);
+        assert_eq!(once_more, export.out, "{what}: the new card has the same script");
+    }
+    lost
+}
+
+#[test]
+fn the_examples_card_is_made_again_byte_by_byte() {
+    let folder = Folder::new("again-example");
+    folder.write("first.apdu", EXAMPLE);
+    folder.done(&["new", "old", "--slots", "8", "--total", "448"]);
+    folder.done(&["run", "first.apdu", "--image", "old"]);
+    let (export, _) = again(&folder);
+    assert_eq!((export.status, export.err.as_str()), (0, ""));
+    assert_eq!(folder.read("NEW.card"), folder.read("old"));
+}
+
+/// The card that a history leaves.
+fn played(history: &History) -> Card {
+    let History { slots, total, rule, .. } = history;
+    let mut card = card::Card::make(*slots, *total, rule).expect("a card");
+    for step in &history.steps {
+        let model::State { messaging, external, user, channels } = step.state;
+        let state = card::State { messaging, external, user, channels };
+        card.command(&step.command, &state).expect("a sound card");
+    }
+    Card::decode(card.image()).expect("a card")
+}
+
+/// What commands made of a fresh card, commands make again as a whole: rules
+/// never change, so what was allowed once is allowed again.
+#[test]
+fn nothing_is_lost_of_what_commands_made() {
+    let folder = Folder::new("again-histories");
+    let (mut files, mut closed) = (0, 0);
+    for number in 0..HISTORIES {
+        let mut random = Random::for_case(3, number);
+        let theme = random.pick(Theme::ALL);
+        let old = played(&history_of(&mut random, theme, 24, 60));
+        assert_eq!(compare(&folder, &old, &format!("history {number}")), 0, "history {number}");
+        files += old.used_slots().count() - 1;
+        let is_closed = |slot: &usize| {
+            let life_cycle = old.record(*slot).life_cycle;
+            is_deactivated(life_cycle) || is_terminated(life_cycle)
+        };
+        let has_files = |slot: &usize| old.children(*slot).next().is_some();
+        closed += old.used_slots().filter(is_closed).filter(has_files).count();
+    }
+    assert!(files > 600, "{files} files");
+    assert!(closed > 30, "{closed} directories with files were deactivated or terminated");
+}
+
+/// Cards at random: any tree, life cycles, names and rules, also such as no
+/// commands could have made.
+#[test]
+fn cards_at_random_are_made_again_as_foretold() {
+    let folder = Folder::new("again-random");
+    let mut whole = 0;
+    for number in 0..CARDS {
+        let old = sound_card(&mut Random::for_case(2, number));
+        let lost = compare(&folder, &old, &format!("card {number}"));
+        whole += u64::from(lost == 0 && old.used_slots().count() > 1);
+    }
+    assert!(whole > CARDS / 20, "{whole} cards with files were made again as a whole");
+    assert!(whole < CARDS, "nothing was lost");
+}
+
+/// Cards that are as full and as named as they can be, and the deepest card.
+#[test]
+fn the_fullest_and_the_deepest_cards_are_made_again() {
+    let folder = Folder::new("again-fullest");
+    let mut cards = worst::cards_of(200);
+    cards.extend(worst::cards().into_iter().find(|worst| worst.title.contains("deepest")));
+    assert_eq!(cards.len(), 5);
+    for worst in cards {
+        let old = Card::decode(&worst.image).expect("a card");
+        assert_eq!(compare(&folder, &old, worst.title), 0, "{}", worst.title);
+    }
+}
