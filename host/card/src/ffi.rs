@@ -17,10 +17,13 @@ extern "C" {
         image_len: usize,
         command: *const u8,
         command_len: usize,
+        response: *mut u8,
+        response_len: usize,
         messaging: u16,
         external: u16,
         user: u16,
         channels: u8,
+        numbers: *mut u32,
     ) -> c_uint;
     fn hull_report(image: *const u8, image_len: usize, numbers: *mut u32) -> c_uint;
     fn hull_sound(image: *const u8, image_len: usize) -> c_uint;
@@ -35,23 +38,37 @@ pub fn make(image: &mut [u8], total: u32, rule: &[u8]) -> u32 {
     unsafe { hull_make(image.as_mut_ptr(), image.len(), total, rule.as_ptr(), rule.len()) }
 }
 
-/// The answer in the high half, the word in the low half.
-pub fn command(image: &mut [u8], command: &[u8], sets: [u16; 3], channels: u8) -> u32 {
+/// The answer in the high half, the word in the low half; and how many bytes of
+/// data were written, with two numbers for later. They start as no command
+/// could leave them, to show that each is written.
+pub fn command(
+    image: &mut [u8],
+    command: &[u8],
+    response: &mut [u8],
+    sets: [u16; 3],
+    channels: u8,
+) -> (u32, [u32; 3]) {
     let [messaging, external, user] = sets;
-    // SAFETY: as for `make`: live slices with their own lengths, the image
-    // borrowed for this call alone, no pointer kept.
-    unsafe {
+    let mut numbers = [u32::MAX; 3];
+    // SAFETY: as for `make`: live slices with their own lengths, image and
+    // response borrowed for this call alone, no pointer kept; the library
+    // writes three numbers, and `numbers` has room for three.
+    let both = unsafe {
         hull_command(
             image.as_mut_ptr(),
             image.len(),
             command.as_ptr(),
             command.len(),
+            response.as_mut_ptr(),
+            response.len(),
             messaging,
             external,
             user,
             channels,
+            numbers.as_mut_ptr(),
         )
-    }
+    };
+    (both, numbers)
 }
 
 /// The answer; total, room, children and files beneath, all 0 with answer 1.

@@ -34,7 +34,7 @@ pub fn make(image: &mut [u8], total: u32, root_rule: &[u8]) -> Result<(), MakeEr
 /// refusal, and on a damaged image, the buffer is as it came.
 pub fn command(image: &mut [u8], command: &[u8], state: &State) -> Result<Word, Damaged> {
     let sets = [state.messaging, state.external, state.user];
-    let both = ffi::command(image, command, sets, state.channels);
+    let (both, _) = ffi::command(image, command, &mut [], sets, state.channels);
     let [answer_high, answer_low, word_high, word_low] = both.to_be_bytes();
     match (answer_high, answer_low) {
         (0, 0) => Ok(Word(u16::from_be_bytes([word_high, word_low]))),
