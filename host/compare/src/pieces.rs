@@ -19,14 +19,15 @@ pub fn weight(line: &Line) -> (usize, usize, usize) {
     let bytes = bytes_of(line);
     let plain = |at: usize| u8::from(at == 9 || at == 10) * 0xFF;
     let marked = image.iter().enumerate().filter(|&(at, &byte)| byte != plain(at)).count();
-    let marked = marked + bytes.iter().filter(|&&byte| byte != 0).count();
+    let response = response_of(line);
+    let marked = marked + bytes.iter().chain(response).filter(|&&byte| byte != 0).count();
     let state = match line {
         Line::Command { state, .. } if *state == State::FULL => 0,
         Line::Command { state, .. } if *state == State::EMPTY => 1,
         Line::Command { state, .. } if state.channels == 0 => 2,
         _ => 3,
     };
-    (image.len() + bytes.len(), marked, state)
+    (image.len() + bytes.len() + response.len(), marked, state)
 }
 
 /// A piece of a line that may be left out or made plain.
@@ -50,6 +51,10 @@ pub enum Piece {
     Remove(usize, usize),
     /// One byte of them zero.
     Byte(usize),
+    /// A response buffer of so many bytes.
+    Response(usize),
+    /// One byte of it zero.
+    ResponseByte(usize),
     /// Another state.
     State(State),
 }
@@ -71,6 +76,10 @@ pub fn pieces_of(line: &Line) -> Vec<Piece> {
         all.extend((0..bytes).rev().step_by(width).map(|at| Piece::Remove(at, width)));
     }
     all.extend((0..bytes).map(Piece::Byte));
+    let response = response_of(line).len();
+    all.push(Piece::Response(0));
+    all.extend(halves(response).map(|fewer| Piece::Response(response - fewer)));
+    all.extend((0..response).map(Piece::ResponseByte));
     let marked = image.iter().enumerate().filter(|(_, &byte)| byte != 0);
     all.extend(marked.map(|(at, _)| Piece::ImageByte(at)));
     all
@@ -88,6 +97,10 @@ impl Piece {
             Piece::Tighten(room) => with_image(line, tightened(image_of(line)?, room)?),
             Piece::ImageByte(at) => with_image(line, zeroed(image_of(line)?, at)?),
             Piece::Byte(at) => Some(with_bytes(line, zeroed(bytes_of(line), at)?)),
+            Piece::Response(length) => {
+                with_response(line, response_of(line).get(..length)?.to_vec())
+            }
+            Piece::ResponseByte(at) => with_response(line, zeroed(response_of(line), at)?),
             Piece::Remove(at, count) => {
                 let mut bytes = bytes_of(line).to_vec();
                 let end = bytes.len().min(at.saturating_add(count));
@@ -127,6 +140,14 @@ fn bytes_of(line: &Line) -> &[u8] {
     }
 }
 
+/// The response buffer of a command.
+fn response_of(line: &Line) -> &[u8] {
+    match line {
+        Line::Command { response, .. } => response,
+        _ => &[],
+    }
+}
+
 fn with_image(line: &Line, new: Vec<u8>) -> Option<Line> {
     let mut line = line.clone();
     match &mut line {
@@ -146,6 +167,15 @@ fn with_bytes(line: &Line, new: Vec<u8>) -> Line {
         _ => {}
     }
     line
+}
+
+fn with_response(line: &Line, new: Vec<u8>) -> Option<Line> {
+    let mut line = line.clone();
+    match &mut line {
+        Line::Command { response, .. } => *response = new,
+        _ => return None,
+    }
+    Some(line)
 }
 
 fn with_state(line: &Line, new: State) -> Option<Line> {
