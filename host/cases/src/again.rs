@@ -22,11 +22,10 @@ use crate::target::Target;
 use crate::template::create_command;
 use crate::{life_cycles, rules};
 
-/// Most files of a card that are made again one by one, so that large cards
-/// take no longer than many small ones.
-const MOST_FILES: usize = 24;
-const MOST_FILES_OF_A_LARGE_CARD: usize = 4;
+/// A card of more slots is large, and only so many of its files are made again
+/// one by one, so that it takes no longer than many small ones.
 const LARGE_CARD: usize = 160;
+const MOST_FILES_OF_A_LARGE_CARD: usize = 12;
 /// Long enough for every template.
 const RESPONSE: [u8; 64] = [0x5A; 64];
 
@@ -77,8 +76,8 @@ pub struct Played {
     pub remade: Vec<Remade>,
     /// Those that are terminated, or stand on a terminated card.
     pub terminated: usize,
-    /// Those passed over, because there are many, or because the tree is none
-    /// that can be made again as a whole.
+    /// Those passed over, because a large card has many, or because the tree is
+    /// none that can be made again as a whole.
     pub passed: usize,
 }
 
@@ -158,9 +157,8 @@ impl Again {
         let (out, mut chosen): (Vec<_>, Vec<_>) = files.partition(terminated);
         let mut random = Random::new(self.seed);
         let large = card.records.len() > LARGE_CARD;
-        let most = if large { MOST_FILES_OF_A_LARGE_CARD } else { MOST_FILES };
         let mut played = Played { terminated: out.len(), ..Played::default() };
-        while chosen.len() > most {
+        while large && chosen.len() > MOST_FILES_OF_A_LARGE_CARD {
             chosen.swap_remove(random.below(chosen.len()));
             played.passed += 1;
         }

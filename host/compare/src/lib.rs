@@ -13,7 +13,7 @@
 //! | a case, line by line, with the ledger | [`check`] |
 //! | how much was compared, what disagrees | [`tally`], [`disagreement`] |
 //! | what demand 1 says of a command | [`demand1`] |
-//! | demand 3's ledger and what it says of a command, as the theorem has them | [`ledger`], [`demand3`] |
+//! | demand 3's ledger, and what is said of a command with it | [`ledger`], [`demand3`] |
 //! | files made again by their templates | [`again`] |
 //! | the seven decisions of a rule, as commands | [`rights`] |
 //! | making a case smaller | [`shrink`], [`pieces`], [`smaller`] |

@@ -5,6 +5,7 @@ use crate::impostor::{found, found_line, respelled, with_value, Impostor, Spoil,
 use cases::Kind;
 use compare::{Disagreement, Pair};
 use model::lines::Case as Line;
+use model::vectors::case_lines;
 
 /// Wrong templates, each of which a CREATE refuses or makes another file of.
 const TEMPLATES: [(&str, Spoil); 8] = [
@@ -66,20 +67,29 @@ fn every_wrong_template_is_found() {
 }
 
 /// Held against itself, a card with a wrong template is found because a file
-/// is not made again by it, one by one and in whole trees.
+/// is not made again by it, one by one and in whole trees. What is told of it
+/// can be read again.
 #[test]
 fn a_template_that_makes_no_such_file_is_found() {
     for kind in [Kind::FilesAgain, Kind::TreeAgain] {
         for (title, command) in TEMPLATES {
             let wrong = Impostor { command, ..HONEST };
-            let pair = Pair { card: &wrong, model: &wrong };
-            let Some(Disagreement::Again { lines, again, complaint }) = found(pair, Some(kind))
-            else {
-                panic!("{title} is not found by {kind:?}");
+            let found = found(Pair { card: &wrong, model: &wrong }, Some(kind));
+            let found = found.unwrap_or_else(|| panic!("{title} is not found by {kind:?}"));
+            let told: Vec<_> = case_lines(&found.to_string()).map(Line::parse).collect();
+            let Disagreement::Again { lines, again, complaint } = found else {
+                panic!("{title}: found otherwise: {found}");
             };
-            assert!(again.image.len() <= 16 + 64 * 8, "{title}: {complaint}: {lines:02X?}");
-            assert!(lines.len() < 20, "{title}: {complaint}: {} lines", lines.len());
+            assert_eq!(told, lines.into_iter().map(Some).collect::<Vec<_>>(), "{title}");
+            assert!(told.len() < 20, "{title}: {complaint}: {} lines", told.len());
+            assert!(again.image.len() <= 16 + 64 * 8, "{title}: {complaint}");
         }
+    }
+}
+
+#[test]
+fn right_templates_make_every_file_again() {
+    for kind in [Kind::FilesAgain, Kind::TreeAgain] {
         assert_eq!(found(Pair { card: &HONEST, model: &HONEST }, Some(kind)), None);
     }
 }
