@@ -88,13 +88,13 @@ impl Remade {
         let (parent, level) = self.directory;
         let mut wanted = self.old.clone();
         if let Some(place) = wanted.get_mut(6..10) {
-            place[..2].copy_from_slice(&parent.to_be_bytes());
-            place[2..].copy_from_slice(&level.wrapping_add(1).to_be_bytes());
+            let [parent, level] = [parent, level.wrapping_add(1)].map(u16::to_be_bytes);
+            place.copy_from_slice(&[parent, level].concat());
         }
         if self.word != SUCCESS {
             return Some(format!("CREATE by the template gives {:04X}", self.word));
         }
-        let differs = wanted.iter().zip(&self.new).position(|(old, new)| old != new);
+        let differs = (0..RECORD_BYTES).find(|&at| wanted.get(at) != self.new.get(at));
         differs.map(|at| format!("byte {at} of the record made again is another"))
     }
 }

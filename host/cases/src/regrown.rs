@@ -12,10 +12,11 @@ use crate::target::Target;
 /// each directory that holds files takes files. Of the root that is not asked:
 /// the other card has its own.
 pub(crate) fn play<E>(again: &Again, card: &Card, call: Call<E>) -> Result<Played, E> {
-    let terminated = card.used_slots().filter(|&slot| card.is_terminated(slot)).count();
-    let mut directories = card.used_slots().filter(|&slot| slot != 0 && has_files(card, slot));
-    if terminated > 0 || !directories.all(|df| takes_files(card, df)) {
-        let passed = card.used_slots().count() - 1 - terminated;
+    let (terminated, passed): (Vec<_>, Vec<_>) =
+        card.used_slots().filter(|&slot| slot != 0).partition(|&slot| card.is_terminated(slot));
+    let can_be = |&slot: &usize| card.children(slot).next().is_none() || takes_files(card, slot);
+    if card.is_terminated(0) || !terminated.is_empty() || !passed.iter().all(can_be) {
+        let (terminated, passed) = (terminated.len(), passed.len());
         return Ok(Played { remade: Vec::new(), terminated, passed });
     }
     let target = Target::of_measures(card.records.len(), card.record(0).size);
@@ -30,10 +31,6 @@ pub(crate) fn play<E>(again: &Again, card: &Card, call: Call<E>) -> Result<Playe
     tree.own.command(call, &select(0x3F00))?;
     tree.below(call, (0, 0))?;
     Ok(Played { remade: tree.after(), ..Played::default() })
-}
-
-fn has_files(card: &Card, df: usize) -> bool {
-    card.children(df).next().is_some()
 }
 
 /// A tree being made again.

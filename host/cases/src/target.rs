@@ -45,7 +45,7 @@ impl Target {
         }
     }
 
-    /// A card that has the file's own measures, with nothing in it yet.
+    /// A card of these measures, and no directory.
     pub fn of_measures(slots: usize, total: u32) -> Target {
         Target { slots, total, directories: Vec::new(), state: State::FULL }
     }

@@ -14,21 +14,20 @@ const ANSWERS: [u32; 3] = [0, 1, 5];
 pub fn complaint(line: &Line, given: &Outcome) -> Option<String> {
     let Line::Command { image: came, response: lent, .. } = line else { return None };
     let Outcome::Command { told, image, response, .. } = given else { return None };
-    let [data, others @ ..] = told.numbers;
-    let written = usize::try_from(data).ok().filter(|&data| data <= lent.len());
-    let Some((data_is, rest)) = written.map(|data| (data, lent.get(data..))) else {
+    let [data, later @ ..] = told.numbers;
+    let data = usize::try_from(data).unwrap_or(usize::MAX);
+    if data > lent.len() {
         return Some(format!("{data} bytes of data in a buffer of {}", lent.len()));
-    };
+    }
     let effect = told.answer == 0 && is_success(told.word);
     let checks = [
         (ANSWERS.contains(&told.answer), "no answer of a command"),
         ((told.answer == 0) == (told.word != 0), "a word exactly with answer 0"),
-        (others == [0; 2], "numbers of later tickets"),
+        (later == [0; 2], "numbers of later tickets"),
         (effect || image == came, "the image is left"),
         (effect || response == lent, "the response buffer is left"),
-        (effect || data_is == 0, "data come with an effect alone"),
-        (response.get(data_is..) == rest, "bytes past the data stay"),
-        (image.len() == came.len(), "the image keeps its length"),
+        (effect || data == 0, "data come with an effect alone"),
+        (response.get(data..) == lent.get(data..), "bytes past the data stay"),
     ];
     checks.into_iter().find(|(holds, _)| !holds).map(|(_, what)| what.to_string())
 }

@@ -6,6 +6,8 @@ use std::convert::Infallible;
 
 use crate::common::say;
 use cases::again::{by_model, Played};
+use cases::damage::{damaged, Field};
+use cases::images::sound_card_of;
 use cases::{Again, Case, Generator, Kind, Random};
 use model::lines::Case as Line;
 use model::words::SUCCESS;
@@ -16,10 +18,14 @@ const SEED: u64 = 1204;
 fn played(kind: Kind, cases: usize) -> impl Iterator<Item = (Again, Played)> {
     Generator::only(SEED, kind).take(cases).map(|made| {
         let Case::Again(again) = made.case else { panic!("not made again: {:?}", made.kind) };
-        let played = again.play::<Infallible>(&mut |line| Ok(by_model(line)));
-        let played = played.unwrap_or_else(|never| match never {});
+        let played = play(&again);
         (again, played)
     })
+}
+
+fn play(again: &Again) -> Played {
+    let played = again.play::<Infallible>(&mut |line| Ok(by_model(line)));
+    played.unwrap_or_else(|never| match never {})
 }
 
 /// What a record is, by its bytes; the largest file is of 65,344 bytes.
@@ -108,6 +114,28 @@ fn all_calls_of_the_model_succeed_or_warn() {
     }
 }
 
+/// Any image can be given, mended for it or not: each file but the root is made
+/// again or counted as left out.
+#[test]
+fn every_file_is_counted() {
+    let mut random = Random::new(SEED);
+    let (mut whole_trees, mut none) = (0, 0);
+    for number in 0..600 {
+        let (slots, whole) = (random.range(2, 12) as usize, number % 2 == 0);
+        let card = sound_card_of(&mut random, slots);
+        let again = Again { image: card.encode(), seed: number, whole };
+        let played = play(&again);
+        let left_out = played.terminated + played.passed;
+        assert_eq!(played.remade.len() + left_out, card.used_slots().count() - 1, "{again:02X?}");
+        assert!(!whole || left_out == 0 || played.remade.is_empty(), "all of a tree or none");
+        whole_trees += usize::from(whole && played.remade.len() > 1);
+        none += usize::from(whole && left_out > 0);
+        let image = damaged(&mut random, &card, Field::Mark);
+        assert_eq!(play(&Again { image, ..again }), Played::default(), "not sound");
+    }
+    assert!(whole_trees > 20 && none > 50, "{whole_trees} whole trees, {none} left out");
+}
+
 /// What is made wrongly is complained of: a byte of the record, another word.
 #[test]
 fn wrong_files_are_complained_of() {
@@ -121,6 +149,8 @@ fn wrong_files_are_complained_of() {
             let told = wrong.complaint().expect("a byte is wrong");
             assert!(told.starts_with(&format!("byte {at} ")), "{told}");
         }
+        let missing = cases::again::Remade { new: Vec::new(), ..file.clone() };
+        assert!(missing.complaint().is_some(), "no record at all");
         let wrong = cases::again::Remade { word: 0x6A80, ..file.clone() };
         assert!(wrong.complaint().is_some_and(|told| told.contains("6A80")));
         assert_eq!(file.word, SUCCESS);

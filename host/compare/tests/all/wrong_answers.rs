@@ -135,7 +135,7 @@ fn every_wrong_answer_is_found() {
 /// Held against themselves: what demand 1 says of any answer finds these.
 #[test]
 fn demand_1_finds_what_both_sides_do_wrong() {
-    let broken: [(&str, Spoil); 6] = [
+    let broken: [(&str, Spoil); 8] = [
         ("the image is left", |_, left, told| {
             if let (0x6A82, Some(byte)) = (told.word, left.image.last_mut()) {
                 *byte ^= 1;
@@ -160,6 +160,14 @@ fn demand_1_finds_what_both_sides_do_wrong() {
         }),
         ("no answer of a command", |_, _, told| match told.answer {
             5 => Told { answer: 4, ..told },
+            _ => told,
+        }),
+        ("numbers of later tickets", |_, _, told| match told.word {
+            0x6982 => Told { numbers: [0, 0, 1], ..told },
+            _ => told,
+        }),
+        ("data come with an effect alone", |came, _, told| match told.word {
+            0x6A82 if !came.response.is_empty() => Told { numbers: [1, 0, 0], ..told },
             _ => told,
         }),
         ("bytes of data in a buffer of", |_, left, told| match told.word {
