@@ -58,10 +58,11 @@ const TEMPLATES: [(&str, Spoil); 8] = [
 fn every_wrong_template_is_found() {
     for (title, command) in TEMPLATES {
         let line = found_line(title, &Impostor { command, ..HONEST }, None);
-        let Line::Command { response, image, .. } = &line else {
-            panic!("{title}: {}", line.line());
+        let small = match &line {
+            Line::Command { response, image, .. } => image.len() <= 272 && response.len() <= 56,
+            Line::Replay { input } => input.len() < 40,
+            _ => false,
         };
-        let small = image.len() <= 16 + 64 * 4 && response.len() <= 56;
         assert!(small, "{title}: {}", line.line());
     }
 }
