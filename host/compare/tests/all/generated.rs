@@ -37,12 +37,11 @@ fn tally_of(told: &str) -> Tally {
     let number = |part: &str| part.parse().ok();
     let numbers: Vec<u64> =
         counts.split(|c: char| !c.is_ascii_digit()).filter_map(number).collect();
-    let [cases, commands, effects, ledger_steps, templates, rest @ ..] = &numbers[..] else {
+    let &[cases, commands, effects, ledger_steps, templates, made_again, makes, reports, replays] =
+        numbers.as_slice()
+    else {
         panic!("not a tally: {counts}");
     };
-    let &[made_again, makes, reports, replays] = rest else { panic!("not a tally: {counts}") };
-    let (cases, commands, effects) = (*cases, *commands, *effects);
-    let (ledger_steps, templates) = (*ledger_steps, *templates);
     Tally { cases, makes, commands, effects, reports, replays, ledger_steps, templates, made_again }
 }
 

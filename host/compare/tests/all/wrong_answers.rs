@@ -133,50 +133,52 @@ fn every_wrong_answer_is_found() {
     }
 }
 
+/// What demand 1 forbids, each with what is complained of.
+const BROKEN: [(&str, Spoil); 8] = [
+    ("the image is left", |_, left, told| {
+        if let (0x6A82, Some(byte)) = (told.word, left.image.last_mut()) {
+            *byte ^= 1;
+        }
+        told
+    }),
+    ("the response buffer is left", |_, left, told| {
+        if let (0x6A82, Some(byte)) = (told.word, left.response.last_mut()) {
+            *byte ^= 1;
+        }
+        told
+    }),
+    ("bytes past the data stay", |_, left, told| {
+        if let (0x9000, Some(byte)) = (told.word, left.response.get_mut(60)) {
+            *byte ^= 1;
+        }
+        told
+    }),
+    ("a word exactly with answer 0", |_, _, told| match told.answer {
+        5 => Told { word: 0x9000, ..told },
+        _ => told,
+    }),
+    ("no answer of a command", |_, _, told| match told.answer {
+        5 => Told { answer: 4, ..told },
+        _ => told,
+    }),
+    ("numbers of later tickets", |_, _, told| match told.word {
+        0x6982 => Told { numbers: [0, 0, 1], ..told },
+        _ => told,
+    }),
+    ("data come with an effect alone", |came, _, told| match told.word {
+        0x6A82 if !came.response.is_empty() => Told { numbers: [1, 0, 0], ..told },
+        _ => told,
+    }),
+    ("bytes of data in a buffer of", |_, left, told| match told.word {
+        0x9000 => Told { numbers: [left.response.len() as u32 + 1, 0, 0], ..told },
+        _ => told,
+    }),
+];
+
 /// Held against themselves: what demand 1 says of any answer finds these.
 #[test]
 fn demand_1_finds_what_both_sides_do_wrong() {
-    let broken: [(&str, Spoil); 8] = [
-        ("the image is left", |_, left, told| {
-            if let (0x6A82, Some(byte)) = (told.word, left.image.last_mut()) {
-                *byte ^= 1;
-            }
-            told
-        }),
-        ("the response buffer is left", |_, left, told| {
-            if let (0x6A82, Some(byte)) = (told.word, left.response.last_mut()) {
-                *byte ^= 1;
-            }
-            told
-        }),
-        ("bytes past the data stay", |_, left, told| {
-            if let (0x9000, Some(byte)) = (told.word, left.response.get_mut(60)) {
-                *byte ^= 1;
-            }
-            told
-        }),
-        ("a word exactly with answer 0", |_, _, told| match told.answer {
-            5 => Told { word: 0x9000, ..told },
-            _ => told,
-        }),
-        ("no answer of a command", |_, _, told| match told.answer {
-            5 => Told { answer: 4, ..told },
-            _ => told,
-        }),
-        ("numbers of later tickets", |_, _, told| match told.word {
-            0x6982 => Told { numbers: [0, 0, 1], ..told },
-            _ => told,
-        }),
-        ("data come with an effect alone", |came, _, told| match told.word {
-            0x6A82 if !came.response.is_empty() => Told { numbers: [1, 0, 0], ..told },
-            _ => told,
-        }),
-        ("bytes of data in a buffer of", |_, left, told| match told.word {
-            0x9000 => Told { numbers: [left.response.len() as u32 + 1, 0, 0], ..told },
-            _ => told,
-        }),
-    ];
-    for (expected, command) in broken {
+    for (expected, command) in BROKEN {
         let wrong = Impostor { command, ..HONEST };
         let pair = Pair { card: &wrong, model: &wrong };
         let Some(Disagreement::Demand1 { complaint, .. }) = found(pair, Some(Kind::SoundCommand))
