@@ -112,10 +112,10 @@ pub fn command_for(
         Action::DeleteChild => Some(delete(a_child(random, card)?)),
         Action::DeleteCurrentEf => Some(delete(card.record(card.current_ef?).identifier)),
         Action::DeleteOther => Some(delete(some_identifier(random, card))),
-        Action::SelectChild => Some(select(a_child(random, card)?)),
-        Action::SelectUp => Some(select(upwards(random, card))),
-        Action::SelectBeside => Some(select(beside(random, card)?)),
-        Action::SelectAny => Some(select(some_identifier(random, card))),
+        Action::SelectChild | Action::SelectUp | Action::SelectBeside | Action::SelectAny => {
+            let identifier = selected(action, random, card)?;
+            Some(select_by(random, identifier))
+        }
         Action::Activate => Some(bare(0x44)),
         Action::Deactivate => Some(bare(0x04)),
         Action::TerminateEf => Some(bare(0xE8)),
@@ -127,9 +127,35 @@ pub fn command_for(
     }
 }
 
-/// SELECT by identifier.
+/// What an action selects.
+fn selected(action: Action, random: &mut Random, card: &Card) -> Option<u16> {
+    match action {
+        Action::SelectChild => a_child(random, card),
+        Action::SelectUp => Some(upwards(random, card)),
+        Action::SelectBeside => beside(random, card),
+        _ => Some(some_identifier(random, card)),
+    }
+}
+
+/// SELECT by identifier that wants no data.
 pub fn select(identifier: u16) -> Vec<u8> {
     with_identifier([0x00, 0xA4, 0x00, 0x0C], identifier)
+}
+
+/// SELECT by identifier that wants the file's template (02, Ticket 2).
+pub fn select_fcp(identifier: u16) -> Vec<u8> {
+    let mut command = with_identifier([0x00, 0xA4, 0x00, 0x04], identifier);
+    command.push(0x00);
+    command
+}
+
+/// SELECT by identifier, with or without data.
+pub fn select_by(random: &mut Random, identifier: u16) -> Vec<u8> {
+    if random.chance(50) {
+        select_fcp(identifier)
+    } else {
+        select(identifier)
+    }
 }
 
 /// DELETE FILE.

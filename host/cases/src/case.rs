@@ -3,13 +3,17 @@
 use model::lines::Case as Line;
 use model::{command, make, Outcome, State};
 
+use crate::again::Again;
 use crate::template::create_command;
 
-/// One command of a history with the caller's state.
+/// One command of a history with the lent response buffer and the caller's
+/// state.
 #[derive(Clone, PartialEq, Eq, Debug)]
 pub struct Step {
     /// The command.
     pub command: Vec<u8>,
+    /// The response buffer.
+    pub response: Vec<u8>,
     /// The state given with it.
     pub state: State,
 }
@@ -47,7 +51,8 @@ impl History {
         let mut image = self.fresh_image();
         for step in &self.steps {
             let before = image.clone();
-            let outcome = command(&mut image, &step.command, &step.state);
+            let mut response = step.response.clone();
+            let outcome = command(&mut image, &step.command, &mut response, &step.state);
             see(&before, step, outcome, &image);
         }
     }
@@ -64,6 +69,8 @@ pub enum Case {
         image: Vec<u8>,
         /// The command.
         command: Vec<u8>,
+        /// The lent response buffer.
+        response: Vec<u8>,
         /// The state given with it.
         state: State,
     },
@@ -99,10 +106,15 @@ pub enum Case {
         /// The state.
         state: State,
     },
+    /// Files made again on another card by their templates.
+    Again(Again),
 }
 
 /// The card on which the line of a template is run.
 pub const TEMPLATE_CARD: (usize, u32) = (24, 64 * 23);
+
+/// The response buffer that is lent there, and that CREATE leaves.
+const TEMPLATE_BUFFER: [u8; 4] = [0x5A; 4];
 
 impl Case {
     /// The case as lines of the vectors: a history is the maker's line and
@@ -110,8 +122,8 @@ impl Case {
     pub fn lines(&self) -> Vec<Line> {
         match self {
             Case::History(history) => history_lines(history),
-            Case::OneCommand { image, command, state } => {
-                vec![Line::command(image, command, *state)]
+            Case::OneCommand { image, command, response, state } => {
+                vec![Line::command(image, command, response, *state)]
             }
             Case::Report { image } => vec![Line::Report { image: image.clone() }],
             Case::Make { buffer, total, rule } => {
@@ -120,6 +132,7 @@ impl Case {
             Case::Replay { input } => vec![Line::Replay { input: input.clone() }],
             Case::Template { data } => vec![template_line(data)],
             Case::Rule { rule, state } => rule_lines(rule, *state),
+            Case::Again(again) => again.lines(),
         }
     }
 }
@@ -131,7 +144,7 @@ fn history_lines(history: &History) -> Vec<Line> {
         rule: history.rule.clone(),
     }];
     history.play(|before, step, _, _| {
-        lines.push(Line::command(before, &step.command, step.state));
+        lines.push(Line::command(before, &step.command, &step.response, step.state));
     });
     lines
 }
@@ -140,7 +153,7 @@ fn template_line(data: &[u8]) -> Line {
     let (slots, total) = TEMPLATE_CARD;
     let rule = crate::rules::open();
     let card = History { slots, total, rule, steps: Vec::new() };
-    Line::command(&card.fresh_image(), &create_command(data), State::FULL)
+    Line::command(&card.fresh_image(), &create_command(data), &TEMPLATE_BUFFER, State::FULL)
 }
 
 fn rule_lines(rule: &[u8], state: State) -> Vec<Line> {

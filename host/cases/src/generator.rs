@@ -1,12 +1,13 @@
 //! The kinds of cases, their mix, and the endless row of cases of a seed.
 
-use model::Card;
+use model::{Card, State};
 
+use crate::again::Again;
 use crate::case::Case;
 use crate::damage::{damaged, Field};
 use crate::history::{fitting_command, history};
 use crate::random::Random;
-use crate::{breach, images, makers, raw, rules, states, streams, worst};
+use crate::{breach, images, makers, raw, responses, rules, states, streams, worst};
 
 /// What a case is made for.
 #[derive(Clone, Copy, PartialEq, Eq, PartialOrd, Ord, Debug)]
@@ -35,11 +36,15 @@ pub enum Kind {
     Rule,
     /// A fitting command or a report on a worst-case card.
     Worst,
+    /// The files of a sound image, each made again by its template.
+    FilesAgain,
+    /// The whole tree of a sound image made again by its templates.
+    TreeAgain,
 }
 
 impl Kind {
     /// All kinds with their weights in the mix.
-    pub const MIX: [(Kind, usize); 12] = [
+    pub const MIX: [(Kind, usize); 14] = [
         (Kind::History, 100),
         (Kind::SoundCommand, 300),
         (Kind::SoundReport, 60),
@@ -52,6 +57,8 @@ impl Kind {
         (Kind::Replay, 30),
         (Kind::Rule, 45),
         (Kind::Worst, 5),
+        (Kind::FilesAgain, 15),
+        (Kind::TreeAgain, 10),
     ];
 
     /// The name on the command line of the program.
@@ -140,12 +147,12 @@ pub fn make_case(random: &mut Random, kind: Kind) -> Case {
         Kind::RawCommand => {
             let image = images::sound_image(random);
             let (command, state) = (raw::raw(random), states::any(random));
-            Case::OneCommand { image, command, state }
+            one_command(random, image, command, state)
         }
         Kind::NearMiss => {
             let card = images::sound_card(random);
             let (command, state) = (raw::near_miss(random, &card), states::mostly_full(random));
-            Case::OneCommand { image: card.encode(), command, state }
+            one_command(random, card.encode(), command, state)
         }
         Kind::Template => Case::Template { data: breach::any(random) },
         Kind::Make => {
@@ -155,6 +162,8 @@ pub fn make_case(random: &mut Random, kind: Kind) -> Case {
         Kind::Replay => Case::Replay { input: streams::input(random) },
         Kind::Rule => Case::Rule { rule: rules::any(random), state: states::any(random) },
         Kind::Worst => worst_case(random),
+        Kind::FilesAgain => Case::Again(Again::files(random)),
+        Kind::TreeAgain => Case::Again(Again::tree(random)),
     }
 }
 
@@ -162,7 +171,13 @@ pub fn make_case(random: &mut Random, kind: Kind) -> Case {
 fn fitting(random: &mut Random, card: &Card, image: Vec<u8>) -> Case {
     let command = fitting_command(random, card);
     let state = if random.chance(70) { states::mostly_full(random) } else { states::any(random) };
-    Case::OneCommand { image, command, state }
+    one_command(random, image, command, state)
+}
+
+/// A command with a response buffer for it.
+fn one_command(random: &mut Random, image: Vec<u8>, command: Vec<u8>, state: State) -> Case {
+    let response = responses::lent(random, &image, &command);
+    Case::OneCommand { image, command, response, state }
 }
 
 fn worst_case(random: &mut Random) -> Case {

@@ -4,12 +4,12 @@
 use model::soundness::sound_card;
 use model::{command, words, Card, State};
 
-use crate::actions::{bare, command_for, select, Action};
+use crate::actions::{bare, command_for, select_by, Action};
 use crate::case::{History, Step};
 use crate::images::slot_count;
 use crate::random::Random;
 use crate::themes::Theme;
-use crate::{rules, states};
+use crate::{responses, rules, states};
 
 /// How often another action is tried where the card gives no occasion.
 const TRIES: usize = 6;
@@ -40,13 +40,14 @@ impl Writer {
     }
 
     /// Appends a command and runs it.
-    fn push(&mut self, bytes: Vec<u8>, state: State) {
-        let outcome = command(&mut self.image, &bytes, &state);
+    fn push(&mut self, random: &mut Random, bytes: Vec<u8>, state: State) {
+        let response = responses::lent(random, &self.image, &bytes);
+        let outcome = command(&mut self.image, &bytes, &mut response.clone(), &state);
         let deletes = bytes.get(1) == Some(&0xE4) && outcome.word == words::SUCCESS;
         if let (true, Some(&[high, low])) = (deletes, bytes.last_chunk::<2>()) {
             self.deleted = Some(u16::from_be_bytes([high, low]));
         }
-        self.history.steps.push(Step { command: bytes, state });
+        self.history.steps.push(Step { command: bytes, response, state });
     }
 
     /// One more step of the theme.
@@ -60,7 +61,8 @@ impl Writer {
             Theme::Rules if random.chance(40) => states::any(random),
             _ => states::mostly_full(random),
         };
-        self.push(fitting.unwrap_or_else(|| select(0x3F00)), state);
+        let bytes = fitting.unwrap_or_else(|| select_by(random, 0x3F00));
+        self.push(random, bytes, state);
     }
 }
 
@@ -81,7 +83,7 @@ pub fn history_of(random: &mut Random, theme: Theme, slots: usize, steps: usize)
         writer.step(random, theme);
     }
     if random.chance(12) {
-        writer.push(bare(0xFE), State::FULL);
+        writer.push(random, bare(0xFE), State::FULL);
         for _ in 0..3 {
             writer.step(random, Theme::Mixed);
         }
@@ -100,5 +102,5 @@ pub fn fitting_command(random: &mut Random, card: &Card) -> Vec<u8> {
         };
         command_for(action, random, card, None)
     });
-    found.unwrap_or_else(|| select(0x3F00))
+    found.unwrap_or_else(|| select_by(random, 0x3F00))
 }

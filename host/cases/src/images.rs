@@ -29,13 +29,31 @@ pub fn sound_image(random: &mut Random) -> Vec<u8> {
 /// A sound card.
 pub fn sound_card(random: &mut Random) -> Card {
     let slots = slot_count(random);
+    sound_card_of(random, slots)
+}
+
+/// A sound card of so many slots, at least 2.
+pub fn sound_card_of(random: &mut Random, slots: usize) -> Card {
     let mut card = empty_card(random, slots);
     let files = random.below(slots);
-    for _ in 0..files {
-        add_file(random, &mut card);
-    }
-    choose_current(random, &mut card);
+    fill(random, &mut card, files);
     card
+}
+
+/// A sound card of the most slots with few files, some of them large.
+pub fn sparse_card(random: &mut Random) -> Card {
+    let mut card = empty_card(random, 1023);
+    let files = random.range(1, 4) as usize;
+    fill(random, &mut card, files);
+    card
+}
+
+/// Adds at most so many files, and chooses the current ones.
+fn fill(random: &mut Random, card: &mut Card, files: usize) {
+    for _ in 0..files {
+        add_file(random, card);
+    }
+    choose_current(random, card);
 }
 
 /// Only the root, in one of the ways that soundness leaves open.

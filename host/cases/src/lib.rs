@@ -29,12 +29,15 @@
 //! | CREATE's data, good and broken | [`template`], [`breach`] |
 //! | rules, life-cycle bytes, states | [`rules`], [`life_cycles`], [`states`] |
 //! | maker's calls, replay's streams | [`makers`], [`streams`] |
+//! | response buffers | [`responses`] |
+//! | files made again by their templates | [`again`], [`target`], [`regrown`] |
 //! | worst-case cards | [`worst`] |
 
 #![forbid(unsafe_code)]
 #![warn(missing_docs)]
 
 pub mod actions;
+pub mod again;
 pub mod breach;
 pub mod case;
 pub mod choices;
@@ -48,13 +51,17 @@ pub mod makers;
 pub mod near;
 pub mod random;
 pub mod raw;
+pub mod regrown;
+pub mod responses;
 pub mod rules;
 pub mod states;
 pub mod streams;
+pub mod target;
 pub mod template;
 pub mod themes;
 pub mod worst;
 
+pub use again::Again;
 pub use case::{Case, History, Step};
 pub use generator::{Generator, Kind, Made};
 pub use random::Random;

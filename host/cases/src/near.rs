@@ -1,9 +1,9 @@
 //! Every near-miss, not at random: each instruction's good command with every
-//! other class, instruction, parameter, Lc and length (01, steps A to G).
+//! other class, instruction, parameter, Lc, Le and length (01, steps A to G).
 
 use model::{Card, State};
 
-use crate::actions::{bare, delete, select};
+use crate::actions::{bare, delete, select, select_fcp};
 use crate::case::{Case, History, Step};
 use crate::rules;
 use crate::template::FileData;
@@ -11,10 +11,16 @@ use crate::template::FileData;
 /// How many bytes too many are tried.
 const BYTES_TOO_MANY: usize = 3;
 
-/// The good command of each instruction for [`card`].
+/// The response buffer that is lent with each.
+pub const RESPONSE: [u8; 64] = [0xA5; 64];
+
+/// Where Le stands in a SELECT that wants data.
+const LE_OF_SELECT: usize = 7;
+
+/// The good command of each instruction for [`card`], of SELECT both.
 pub fn good_commands() -> Vec<Vec<u8>> {
-    let mut commands =
-        vec![select(0x6F07), delete(0x6F07), FileData::plain(0x41, 0x6F08, 9).command()];
+    let create = FileData::plain(0x41, 0x6F08, 9).command();
+    let mut commands = vec![select(0x6F07), delete(0x6F07), create, select_fcp(0x6F07)];
     commands.extend([0x44, 0x04, 0xE8, 0xE6, 0xFE].map(bare));
     commands
 }
@@ -24,23 +30,26 @@ pub fn good_commands() -> Vec<Vec<u8>> {
 pub fn card() -> Vec<u8> {
     let directory = FileData::plain(0x78, 0x7F10, 256);
     let commands = [directory.command(), FileData::plain(0x41, 0x6F07, 9).command()];
-    let history = History {
-        slots: 8,
-        total: 448,
-        rule: rules::open(),
-        steps: commands.map(|command| Step { command, state: State::FULL }).into(),
-    };
+    let history =
+        History { slots: 8, total: 448, rule: rules::open(), steps: commands.map(step).into() };
     let mut image = history.fresh_image();
     history.play(|_, _, _, after| image = after.to_vec());
     debug_assert!(Card::decode(&image).is_some());
     image
 }
 
-/// All near-misses of a good command: each of its first five bytes with every
-/// other value, cut to every shorter length, and lengthened.
+fn step(command: Vec<u8>) -> Step {
+    Step { command, response: Vec::new(), state: State::FULL }
+}
+
+/// All near-misses of a good command: each of its first five bytes, and Le of
+/// a SELECT, with every other value, cut to every shorter length, and
+/// lengthened.
 pub fn near_misses_of(good: &[u8]) -> Vec<Vec<u8>> {
     let mut found = Vec::new();
-    for (place, &right) in good.iter().enumerate().take(5) {
+    let is_select = good.get(1) == Some(&0xA4);
+    let judged = |place: usize| place < 5 || is_select && place == LE_OF_SELECT;
+    for (place, &right) in good.iter().enumerate().filter(|(place, _)| judged(*place)) {
         for wrong in (0..=255).filter(|&byte| byte != right) {
             let mut command = good.to_vec();
             command[place] = wrong;
@@ -69,6 +78,7 @@ pub fn every_near_miss() -> impl Iterator<Item = Case> {
     commands.map(move |command| Case::OneCommand {
         image: image.clone(),
         command,
+        response: RESPONSE.to_vec(),
         state: State::FULL,
     })
 }

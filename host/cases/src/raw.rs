@@ -3,7 +3,7 @@
 
 use model::Card;
 
-use crate::actions::{bare, delete, select};
+use crate::actions::{bare, delete, select, select_fcp};
 use crate::choices::some_identifier;
 use crate::random::Random;
 use crate::template::good;
@@ -39,13 +39,35 @@ pub fn raw(random: &mut Random) -> Vec<u8> {
 /// A good command of any instruction, with one thing wrong.
 pub fn near_miss(random: &mut Random, card: &Card) -> Vec<u8> {
     let identifier = some_identifier(random, card);
-    let mut command = match random.below(8) {
-        0 | 1 => select(identifier),
-        2 => delete(identifier),
-        3 | 4 => good(random).command(),
+    let mut command = match random.below(10) {
+        0 => select(identifier),
+        1 => select_fcp(identifier),
+        2 => return near_miss_of_p2(random, identifier),
+        3 => delete(identifier),
+        4 | 5 => good(random).command(),
         _ => bare(random.pick([0x44, 0x04, 0xE8, 0xE6, 0xFE])),
     };
     spoil(random, &mut command);
+    command
+}
+
+/// A SELECT whose P2, Le or length do not fit one another.
+fn near_miss_of_p2(random: &mut Random, identifier: u16) -> Vec<u8> {
+    let [high, low] = identifier.to_be_bytes();
+    let mut command = vec![0x00, 0xA4, 0x00, 0x04, 0x02, high, low];
+    match random.below(5) {
+        0 => {}
+        1 => command.push(random.pick([0x01, 0x02, 0x0F, 0x35, 0x80, 0xFF])),
+        2 => command.extend([0x00, random.pick([0x00, 0x01])]),
+        3 => {
+            command[3] = 0x0C;
+            command.push(random.pick([0x00, 0x00, 0xFF]));
+        }
+        _ => {
+            command[3] = random.pick([0x00, 0x05, 0x06, 0x08, 0x0D, 0x14, 0x84]);
+            command.push(0x00);
+        }
+    }
     command
 }
 

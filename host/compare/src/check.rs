@@ -1,107 +1,22 @@
 //! A case run by the card and by the model, and demand 3's two ledgers beside
 //! every history.
 
-use std::fmt;
-
 use cases::{Case, History};
 use model::ledger::{current_df_slot, Ledger};
 use model::lines::Case as Line;
 use model::words::Word;
 
+use crate::again::check_again;
+use crate::demand1;
 use crate::demand3::{word_fits, Given, WATCHED};
+use crate::disagreement::Disagreement;
 use crate::ledger::{heard, Ledger as Stated};
 use crate::outcome::{run, Outcome};
 use crate::rights::lines_of_rule;
 use crate::subject::Pair;
+use crate::tally::Tally;
 
-/// How much was compared.
-#[derive(Clone, Copy, PartialEq, Eq, Debug, Default)]
-pub struct Tally {
-    /// Cases.
-    pub cases: u64,
-    /// Calls of the maker.
-    pub makes: u64,
-    /// Commands, those of replay not counted.
-    pub commands: u64,
-    /// Commands that had their effect.
-    pub effects: u64,
-    /// Reports, each with a call for soundness.
-    pub reports: u64,
-    /// Runs of replay.
-    pub replays: u64,
-    /// Steps of histories that the ledger judged.
-    pub ledger_steps: u64,
-}
-
-impl std::ops::AddAssign for Tally {
-    fn add_assign(&mut self, other: Tally) {
-        self.cases += other.cases;
-        self.makes += other.makes;
-        self.commands += other.commands;
-        self.effects += other.effects;
-        self.reports += other.reports;
-        self.replays += other.replays;
-        self.ledger_steps += other.ledger_steps;
-    }
-}
-
-impl fmt::Display for Tally {
-    fn fmt(&self, f: &mut fmt::Formatter<'_>) -> fmt::Result {
-        let Tally { cases, makes, commands, effects, reports, replays, ledger_steps } = self;
-        write!(
-            f,
-            "{cases} cases, {commands} commands ({effects} with effect, {ledger_steps} beside \
-             the ledger), {makes} makes, {reports} reports, {replays} replays"
-        )
-    }
-}
-
-/// What card and model, or card and ledger, disagree about.
-#[derive(Clone, PartialEq, Eq, Debug)]
-pub enum Disagreement {
-    /// The card gives something else for one line.
-    Line {
-        /// The line.
-        line: Box<Line>,
-        /// What the model gives.
-        wanted: Box<Outcome>,
-        /// What the card gives.
-        given: Box<Outcome>,
-    },
-    /// The card agrees with the model and not with the ledger.
-    Ledger {
-        /// The history up to the step where it shows.
-        history: History,
-        /// What does not agree.
-        complaint: String,
-    },
-    /// One of the two gives one thing now and another then.
-    Unsteady {
-        /// The line.
-        line: Box<Line>,
-    },
-}
-
-/// Lines of the vectors that show it, and comments that say what is wrong.
-impl fmt::Display for Disagreement {
-    fn fmt(&self, f: &mut fmt::Formatter<'_>) -> fmt::Result {
-        match self {
-            Disagreement::Line { line, wanted, given } => {
-                write!(f, "{}\n# model {wanted}\n# card  {given}", line.line())
-            }
-            Disagreement::Ledger { history, complaint } => {
-                writeln!(f, "# the ledger disagrees: {complaint}; the history:")?;
-                let lines = Case::History(history.clone()).lines();
-                lines.iter().try_for_each(|line| writeln!(f, "{}", line.line()))
-            }
-            Disagreement::Unsteady { line } => {
-                write!(f, "{}\n# does not give the same twice", line.line())
-            }
-        }
-    }
-}
-
-/// Compares card and model on one line; gives what both give, or
+/// Compares card and model on one line, and what both give with demand 1; gives what both give, or
 /// nothing where the card has no call for the line.
 pub fn check_line(
     pair: Pair,
@@ -115,15 +30,11 @@ pub fn check_line(
         let (line, wanted, given) = (line.clone().into(), wanted.into(), given.into());
         return Err(Disagreement::Line { line, wanted, given });
     }
-    match &given {
-        Outcome::Make { .. } => tally.makes += 1,
-        Outcome::Command { word, .. } => {
-            tally.commands += 1;
-            tally.effects += u64::from(model::words::is_success(*word));
-        }
-        Outcome::Report { .. } => tally.reports += 1,
-        Outcome::Replay { .. } => tally.replays += 1,
+    if let Some(complaint) = demand1::complaint(line, &given) {
+        let (line, given) = (line.clone().into(), given.into());
+        return Err(Disagreement::Demand1 { line, given, complaint });
     }
+    tally.count(&given);
     Ok(Some(given))
 }
 
@@ -132,6 +43,7 @@ pub fn check_case(pair: Pair, case: &Case, tally: &mut Tally) -> Result<(), Disa
     tally.cases += 1;
     let lines = match case {
         Case::History(history) => return check_history(pair, history, tally),
+        Case::Again(again) => return check_again(pair, again, tally).map(|_| ()),
         Case::Rule { rule, state } => lines_of_rule(rule, *state),
         _ => case.lines(),
     };
@@ -197,13 +109,13 @@ pub fn check_history(pair: Pair, history: &History, tally: &mut Tally) -> Result
     let mut books = Books::open(total);
     for (number, step) in history.steps.iter().enumerate() {
         let before = current_df_slot(&image);
-        let line = Line::command(&image, &step.command, step.state);
+        let line = Line::command(&image, &step.command, &step.response, step.state);
         let outcome = check_line(pair, &line, tally)?;
-        let Some(Outcome::Command { word, image: left, .. }) = outcome else { continue };
+        let Some(Outcome::Command { told, image: left, .. }) = outcome else { continue };
         image = left;
         let report = check_line(pair, &Line::Report { image: image.clone() }, tally)?;
         tally.ledger_steps += 1;
-        let found = books.enter(&step.command, word, (before, &image), report.as_ref());
+        let found = books.enter(&step.command, told.word, (before, &image), report.as_ref());
         if let Some(complaint) = found {
             let steps = history.steps.iter().take(number + 1).cloned().collect();
             let history = History { steps, ..history.clone() };

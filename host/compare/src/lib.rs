@@ -1,6 +1,7 @@
 //! The proved card against the model (01: "Other cases are run by program and
 //! compared with an independent one"): answer, word, numbers and every byte
-//! of the image, and demand 3's two ledgers beside every history.
+//! of image and response buffer, what demand 1 says of them, demand 3's two
+//! ledgers beside every history, and files made again by their templates.
 //!
 //! A disagreement is shrunk to the smallest case that still shows it, and
 //! told as a line of the vectors, which the program `compare` runs again.
@@ -10,7 +11,10 @@
 //! | who can be compared: the proved card, the model | [`subject`] |
 //! | what a line gives | [`outcome`] |
 //! | a case, line by line, with the ledger | [`check`] |
-//! | demand 3's ledger and what it says of a command, as the theorem has them | [`ledger`], [`demand3`] |
+//! | how much was compared, what disagrees | [`tally`], [`disagreement`] |
+//! | what demand 1 says of a command | [`demand1`] |
+//! | demand 3's ledger, and what is said of a command with it | [`ledger`], [`demand3`] |
+//! | files made again by their templates | [`again`] |
 //! | the seven decisions of a rule, as commands | [`rights`] |
 //! | making a case smaller | [`shrink`], [`pieces`], [`smaller`] |
 //! | stored and shared vectors | [`vectors`] |
@@ -18,8 +22,11 @@
 #![forbid(unsafe_code)]
 #![warn(missing_docs)]
 
+pub mod again;
 pub mod check;
+pub mod demand1;
 pub mod demand3;
+pub mod disagreement;
 pub mod ledger;
 pub mod outcome;
 pub mod pieces;
@@ -27,8 +34,11 @@ pub mod rights;
 pub mod shrink;
 pub mod smaller;
 pub mod subject;
+pub mod tally;
 pub mod vectors;
 
-pub use check::{check_case, check_line, Disagreement, Tally};
+pub use check::{check_case, check_line};
+pub use disagreement::Disagreement;
 pub use outcome::{run, Outcome};
-pub use subject::{Model, Pair, Proved, Subject};
+pub use subject::{Model, Pair, Proved, Subject, Told};
+pub use tally::Tally;

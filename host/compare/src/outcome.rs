@@ -4,7 +4,7 @@ use std::fmt;
 
 use model::lines::{hex, Case as Line};
 
-use crate::subject::Subject;
+use crate::subject::{Subject, Told};
 
 /// Everything that a call gives or leaves.
 #[derive(Clone, PartialEq, Eq, Debug)]
@@ -18,14 +18,14 @@ pub enum Outcome {
     },
     /// C.
     Command {
-        /// 0 or 1.
-        answer: u32,
-        /// The word; 0000 with answer 1.
-        word: u16,
+        /// Answer, word and numbers.
+        told: Told,
         /// The image afterwards.
         image: Vec<u8>,
-        /// Pool and response buffer, which stay as they came, in hex.
-        untouched: String,
+        /// The pool, which stays as it came on a card without bodies.
+        pool: Vec<u8>,
+        /// The response buffer afterwards.
+        response: Vec<u8>,
     },
     /// R, and whether the image is sound.
     Report {
@@ -53,10 +53,9 @@ pub fn run(subject: &dyn Subject, line: &Line) -> Option<Outcome> {
             Some(Outcome::Make { answer, buffer })
         }
         Line::Command { image, command, state, pool, response } => {
-            let mut image = image.clone();
-            let (answer, word) = subject.command(&mut image, command, state);
-            let untouched = format!("{} {}", hex(pool), hex(response));
-            Some(Outcome::Command { answer, word, image, untouched })
+            let (mut image, mut response) = (image.clone(), response.clone());
+            let told = subject.command(&mut image, command, &mut response, state);
+            Some(Outcome::Command { told, image, pool: pool.clone(), response })
         }
         Line::Report { image } => {
             let (answer, numbers) = subject.report(image);
@@ -72,8 +71,10 @@ impl Outcome {
     pub fn result(&self) -> String {
         match self {
             Outcome::Make { answer, buffer } => format!("M {answer} {}", hex(buffer)),
-            Outcome::Command { answer, word, image, untouched } => {
-                format!("C {answer} {word:04X} {} {untouched} 0 0 0", hex(image))
+            Outcome::Command { told, image, pool, response } => {
+                let Told { answer, word, numbers: [data, security, moved] } = told;
+                let (image, pool, response) = (hex(image), hex(pool), hex(response));
+                format!("C {answer} {word:04X} {image} {pool} {response} {data} {security} {moved}")
             }
             Outcome::Report { answer, numbers: [total, room, children, beneath], .. } => {
                 format!("R {answer} {total} {room} {children} {beneath}")

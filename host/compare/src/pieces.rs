@@ -4,7 +4,7 @@
 use model::lines::Case as Line;
 use model::State;
 
-use crate::smaller::{cut, freed, lifted, packed, slots_of, tightened};
+use crate::smaller::{cut, freed, lifted, packed, short_records, slots_of, tightened};
 
 /// The free records that packing leaves, and the room that tightening does:
 /// none, or enough that a CREATE can still succeed. They are tried after each
@@ -19,14 +19,15 @@ pub fn weight(line: &Line) -> (usize, usize, usize) {
     let bytes = bytes_of(line);
     let plain = |at: usize| u8::from(at == 9 || at == 10) * 0xFF;
     let marked = image.iter().enumerate().filter(|&(at, &byte)| byte != plain(at)).count();
-    let marked = marked + bytes.iter().filter(|&&byte| byte != 0).count();
+    let response = response_of(line);
+    let marked = marked + bytes.iter().chain(response).filter(|&&byte| byte != 0).count();
     let state = match line {
         Line::Command { state, .. } if *state == State::FULL => 0,
         Line::Command { state, .. } if *state == State::EMPTY => 1,
         Line::Command { state, .. } if state.channels == 0 => 2,
         _ => 3,
     };
-    (image.len() + bytes.len(), marked, state)
+    (image.len() + bytes.len() + response.len(), marked, state)
 }
 
 /// A piece of a line that may be left out or made plain.
@@ -44,12 +45,20 @@ pub enum Piece {
     /// Sizes no larger than they must be, with so much room left in the
     /// current directory, and the slots that the root's total then needs.
     Tighten(u32),
+    /// The same, with records of one byte.
+    TightenRecords(u32),
     /// One byte of the image zero.
     ImageByte(usize),
     /// Bytes of the command, rule or input from a place on left out.
     Remove(usize, usize),
     /// One byte of them zero.
     Byte(usize),
+    /// A SELECT that wants no data instead of one that does.
+    Data,
+    /// So many bytes at the end of the response buffer.
+    Response(usize),
+    /// One byte of it zero.
+    ResponseByte(usize),
     /// Another state.
     State(State),
 }
@@ -66,11 +75,16 @@ pub fn pieces_of(line: &Line) -> Vec<Piece> {
         all.extend((1..slots).rev().step_by(width).map(|slot| Piece::Lift(slot, width)));
         all.extend(SPARE.map(Piece::Pack));
         all.extend(ROOMS.map(Piece::Tighten));
+        all.extend(ROOMS.map(Piece::TightenRecords));
     }
     for width in halves(bytes) {
         all.extend((0..bytes).rev().step_by(width).map(|at| Piece::Remove(at, width)));
     }
     all.extend((0..bytes).map(Piece::Byte));
+    let response = response_of(line).len();
+    all.extend([Piece::Data, Piece::Response(response)]);
+    all.extend(halves(response).map(Piece::Response));
+    all.extend((0..response).rev().map(Piece::ResponseByte));
     let marked = image.iter().enumerate().filter(|(_, &byte)| byte != 0);
     all.extend(marked.map(|(at, _)| Piece::ImageByte(at)));
     all
@@ -86,8 +100,18 @@ impl Piece {
             Piece::Lift(slot, count) => with_image(line, lifted(image_of(line)?, slot, count)?),
             Piece::Pack(spare) => with_image(line, packed(image_of(line)?, spare)?),
             Piece::Tighten(room) => with_image(line, tightened(image_of(line)?, room)?),
+            Piece::TightenRecords(room) => {
+                with_image(line, tightened(&short_records(image_of(line)?)?, room)?)
+            }
             Piece::ImageByte(at) => with_image(line, zeroed(image_of(line)?, at)?),
             Piece::Byte(at) => Some(with_bytes(line, zeroed(bytes_of(line), at)?)),
+            Piece::Data => Some(with_bytes(line, without_data(bytes_of(line))?)),
+            Piece::Response(fewer) => {
+                let response = response_of(line);
+                let length = response.len().checked_sub(fewer)?;
+                with_response(line, response.get(..length)?.to_vec())
+            }
+            Piece::ResponseByte(at) => with_response(line, zeroed(response_of(line), at)?),
             Piece::Remove(at, count) => {
                 let mut bytes = bytes_of(line).to_vec();
                 let end = bytes.len().min(at.saturating_add(count));
@@ -101,6 +125,16 @@ impl Piece {
 /// A half, a quarter, ... down to 1.
 fn halves(count: usize) -> impl Iterator<Item = usize> {
     std::iter::successors(Some(count / 2), |width| Some(width / 2)).take_while(|&width| width > 0)
+}
+
+/// A SELECT with P2 0C for one with P2 04.
+fn without_data(command: &[u8]) -> Option<Vec<u8>> {
+    match *command {
+        [0x00, 0xA4, 0x00, 0x04, 0x02, high, low, 0x00] => {
+            Some(vec![0x00, 0xA4, 0x00, 0x0C, 0x02, high, low])
+        }
+        _ => None,
+    }
 }
 
 fn zeroed(bytes: &[u8], at: usize) -> Option<Vec<u8>> {
@@ -127,6 +161,14 @@ fn bytes_of(line: &Line) -> &[u8] {
     }
 }
 
+/// The response buffer of a command.
+fn response_of(line: &Line) -> &[u8] {
+    match line {
+        Line::Command { response, .. } => response,
+        _ => &[],
+    }
+}
+
 fn with_image(line: &Line, new: Vec<u8>) -> Option<Line> {
     let mut line = line.clone();
     match &mut line {
@@ -146,6 +188,15 @@ fn with_bytes(line: &Line, new: Vec<u8>) -> Line {
         _ => {}
     }
     line
+}
+
+fn with_response(line: &Line, new: Vec<u8>) -> Option<Line> {
+    let mut line = line.clone();
+    match &mut line {
+        Line::Command { response, .. } => *response = new,
+        _ => return None,
+    }
+    Some(line)
 }
 
 fn with_state(line: &Line, new: State) -> Option<Line> {

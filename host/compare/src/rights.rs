@@ -38,7 +38,7 @@ fn line_of_right(right: Right, rule: &[u8], state: State) -> Line {
     if right == Right::Activate {
         card.set_life_cycle(0, 0x04);
     }
-    Line::command(&card.encode(), &command, state)
+    Line::command(&card.encode(), &command, &[], state)
 }
 
 /// A root with one rule, in it an EF with another; the root is current.

@@ -1,12 +1,15 @@
 //! Making a disagreement smaller: pieces of the case are left out or made
 //! plain as long as it still shows. What is left is easier to understand.
 
-use cases::History;
+use cases::{Again, History};
 use model::lines::Case as Line;
 
-use crate::check::{check_history, check_line, Disagreement, Tally};
+use crate::again::check_again;
+use crate::check::{check_history, check_line};
+use crate::disagreement::Disagreement;
 use crate::pieces::{pieces_of, weight};
 use crate::subject::Pair;
+use crate::tally::Tally;
 
 /// How many bytes of smaller cases are tried at most, and what a case counts
 /// beside its bytes; so large cards get fewer tries, and each search ends soon.
@@ -16,7 +19,7 @@ const EACH_TRY: usize = 1000;
 /// The smallest disagreement found from this one on.
 pub fn smallest(pair: Pair, found: Disagreement) -> Disagreement {
     match found {
-        Disagreement::Line { line, .. } => {
+        Disagreement::Line { line, .. } | Disagreement::Demand1 { line, .. } => {
             let shows = |line: &Line| check_line(pair, line, &mut Tally::default()).is_err();
             let line = smallest_line(*line, &shows);
             match check_line(pair, &line, &mut Tally::default()) {
@@ -25,6 +28,7 @@ pub fn smallest(pair: Pair, found: Disagreement) -> Disagreement {
             }
         }
         Disagreement::Ledger { history, complaint } => smallest_history(pair, history, complaint),
+        Disagreement::Again { ref again, .. } => smallest_again(pair, again).unwrap_or(found),
         Disagreement::Unsteady { .. } => found,
     }
 }
@@ -44,9 +48,28 @@ fn smallest_history(pair: Pair, whole: History, complaint: String) -> Disagreeme
             best = smaller;
         }
     }
-    match best {
-        Disagreement::Line { .. } => smallest(pair, best),
-        _ => best,
+    smaller_of_another_sort(pair, best)
+}
+
+/// Makes the card smaller whose files are made again, as a report's line does.
+fn smallest_again(pair: Pair, whole: &Again) -> Option<Disagreement> {
+    let with_image = |line: &Line| match line {
+        Line::Report { image } => Some(Again { image: image.clone(), ..whole.clone() }),
+        _ => None,
+    };
+    let shown = |line: &Line| {
+        with_image(line).and_then(|again| check_again(pair, &again, &mut Tally::default()).err())
+    };
+    let start = Line::Report { image: whole.image.clone() };
+    let found = shown(&smallest_line(start, &|line| shown(line).is_some()))?;
+    Some(smaller_of_another_sort(pair, found))
+}
+
+/// A disagreement that shows in one line is made smaller as that.
+fn smaller_of_another_sort(pair: Pair, found: Disagreement) -> Disagreement {
+    match found {
+        Disagreement::Line { .. } | Disagreement::Demand1 { .. } => smallest(pair, found),
+        _ => found,
     }
 }
 

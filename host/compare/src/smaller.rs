@@ -113,6 +113,19 @@ pub fn tightened(image: &[u8], room: u32) -> Option<Vec<u8>> {
     packed(&smaller, slots.saturating_sub(used.len()))
 }
 
+/// The image with records of one byte, and one of them in each file that has
+/// records.
+pub fn short_records(image: &[u8]) -> Option<Vec<u8>> {
+    let mut smaller = image.to_vec();
+    for at in (0..slots_of(image)).filter(|&at| is_used(image, at)) {
+        if number(image, at_record(at) + RECORD_LENGTH)? > 0 {
+            put(&mut smaller, at_record(at) + RECORD_LENGTH, 1)?;
+            put_size(&mut smaller, at, 1)?;
+        }
+    }
+    Some(smaller)
+}
+
 /// The directory itself, or the nearest above it that is not gone.
 fn nearest_left(image: &[u8], slot: u16, gone: &std::ops::Range<usize>) -> Option<u16> {
     let mut left = slot;

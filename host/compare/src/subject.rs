@@ -1,15 +1,28 @@
 //! Who can be compared: whatever offers the calls of 01 with their numbers.
 
 use model::replay::{MOST_BYTES, ROOT_RULE};
-use model::State;
+use model::{fcp, State};
+
+/// What a command gives beside image and response buffer.
+#[derive(Clone, Copy, PartialEq, Eq, Debug)]
+pub struct Told {
+    /// The answer.
+    pub answer: u32,
+    /// The word; 0000 with any answer but 0.
+    pub word: u16,
+    /// How many bytes of data stand in the response buffer, and two numbers
+    /// of later tickets, which are 0.
+    pub numbers: [u32; 3],
+}
 
 /// The calls of 01 with their numbers as the documents give them.
 pub trait Subject {
     /// The maker's answer.
     fn make(&self, buffer: &mut [u8], total: u32, rule: &[u8]) -> u32;
 
-    /// A command's answer and word.
-    fn command(&self, image: &mut [u8], command: &[u8], state: &State) -> (u32, u16);
+    /// A command's answer, word and numbers.
+    fn command(&self, image: &mut [u8], command: &[u8], response: &mut [u8], state: &State)
+        -> Told;
 
     /// The report's answer and numbers.
     fn report(&self, image: &[u8]) -> (u32, [u32; 4]);
@@ -40,8 +53,10 @@ pub trait Subject {
         (answer == 0).then_some((image, stream))
     }
 
-    /// The words of a stream's commands, a line each.
+    /// The words of a stream's commands, a line each. The response buffer is
+    /// long enough for every template.
     fn play(&self, image: &mut [u8], mut stream: &[u8]) -> String {
+        let mut response = [0; fcp::MOST_BYTES];
         let mut words = String::new();
         while !stream.is_empty() {
             let cut = stream.split_first_chunk::<2>().and_then(|(length, left)| {
@@ -50,8 +65,8 @@ pub trait Subject {
             let Some((command, left)) = cut else {
                 return words + "CUT\n";
             };
-            let (_, word) = self.command(image, command, &State::FULL);
-            words += &format!("{word:04X}\n");
+            let told = self.command(image, command, &mut response, &State::FULL);
+            words += &format!("{:04X}\n", told.word);
             stream = left;
         }
         words
@@ -66,10 +81,16 @@ impl Subject for Proved {
         card::ffi::make(buffer, total, rule)
     }
 
-    fn command(&self, image: &mut [u8], command: &[u8], state: &State) -> (u32, u16) {
+    fn command(
+        &self,
+        image: &mut [u8],
+        command: &[u8],
+        response: &mut [u8],
+        state: &State,
+    ) -> Told {
         let sets = [state.messaging, state.external, state.user];
-        let both = card::ffi::command(image, command, sets, state.channels);
-        (both >> 16, both as u16)
+        let (both, numbers) = card::ffi::command(image, command, response, sets, state.channels);
+        Told { answer: both >> 16, word: both as u16, numbers }
     }
 
     fn report(&self, image: &[u8]) -> (u32, [u32; 4]) {
@@ -89,9 +110,16 @@ impl Subject for Model {
         u32::from(model::make(buffer, total, rule))
     }
 
-    fn command(&self, image: &mut [u8], command: &[u8], state: &State) -> (u32, u16) {
-        let outcome = model::command(image, command, state);
-        (u32::from(outcome.answer), outcome.word)
+    fn command(
+        &self,
+        image: &mut [u8],
+        command: &[u8],
+        response: &mut [u8],
+        state: &State,
+    ) -> Told {
+        let outcome = model::command(image, command, response, state);
+        let data = u32::try_from(outcome.data).unwrap_or(u32::MAX);
+        Told { answer: outcome.answer.into(), word: outcome.word, numbers: [data, 0, 0] }
     }
 
     fn report(&self, image: &[u8]) -> (u32, [u32; 4]) {

@@ -1,4 +1,5 @@
-//! The answers of the public calls: the table of 01, "Making and reporting".
+//! The answers of the public calls: the table of 01, "Making and reporting";
+//! 02, Ticket 2 (answer 5).
 
 /// The number that each public call answers with.
 pub type Answer = u8;
@@ -13,3 +14,6 @@ pub const BAD_LENGTH: Answer = 2;
 pub const BAD_TOTAL: Answer = 3;
 /// Maker: the rule is not 1 to 16 bytes long, or not well formed.
 pub const BAD_RULE: Answer = 4;
+/// Command: the response buffer is shorter than the data that it should take;
+/// everything stays as it came.
+pub const SHORT_BUFFER: Answer = 5;

@@ -1,8 +1,9 @@
 //! One command on an image: 01, "The order in which a command is judged".
 //! Steps A to G are here and common to all; steps H to L stand, in their
-//! order, in the module of each command.
+//! order, in the module of each command. The response buffer is looked at last
+//! of all (02, Ticket 2).
 
-use crate::answers::{Answer, DONE, UNSOUND};
+use crate::answers::{Answer, DONE, SHORT_BUFFER, UNSOUND};
 use crate::bytes::{byte, number16, rest};
 use crate::card::{Card, ROOT};
 use crate::commands::{change, create, delete, select};
@@ -13,13 +14,45 @@ use crate::words::{
     WRONG_PARAMETERS,
 };
 
-/// What a command call gives back beside the image.
+/// P1 and P2 of a SELECT that wants no data.
+const SELECT_WITHOUT_DATA: u16 = 0x000C;
+/// P1 and P2 of a SELECT that wants the file's template.
+const SELECT_WITH_FCP: u16 = 0x0004;
+/// The Le that asks for all data there are.
+const LE_ALL: u8 = 0x00;
+
+/// What a command call gives back beside image and response buffer.
 #[derive(Clone, Copy, PartialEq, Eq, Debug)]
 pub struct Outcome {
-    /// 0 or 1.
+    /// 0, 1 or 5.
     pub answer: Answer,
-    /// The status word; 0000 with answer 1.
+    /// The status word; 0000 with any answer but 0.
     pub word: Word,
+    /// How many bytes of data stand at the start of the response buffer now.
+    pub data: usize,
+}
+
+impl Outcome {
+    /// An answer other than 0: no word, no data.
+    fn wordless(answer: Answer) -> Outcome {
+        Outcome { answer, word: NO_WORD, data: 0 }
+    }
+}
+
+/// What a command tells that has its effect.
+#[derive(Clone, PartialEq, Eq, Debug)]
+pub struct Told {
+    /// 9000, or a warning.
+    pub word: Word,
+    /// What the response buffer should take.
+    pub data: Vec<u8>,
+}
+
+impl Told {
+    /// A word alone.
+    fn word(word: Word) -> Told {
+        Told { word, data: Vec::new() }
+    }
 }
 
 /// The eight instructions.
@@ -58,24 +91,27 @@ impl Instruction {
 }
 
 /// Runs one command. An unsound image is found before any look at the
-/// command; a refusal leaves the image as it came.
-pub fn command(image: &mut [u8], command: &[u8], state: &State) -> Outcome {
+/// command; a refusal leaves image and response buffer as they came, and so
+/// does a buffer too short for the data, which is found last.
+pub fn command(image: &mut [u8], command: &[u8], response: &mut [u8], state: &State) -> Outcome {
     let Some(mut card) = sound_card(image) else {
-        return Outcome { answer: UNSOUND, word: NO_WORD };
+        return Outcome::wordless(UNSOUND);
     };
-    let word = match judge(&mut card, command, state) {
-        Ok(word) => {
-            image.copy_from_slice(&card.encode());
-            word
-        }
-        Err(refusal) => refusal,
+    let told = match judge(&mut card, command, state) {
+        Ok(told) => told,
+        Err(refusal) => return Outcome { answer: DONE, word: refusal, data: 0 },
     };
-    Outcome { answer: DONE, word }
+    let Some(place) = response.get_mut(..told.data.len()) else {
+        return Outcome::wordless(SHORT_BUFFER);
+    };
+    place.copy_from_slice(&told.data);
+    image.copy_from_slice(&card.encode());
+    Outcome { answer: DONE, word: told.word, data: told.data.len() }
 }
 
 /// Steps A to L. `Ok` means that the card now has the command's effect;
 /// after `Err` the card is not looked at again.
-fn judge(card: &mut Card, command: &[u8], state: &State) -> Result<Word, Word> {
+fn judge(card: &mut Card, command: &[u8], state: &State) -> Result<Told, Word> {
     step_a_four_bytes(command)?;
     step_b_class(byte(command, 0))?;
     let instruction = step_c_instruction(byte(command, 1))?;
@@ -84,8 +120,8 @@ fn judge(card: &mut Card, command: &[u8], state: &State) -> Result<Word, Word> {
     step_f_parameters(instruction, number16(command, 2))?;
     step_g_length(instruction, command)?;
     let data = rest(command, 5);
-    match instruction {
-        Instruction::Select => select::run(card, number16(data, 0)),
+    let word = match instruction {
+        Instruction::Select => return select::run(card, number16(data, 0), wants_data(command)),
         Instruction::Create => create::run(card, data, state),
         Instruction::Delete => delete::run(card, number16(data, 0), state),
         Instruction::Activate => change::activate(card, state),
@@ -93,7 +129,8 @@ fn judge(card: &mut Card, command: &[u8], state: &State) -> Result<Word, Word> {
         Instruction::TerminateEf => change::terminate_ef(card, state),
         Instruction::TerminateDf => change::terminate_df(card, state),
         Instruction::TerminateCard => change::terminate_card(card, state),
-    }
+    };
+    word.map(Told::word)
 }
 
 fn step_a_four_bytes(command: &[u8]) -> Result<(), Word> {
@@ -134,21 +171,30 @@ fn step_e_channels(instruction: Instruction, state: &State) -> Result<(), Word> 
 }
 
 fn step_f_parameters(instruction: Instruction, parameters: u16) -> Result<(), Word> {
-    let wanted = match instruction {
-        Instruction::Select => 0x000C,
-        _ => 0x0000,
+    let wanted: &[u16] = match instruction {
+        Instruction::Select => &[SELECT_WITHOUT_DATA, SELECT_WITH_FCP],
+        _ => &[0x0000],
     };
-    refuse_if(parameters != wanted, WRONG_PARAMETERS)
+    refuse_if(!wanted.contains(&parameters), WRONG_PARAMETERS)
 }
 
+/// The length of SELECT goes by P2: where data are wanted, Le follows.
 fn step_g_length(instruction: Instruction, command: &[u8]) -> Result<(), Word> {
     let lc = byte(command, 4);
     let good = match instruction {
         Instruction::Create => lc >= 1 && command.len() == 5 + usize::from(lc),
+        Instruction::Select if wants_data(command) => {
+            lc == 2 && command.len() == 8 && byte(command, 7) == LE_ALL
+        }
         Instruction::Select | Instruction::Delete => lc == 2 && command.len() == 7,
         _ => command.len() == 4,
     };
     refuse_if(!good, WRONG_LENGTH)
+}
+
+/// Whether a SELECT, by its P2, wants the selected file's template.
+fn wants_data(command: &[u8]) -> bool {
+    number16(command, 2) == SELECT_WITH_FCP
 }
 
 /// A step's refusal.

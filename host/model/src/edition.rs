@@ -3,7 +3,7 @@
 //! 01, "Image": version 1, and header bytes 11 to 15 are zero.
 
 /// How many tickets the model contains; names the vectors it is tested with.
-pub const LEVEL: u8 = 1;
+pub const LEVEL: u8 = 2;
 
 /// The form of a compact rule, as the vectors number the forms. The level
 /// knows no other: a rule of another form is malformed and fit for no record.

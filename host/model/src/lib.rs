@@ -18,6 +18,7 @@
 //! | maker, report, replay | [`maker`], [`mod@report`], [`mod@replay`] |
 //! | steps A to G of a command | [`mod@command`] |
 //! | steps H to L of each command | [`commands`] |
+//! | CREATE's data, SELECT's answer | [`template`], [`fcp`] |
 //! | demand 3's ledger | [`ledger`] |
 //! | the line format of the vectors, and where they lie | [`lines`], [`vectors`] |
 
@@ -40,6 +41,7 @@ pub mod command;
 pub mod commands;
 pub mod descriptor;
 pub mod edition;
+pub mod fcp;
 pub mod ledger;
 pub mod life_cycle;
 pub mod lines;

@@ -6,7 +6,7 @@ use crate::bytes::byte;
 use crate::edition::{Edition, COMPACT_FORM};
 use crate::rule::{self, Right};
 use crate::security::State;
-use crate::{command, make, replay, report};
+use crate::{command, make, replay, report, Outcome};
 
 /// A case of the vectors, without its result.
 #[derive(Clone, PartialEq, Eq, Debug)]
@@ -30,7 +30,7 @@ pub enum Case {
         state: State,
         /// A pool, which stays as it came on a card without bodies.
         pool: Vec<u8>,
-        /// A response buffer, which stays as it came.
+        /// The lent response buffer.
         response: Vec<u8>,
     },
     /// R: a report.
@@ -64,14 +64,14 @@ pub enum Case {
 }
 
 impl Case {
-    /// A command without pool and response buffer.
-    pub fn command(image: &[u8], command: &[u8], state: State) -> Case {
+    /// A command without a pool.
+    pub fn command(image: &[u8], command: &[u8], response: &[u8], state: State) -> Case {
         Case::Command {
             image: image.to_vec(),
             command: command.to_vec(),
             state,
             pool: Vec::new(),
-            response: Vec::new(),
+            response: response.to_vec(),
         }
     }
 
@@ -139,11 +139,11 @@ impl Case {
                 format!("M {answer} {}", hex(&buffer))
             }
             Case::Command { image, command: bytes, state, pool, response } => {
-                let mut image = image.clone();
-                let outcome = command(&mut image, bytes, state);
-                let (answer, word, image) = (outcome.answer, outcome.word, hex(&image));
-                let (pool, response) = (hex(pool), hex(response));
-                format!("C {answer} {word:04X} {image} {pool} {response} 0 0 0")
+                let (mut image, mut response) = (image.clone(), response.clone());
+                let outcome = command(&mut image, bytes, &mut response, state);
+                let Outcome { answer, word, data } = outcome;
+                let (image, pool, response) = (hex(&image), hex(pool), hex(&response));
+                format!("C {answer} {word:04X} {image} {pool} {response} {data} 0 0")
             }
             Case::Report { image } => {
                 let (answer, [total, room, children, beneath]) = report(image);

@@ -6,6 +6,7 @@ use crate::bytes::{number16, number32, part, rest};
 use crate::card::{HEADER_BYTES, MOST_SLOTS};
 use crate::command::command;
 use crate::edition::Edition;
+use crate::fcp;
 use crate::maker::make;
 use crate::record::RECORD_BYTES;
 use crate::security::State;
@@ -45,8 +46,10 @@ fn fresh_image(input: &[u8]) -> Option<Vec<u8>> {
 }
 
 /// One line a command; `CUT` as the last line where a command or its length
-/// is cut short.
+/// is cut short. The response buffer is long enough for every template, so
+/// that each line is a word.
 fn run_commands(image: &mut [u8], stream: &[u8]) -> Vec<u8> {
+    let mut response = [0; fcp::MOST_BYTES];
     let mut out = Vec::new();
     let mut left = stream;
     while !left.is_empty() {
@@ -54,7 +57,7 @@ fn run_commands(image: &mut [u8], stream: &[u8]) -> Vec<u8> {
             out.extend(b"CUT\n");
             break;
         };
-        let outcome = command(image, bytes, &State::FULL);
+        let outcome = command(image, bytes, &mut response, &State::FULL);
         out.extend(format!("{:04X}\n", outcome.word).bytes());
         left = after;
     }

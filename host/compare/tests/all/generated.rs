@@ -37,10 +37,12 @@ fn tally_of(told: &str) -> Tally {
     let number = |part: &str| part.parse().ok();
     let numbers: Vec<u64> =
         counts.split(|c: char| !c.is_ascii_digit()).filter_map(number).collect();
-    let [cases, commands, effects, ledger_steps, makes, reports, replays] = numbers[..] else {
+    let &[cases, commands, effects, ledger_steps, templates, made_again, makes, reports, replays] =
+        numbers.as_slice()
+    else {
         panic!("not a tally: {counts}");
     };
-    Tally { cases, makes, commands, effects, reports, replays, ledger_steps }
+    Tally { cases, makes, commands, effects, reports, replays, ledger_steps, templates, made_again }
 }
 
 #[test]
@@ -53,8 +55,10 @@ fn a_tally_is_read_as_it_is_told() {
         reports: 5,
         replays: 6,
         ledger_steps: 7,
+        templates: 8,
+        made_again: 9,
     };
-    assert_eq!(tally_of(&format!("seed 8: all agree in 9.0 s: {tally}\n")), tally);
+    assert_eq!(tally_of(&format!("seed 10: all agree in 11.0 s: {tally}\n")), tally);
 }
 
 #[test]
@@ -82,6 +86,7 @@ fn two_hundred_thousand_commands_agree() {
     assert!(tally.commands >= 200_000, "{tally}");
     assert!(tally.effects * 3 > tally.commands, "too few commands had an effect: {tally}");
     assert!(tally.ledger_steps * 2 > tally.commands, "too few beside the ledger: {tally}");
+    assert!(tally.templates > 10_000 && tally.made_again > 5_000, "{tally}");
     let others = [tally.makes, tally.reports, tally.replays];
     assert!(others.iter().all(|&count| count > 1000), "{tally}");
 }

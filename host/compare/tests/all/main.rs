@@ -2,12 +2,16 @@
 
 #![forbid(unsafe_code)]
 
+mod again;
 mod generated;
+mod impostor;
 mod impostors;
 mod ledger;
 mod program;
 mod smaller;
 mod vectors;
+mod wrong_answers;
+mod wrong_templates;
 
 /// Prints a line past the capture of the test harness.
 fn say(line: &str) {

@@ -5,7 +5,7 @@ use cases::damage::{damaged, Field};
 use cases::images::sound_image;
 use cases::random::Random;
 use cases::worst;
-use compare::smaller::{cut, freed, lifted, packed, slots_of, tightened};
+use compare::smaller::{cut, freed, lifted, packed, short_records, slots_of, tightened};
 use model::soundness::{sound, sound_card};
 use model::Card;
 
@@ -50,6 +50,18 @@ fn tightening_keeps_an_image_sound() {
         }
     }
     assert!(made > 200, "{made}");
+}
+
+#[test]
+fn short_records_keep_an_image_sound() {
+    let mut changed = 0;
+    for image in images() {
+        let smaller = short_records(&image).expect("it is an image");
+        let card = sound_card(&smaller).unwrap_or_else(|| panic!("{smaller:02X?}"));
+        assert!(card.records.iter().all(|record| record.record_length <= 1));
+        changed += usize::from(smaller != image);
+    }
+    assert!(changed > 50, "{changed}");
 }
 
 /// Whether two files of one directory, or a file and a directory above it, have
@@ -117,6 +129,7 @@ fn any_bytes_give_an_image_or_nothing() {
             packed(&bytes, slot),
             tightened(&bytes, random.number32()),
             tightened(&bytes, 64),
+            short_records(&bytes),
         ];
         for image in all.into_iter().flatten() {
             assert!(image.len() <= bytes.len());

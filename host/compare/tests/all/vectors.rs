@@ -5,7 +5,7 @@ use std::collections::BTreeMap;
 
 use crate::say;
 use compare::vectors::check_vectors;
-use compare::{Proved, Subject};
+use compare::{Proved, Subject, Told};
 use model::vectors::{case_lines, shared_file, shared_text, stored_text};
 use model::State;
 
@@ -37,7 +37,7 @@ fn every_shared_case_agrees() {
             say(&format!("SKIPPED: the shared vectors against the proved card: {reason}"));
         }
         Ok(text) => {
-            let counts = all_agree(&text, 50);
+            let counts = all_agree(&text, 30);
             let all: usize = counts.values().sum();
             say(&format!("shared vectors: {all} agree with the proved card {counts:?}"));
         }
@@ -52,8 +52,14 @@ impl Subject for OneMore {
         Proved.make(buffer, total, rule)
     }
 
-    fn command(&self, image: &mut [u8], command: &[u8], state: &State) -> (u32, u16) {
-        Proved.command(image, command, state)
+    fn command(
+        &self,
+        image: &mut [u8],
+        command: &[u8],
+        response: &mut [u8],
+        state: &State,
+    ) -> Told {
+        Proved.command(image, command, response, state)
     }
 
     fn report(&self, image: &[u8]) -> (u32, [u32; 4]) {

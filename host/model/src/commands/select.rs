@@ -1,21 +1,27 @@
-//! SELECT by identifier: 01, "SELECT". It skips steps J and K.
+//! SELECT by identifier: 01, "SELECT"; 02, Ticket 2. It skips steps J and K.
 
 use crate::card::{Card, ROOT};
-use crate::life_cycle;
+use crate::command::Told;
 use crate::words::{Word, FILE_NOT_FOUND, SELECTED_DEACTIVATED, SELECTED_TERMINATED, SUCCESS};
+use crate::{fcp, life_cycle};
 
-/// Step I, then the effect. The word goes by the selected file's own life
-/// cycle alone.
-pub fn run(card: &mut Card, identifier: u16) -> Result<Word, Word> {
+/// Step I, then the effect. Word and data go by the selected file alone.
+pub fn run(card: &mut Card, identifier: u16, wants_data: bool) -> Result<Told, Word> {
     let slot = step_i_file(card, identifier)?;
     card.make_current(slot);
-    let life_cycle = card.record(slot).life_cycle;
+    let file = card.record(slot);
+    let data = if wants_data { fcp::template(file) } else { Vec::new() };
+    Ok(Told { word: word_for(file.life_cycle), data })
+}
+
+/// The word that tells the selected file's own life cycle.
+fn word_for(life_cycle: u8) -> Word {
     if life_cycle::is_deactivated(life_cycle) {
-        Ok(SELECTED_DEACTIVATED)
+        SELECTED_DEACTIVATED
     } else if life_cycle::is_terminated(life_cycle) {
-        Ok(SELECTED_TERMINATED)
+        SELECTED_TERMINATED
     } else {
-        Ok(SUCCESS)
+        SUCCESS
     }
 }
 

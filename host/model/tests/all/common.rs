@@ -9,6 +9,9 @@ use model::{command, make, State, Word};
 /// Everything always: the rule of replay's root.
 pub const OPEN: &str = "7F00000000000000";
 
+/// What fills a response buffer.
+pub const MARK: u8 = 0xA5;
+
 /// Prints a line past the capture of the test harness.
 pub fn say(line: &str) {
     let _ = writeln!(std::io::stderr(), "{line}");
@@ -31,11 +34,23 @@ pub fn roomy(slots: usize) -> Vec<u8> {
     fresh(slots, 64 * (slots as u32 - 1), OPEN)
 }
 
-/// Runs one command under a state and gives its word; the image is sound.
-pub fn run_under(image: &mut [u8], text: &str, state: &State) -> Word {
-    let outcome = command(image, &bytes(text), state);
+/// Runs one command under a state and gives its word and its data; the image
+/// is sound, and the response buffer long and full of a mark, which stays past
+/// the data.
+pub fn ask_under(image: &mut [u8], text: &str, state: &State) -> (Word, Vec<u8>) {
+    let mut response = [MARK; 256];
+    let outcome = command(image, &bytes(text), &mut response, state);
     assert_eq!(outcome.answer, 0, "{text} on a sound image");
-    outcome.word
+    let (data, past) = response.split_at(outcome.data);
+    assert!(past.iter().all(|&b| b == MARK), "{text} wrote past its data");
+    (outcome.word, data.to_vec())
+}
+
+/// Runs one command that gives no data and gives its word.
+pub fn run_under(image: &mut [u8], text: &str, state: &State) -> Word {
+    let (word, data) = ask_under(image, text, state);
+    assert_eq!(data, [], "{text} gives no data");
+    word
 }
 
 /// Runs one command with full sets and no other channel.
@@ -87,6 +102,11 @@ pub fn create_ef_with(identifier: &str, life_cycle: u8) -> String {
 /// SELECT by identifier.
 pub fn select(identifier: &str) -> String {
     format!("00A4000C02{identifier}")
+}
+
+/// SELECT that wants the template.
+pub fn select_fcp(identifier: &str) -> String {
+    format!("00A4000402{identifier}00")
 }
 
 /// DELETE FILE.

@@ -12,7 +12,7 @@ fn follow(image: &mut [u8], ledger: &mut Ledger, commands: &[String]) {
     for text in commands {
         let bytes = bytes(text);
         let before = current_df_slot(image);
-        let word = command(image, &bytes, &State::FULL).word;
+        let word = command(image, &bytes, &mut [], &State::FULL).word;
         assert!(ledger.agrees(&bytes, word, before), "{text} answered {word:04X}");
         let after = current_df_slot(image);
         ledger.enter(&bytes, word, before, after);

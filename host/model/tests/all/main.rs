@@ -5,6 +5,7 @@
 
 mod common;
 mod create_data;
+mod fcp;
 mod ledger;
 mod life_cycle;
 mod no_panic;

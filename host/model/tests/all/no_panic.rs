@@ -46,9 +46,12 @@ fn call_with_image(image: &[u8], random: &mut Random) {
     let bytes = random.bytes(40);
     let state = random.state();
     let mut after = image.to_vec();
-    let outcome = command(&mut after, &bytes, &state);
-    assert!(outcome.answer <= 1);
+    let mut response = random.bytes(60);
+    let outcome = command(&mut after, &bytes, &mut response, &state);
+    assert!([0, 1, 5].contains(&outcome.answer));
+    assert!(outcome.data <= response.len());
     assert_eq!(after.len(), image.len());
+    select_with_templates(image, random);
     assert_eq!(report(image).0 == 0, sound(image));
     let _ = ledger::current_df_slot(image);
     if let Some(card) = Card::decode(image) {
@@ -66,6 +69,19 @@ fn call_with_image(image: &[u8], random: &mut Random) {
     }
 }
 
+/// SELECT of the root and of any record's identifier, with any buffer.
+fn select_with_templates(image: &[u8], random: &mut Random) {
+    let at = random.below(image.len() + 1);
+    for identifier in [0x3F00, numbers::number16(image, at)] {
+        let mut bytes = bytes("00A4000402");
+        bytes.extend(identifier.to_be_bytes());
+        bytes.push(0);
+        let mut response = random.bytes(60);
+        let outcome = command(&mut image.to_vec(), &bytes, &mut response, &State::FULL);
+        assert!(outcome.data <= response.len());
+    }
+}
+
 /// Calls everything that takes any bytes.
 fn call_with_bytes(bytes: &[u8], random: &mut Random) {
     let state = random.state();
@@ -75,7 +91,11 @@ fn call_with_bytes(bytes: &[u8], random: &mut Random) {
     let _ = Right::ALL.map(|right| rule::grants(bytes, right, &state));
     let _ = template::read(bytes, Edition::BASE);
     let _ = ledger::announced(bytes);
-    let _ = Record::decode(bytes, Edition::BASE);
+    if let Some(record) = Record::decode(bytes, Edition::BASE) {
+        let _ = fcp::template(&record);
+    }
+    let unsound = Record { rule: bytes.to_vec(), size: u32::MAX, ..Record::FREE };
+    let _ = fcp::template(&unsound);
     for at in [0, bytes.len(), random.below(70), usize::MAX] {
         let _ = (numbers::byte(bytes, at), numbers::number16(bytes, at));
         let _ = (numbers::number32(bytes, at), numbers::rest(bytes, at));

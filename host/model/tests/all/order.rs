@@ -88,8 +88,19 @@ fn step_f_comes_before_the_length() {
             gives(&closed(), &format!("00{ins}{parameters}0102"), &State::FULL, WRONG_PARAMETERS);
         }
     }
-    for parameters in ["0000", "010C", "040C", "000D", "0004", "008C"] {
+    for parameters in ["0000", "010C", "040C", "000D", "008C", "0104", "0404", "0005", "0084"] {
         gives(&closed(), &format!("00A4{parameters}0102"), &State::FULL, WRONG_PARAMETERS);
+    }
+}
+
+#[test]
+fn step_f_takes_0c_and_04_of_all_parameters() {
+    for parameters in 0..=u16::MAX {
+        let wanted = match parameters {
+            0x000C | 0x0004 => WRONG_LENGTH,
+            _ => WRONG_PARAMETERS,
+        };
+        gives(&roomy(2), &format!("00A4{parameters:04X}"), &State::FULL, wanted);
     }
 }
 
@@ -114,6 +125,16 @@ fn step_g_comes_before_the_data() {
         "00A4000C02AAAA00",
         "00A4000C03AAAA",
         "00A4000C01AA",
+        "00A40004",
+        "00A4000400",
+        "00A4000402AA",
+        "00A4000402AAAA",
+        "00A4000402AAAA01",
+        "00A4000402AAAAFF",
+        "00A4000402AAAA0000",
+        "00A4000403AAAA00",
+        "00A4000401AA00",
+        "00A4000400AAAA00",
         "0044000000",
         "0004000000",
         "00E8000000",
@@ -135,6 +156,7 @@ fn step_i_comes_before_security() {
     gives(&closed(), &delete("6F08"), &State::FULL, FILE_NOT_FOUND);
     gives(&closed(), &delete("6F07"), &State::FULL, SECURITY_NOT_SATISFIED);
     gives(&closed(), &select("6F08"), &State::FULL, FILE_NOT_FOUND);
+    gives(&closed(), &select_fcp("6F08"), &State::FULL, FILE_NOT_FOUND);
     let mut no_ef = closed();
     assert_eq!(run(&mut no_ef, &select("3F00")), SUCCESS);
     gives(&no_ef, TERMINATE_EF, &State::FULL, NO_CURRENT_EF);

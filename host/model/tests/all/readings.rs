@@ -1,6 +1,7 @@
 //! The readings that a case can show: A1 to A33 of the base, A36 of Ticket 1,
-//! which docs/DECISIONS.md has in words. Those on soundness are in soundness.rs, on CREATE's data in
-//! create_data.rs, on the order in order.rs, on replay in scope.rs.
+//! which docs/DECISIONS.md has in words. Those on soundness are in
+//! soundness.rs, on CREATE's data in create_data.rs, on the order in order.rs,
+//! on replay in scope.rs, on Ticket 2 (A35, A37 to A41) in fcp.rs.
 
 use crate::common::*;
 use model::edition::Edition;

@@ -39,10 +39,15 @@ fn unsound(position: usize, new: &str) {
     let mut image = changed(position, new);
     assert!(!sound(&image), "byte {position} := {new} should be unsound");
     let before = image.clone();
-    let outcome = command(&mut image, &bytes(&select("3F00")), &State::FULL);
-    assert_eq!((outcome.answer, outcome.word), (1, 0));
-    assert_eq!(command(&mut image, &[], &State::FULL).answer, 1);
-    assert_eq!(image, before, "an unsound image stays as it came");
+    for text in [&select("3F00"), &select_fcp("3F00"), "-"] {
+        for length in [0, 64] {
+            let mut response = vec![MARK; length];
+            let outcome = command(&mut image, &bytes(text), &mut response, &State::FULL);
+            assert_eq!((outcome.answer, outcome.word, outcome.data), (1, 0, 0));
+            assert_eq!(image, before, "an unsound image stays as it came");
+            assert_eq!(response, vec![MARK; length], "and so does the response buffer");
+        }
+    }
     assert_eq!(report(&image), (1, [0; 4]));
 }
 

@@ -78,31 +78,57 @@ fn the_stored_cases_hold_every_word_and_answer() {
         let sign = format!(" > C 0 {word:04X} ");
         assert!(text.contains(&sign), "no stored case with word {word:04X}");
     }
-    for sign in ["C 1 0000", "M 0", "M 2", "M 3", "M 4", "R 0", "R 1", "W 0", "W 1"] {
+    for sign in ["C 1 0000", "C 5 0000", "M 0", "M 2", "M 3", "M 4", "R 0", "R 1", "W 0", "W 1"] {
         assert!(text.contains(&format!(" > {sign}")), "no stored case with {sign}");
     }
     assert!(text.contains(" > E malformed"), "no stored malformed rule");
 }
 
+/// The shared cases of this level have no DEACTIVATE of either byte; that is in
+/// life_cycle.rs.
 #[test]
 fn the_stored_cases_show_06_and_07() {
     let text = stored_text().expect("the stored cases are there");
     let stored: BTreeSet<String> = case_lines(&text).map(sort_of).collect();
     for sort in [
-        "C A4 0 6283 06",
-        "C A4 0 9000 07",
+        "C A4 0C 0 6283 06",
+        "C A4 0C 0 9000 07",
         "C E0 0 6985 in 06",
         "C E0 0 9000 in 07",
         "C E0 0 9000 of 06",
         "C E0 0 9000 of 07",
         "C 44 0 9000 06",
-        "C 04 0 9000 07",
-        "C 04 0 6985 06",
+        "C 44 0 6985 07",
         "C E8 0 9000 06",
         "C E8 0 9000 07",
         "C E6 0 9000 07",
     ] {
         assert!(stored.contains(sort), "no stored case of sort {sort}");
+    }
+}
+
+#[test]
+fn the_stored_cases_show_templates() {
+    let text = stored_text().expect("the stored cases are there");
+    let stored: BTreeSet<String> = case_lines(&text).map(sort_of).collect();
+    for sort in [
+        "C A4 04 0 9000 DF",
+        "C A4 04 0 9000 named DF",
+        "C A4 04 0 9000 EF",
+        "C A4 04 0 9000 records",
+        "C A4 04 0 6A82",
+        "C A4 04 0 6700 7 bytes",
+        "C A4 04 0 6700 8 bytes",
+        "C A4 0C 0 6700 8 bytes",
+        "C A4 04 5 0000 none",
+        "C A4 04 5 0000 short",
+        "C A4 04 1 0000",
+    ] {
+        assert!(stored.contains(sort), "no stored case of sort {sort}");
+    }
+    for word in ["6283", "6285"] {
+        let some = format!("C A4 04 0 {word} ");
+        assert!(stored.iter().any(|sort| sort.starts_with(&some)), "no template with {word}");
     }
 }
 
@@ -145,9 +171,31 @@ fn met_with_b2(instruction: &str, case: &str, result: &str) -> String {
     with_b2.map(|(how, byte)| format!("{how} {byte:02X}")).collect()
 }
 
+/// What a SELECT shows of Ticket 2: which file a template describes, whether
+/// a buffer that was too short was there at all, which length was wrong.
+fn met_with_fcp(case: &str, result: &str) -> String {
+    let case: Vec<&str> = case.split(' ').collect();
+    let result: Vec<&str> = result.split(' ').collect();
+    let (&[_, _, command, .., lent], &[_, answer, word, _, _, response, data, ..]) =
+        (case.as_slice(), result.as_slice())
+    else {
+        return String::new();
+    };
+    let response = from_hex(response).unwrap_or_default();
+    match (answer, word, data) {
+        ("5", _, _) => format!(" {}", if lent == "-" { "none" } else { "short" }),
+        (_, "6700", _) => format!(" {} bytes", command.len() / 2),
+        (_, _, "0") => String::new(),
+        _ if response.get(3) == Some(&4) => " records".to_string(),
+        _ if response.get(10) == Some(&0x84) => " named DF".to_string(),
+        _ if response.get(4).is_some_and(|byte| byte & 0x38 == 0x38) => " DF".to_string(),
+        _ => " EF".to_string(),
+    }
+}
+
 /// What a line shows, so that one of each sort is stored: the kind, the
 /// result's head, and of a command its instruction and what it met of 06 and
-/// 07.
+/// 07; of a SELECT also P2 and what it shows of templates.
 fn sort_of(line: &str) -> String {
     let (case, result) = line.split_once(" > ").unwrap_or((line, ""));
     let kind: String = case.chars().take(1).collect();
@@ -155,9 +203,12 @@ fn sort_of(line: &str) -> String {
     match kind.as_str() {
         "C" => {
             let command = case.split(' ').nth(2).unwrap_or("");
-            let instruction: String = command.chars().skip(2).take(2).collect();
-            let met = met_with_b2(&instruction, case, result);
-            format!("C {instruction} {}{met}", head.join(" "))
+            let instruction = command.get(2..4).unwrap_or("");
+            let p2 = command.get(6..8).filter(|_| instruction == "A4");
+            let p2 = p2.map(|p2| format!(" {p2}")).unwrap_or_default();
+            let fcp = if p2.is_empty() { String::new() } else { met_with_fcp(case, result) };
+            let b2 = met_with_b2(instruction, case, result);
+            format!("C {instruction}{p2} {}{fcp}{b2}", head.join(" "))
         }
         "R" | "M" | "W" => format!("{kind} {}", head.first().unwrap_or(&"")),
         "Y" => format!("Y {:.8}", head.first().unwrap_or(&"")),

@@ -1,0 +1,33 @@
+//! What demand 1 says of one command, asked of what the card left: every call
+//! ends with an answer; any word but 9000, 6283 and 6285, and every answer but
+//! 0, leaves image and response buffer as they came.
+
+use model::lines::Case as Line;
+use model::words::is_success;
+
+use crate::outcome::Outcome;
+
+/// The answers that a command can give.
+const ANSWERS: [u32; 3] = [0, 1, 5];
+
+/// What is wrong with what a command gave, if anything.
+pub fn complaint(line: &Line, given: &Outcome) -> Option<String> {
+    let Line::Command { image: came, response: lent, .. } = line else { return None };
+    let Outcome::Command { told, image, response, .. } = given else { return None };
+    let [data, later @ ..] = told.numbers;
+    let data = usize::try_from(data).unwrap_or(usize::MAX);
+    if data > lent.len() {
+        return Some(format!("{data} bytes of data in a buffer of {}", lent.len()));
+    }
+    let effect = told.answer == 0 && is_success(told.word);
+    let checks = [
+        (ANSWERS.contains(&told.answer), "no answer of a command"),
+        ((told.answer == 0) == (told.word != 0), "a word exactly with answer 0"),
+        (later == [0; 2], "numbers of later tickets"),
+        (effect || image == came, "the image is left"),
+        (effect || response == lent, "the response buffer is left"),
+        (effect || data == 0, "data come with an effect alone"),
+        (response.get(data..) == lent.get(data..), "bytes past the data stay"),
+    ];
+    checks.into_iter().find(|(holds, _)| !holds).map(|(_, what)| what.to_string())
+}

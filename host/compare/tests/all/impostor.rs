@@ -1,0 +1,148 @@
+//! The model with something spoilt, and how it is found.
+
+use cases::{Generator, Kind};
+use compare::shrink::smallest;
+use compare::{check_case, Disagreement, Model, Pair, Subject, Tally, Told};
+use model::lines::Case as Line;
+use model::vectors::case_lines;
+use model::State;
+
+/// How many cases are tried.
+const CASES: usize = 1500;
+
+/// Tag and value.
+pub type Object = (u8, Vec<u8>);
+
+/// What a command came with.
+pub struct Came<'a> {
+    pub image: &'a [u8],
+    pub command: &'a [u8],
+    pub response: &'a [u8],
+    pub state: &'a State,
+}
+
+/// What the right card left, to be spoilt.
+pub struct Left<'a> {
+    pub image: &'a mut [u8],
+    pub response: &'a mut [u8],
+}
+
+/// What a wrong card does after the right one has answered.
+pub type Spoil = fn(&Came, &mut Left, Told) -> Told;
+
+/// The model with something spoilt.
+pub struct Impostor {
+    pub command: Spoil,
+    pub report: fn([u32; 4]) -> [u32; 4],
+    pub sound: fn(bool) -> bool,
+    pub make: fn(&mut [u8]),
+}
+
+pub const HONEST: Impostor =
+    Impostor { command: |_, _, told| told, report: |n| n, sound: |s| s, make: |_| {} };
+
+impl Subject for Impostor {
+    fn make(&self, buffer: &mut [u8], total: u32, rule: &[u8]) -> u32 {
+        let answer = Model.make(buffer, total, rule);
+        (self.make)(buffer);
+        answer
+    }
+
+    fn command(
+        &self,
+        image: &mut [u8],
+        command: &[u8],
+        response: &mut [u8],
+        state: &State,
+    ) -> Told {
+        let (before, lent) = (image.to_vec(), response.to_vec());
+        let told = Model.command(image, command, response, state);
+        let came = Came { image: &before, command, response: &lent, state };
+        (self.command)(&came, &mut Left { image, response }, told)
+    }
+
+    fn report(&self, image: &[u8]) -> (u32, [u32; 4]) {
+        let (answer, numbers) = Model.report(image);
+        (answer, (self.report)(numbers))
+    }
+
+    fn sound(&self, image: &[u8]) -> bool {
+        (self.sound)(Model.sound(image))
+    }
+}
+
+/// A word and nothing else.
+pub fn word(word: u16) -> Told {
+    Told { answer: 0, word, numbers: [0; 3] }
+}
+
+/// The smallest disagreement that the first cases of a seed show.
+pub fn found(pair: Pair, kind: Option<Kind>) -> Option<Disagreement> {
+    let all = kind.map_or(Generator::new(9), |kind| Generator::only(9, kind));
+    let mut tally = Tally::default();
+    let first = all.take(CASES).find_map(|made| check_case(pair, &made.case, &mut tally).err())?;
+    Some(smallest(pair, first))
+}
+
+/// The line that shows an impostor with this title. What is told of it can be
+/// read again.
+pub fn found_line(title: &str, impostor: &Impostor, kind: Option<Kind>) -> Line {
+    let pair = Pair { card: impostor, model: &Model };
+    let found = found(pair, kind).unwrap_or_else(|| panic!("not found: {title}"));
+    let told = found.to_string();
+    let again: Vec<_> = case_lines(&told).map(Line::parse).collect();
+    match found {
+        Disagreement::Line { line, .. } => {
+            assert_eq!(again, [Some(*line.clone())], "{told}");
+            *line
+        }
+        other => panic!("not one line: {other}"),
+    }
+}
+
+/// Answer 5, with everything as it came.
+pub fn too_short(came: &Came, left: &mut Left) -> Told {
+    left.image.copy_from_slice(came.image);
+    left.response.copy_from_slice(came.response);
+    Told { answer: 5, word: 0, numbers: [0; 3] }
+}
+
+/// The objects of a template.
+fn objects_of(template: &[u8]) -> Vec<Object> {
+    let mut left = &template[2..];
+    let mut objects = Vec::new();
+    while let [tag, length, ..] = *left {
+        let (object, after) = left.split_at(2 + usize::from(length));
+        objects.push((tag, object[2..].to_vec()));
+        left = after;
+    }
+    objects
+}
+
+/// The template that the right card gave with its objects changed; answer 5
+/// where the buffer is too short for that.
+pub fn respelled(
+    came: &Came,
+    left: &mut Left,
+    told: Told,
+    change: impl Fn(&mut Vec<Object>),
+) -> Told {
+    let data = told.numbers[0] as usize;
+    if data == 0 {
+        return told;
+    }
+    let mut objects = objects_of(&left.response[..data]);
+    change(&mut objects);
+    let new = cases::template::template(&objects);
+    if new.len() > left.response.len() {
+        return too_short(came, left);
+    }
+    left.response.copy_from_slice(came.response);
+    left.response[..new.len()].copy_from_slice(&new);
+    Told { numbers: [new.len() as u32, 0, 0], ..told }
+}
+
+/// The same object with another value.
+pub fn with_value(objects: &mut [Object], tag: u8, change: impl Fn(&mut Vec<u8>)) {
+    objects.iter_mut().filter(|(is, _)| *is == tag).for_each(|(_, value)| change(value));
+}
