@@ -2,15 +2,17 @@
 -- template is longer than 53 bytes.
 use mathlib.Core.Path.{_≡_, refl, ap}
 use mathlib.Core.Logic.{⊎-elim}
+use mathlib.Core.List.{List}
 use Prim.Native.Nat.{ℕ, zero, suc, _+_, _*_, _<_, _≤_}
 use native.Mathlib.Omega.{arith}
 use lib.ListN.{length-append}
 use Rattle.laws.proofs.Says.{same-or}
 use Rattle.laws.proofs.Sums.{sum-has}
 use Rattle.rules.proofs.Groups.{fits-short}
-use Rattle.image.specs.Layout.{countOf, ruleOf}
+use Rattle.image.specs.Layout.{countOf, recAt, kindOf, sizeOf, ruleOf}
 use Rattle.sound.specs.Table.{View, viewAt, chargeOf, charged}
 use Rattle.sound.specs.Kin.{Placed, Kin}
+use Rattle.sound.specs.Sound.{Sound}
 use Rattle.sound.proofs.Charges.{charge-child}
 use Rattle.fcp.specs.Template.{templateOf, bodyOf}
 use Rattle.fcp.specs.Again.{SizesFit, Longest}
@@ -38,6 +40,13 @@ pub sizes-fit : SizesFit
 sizes-fit img sound s l u =
     let at-root = within-root (countOf img) (viewAt img) (sound .kin) (viewAt img s .level) s l u refl in
     omega arith
+
+-- .. and a file but the root leaves 64 bytes more
+pub file-fits : (img : List ℕ) → Sound img → (s : ℕ) → s < countOf img → (kindOf (recAt img s) ≡ 0 → ⊥) → (s ≡ 0 → ⊥)
+    → sizeOf (recAt img s) + 64 ≤ 65408
+file-fits img sound s l u z =
+    let at-root = within-root (countOf img) (viewAt img) (sound .kin) (viewAt img s .level) s l u refl in
+    omega (arith, sound .kin .placed s l (u, z) .up)
 
 pub longest : Longest
 unfolding templateOf bodyOf

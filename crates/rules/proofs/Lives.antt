@@ -5,8 +5,13 @@ use mathlib.Core.Bool.{true}
 use mathlib.Core.Logic.{_↔_, _⊎_, inl, inr, ⊎-elim}
 use Prim.Native.Nat.{ℕ}
 use Rattle.laws.proofs.Says.{and-says, or-says, eq-says}
-use Rattle.rules.specs.Life.{lifeOf, creation, initialisation, deactivated, knownLife, newLife, canActivate}
+use Rattle.rules.specs.Life.{lifeOf, creation, initialisation, activated, deactivated, knownLife, newLife, canActivate}
 use Rattle.rules.specs.Life.{activatedByte, deactivatedByte, terminatedByte}
+
+-- the byte that ACTIVATE and the maker write is activated
+pub activated-is : lifeOf activatedByte ≡ activated
+unfolding lifeOf
+activated-is = refl
 
 pub activated-known : knownLife activatedByte ≡ true
 unfolding knownLife lifeOf

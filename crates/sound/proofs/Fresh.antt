@@ -132,7 +132,7 @@ module _ (n total : ℕ) (rule : List ℕ) (least : 2 ≤ n) (most : n ≤ 1023)
           unfold fresh freshHeader in getD-append-add first (replicate 5 0 ++ more) k 0 ∙ List·getD-append (replicate 5 0) more 0 k l
           ∙ getD-replicate 5 k 0 0 l
 
-  root : recAt (fresh n total rule) 0 ≡ recordBytes (rootHead total) [] rule
+  pub root : recAt (fresh n total rule) 0 ≡ recordBytes (rootHead total) [] rule
   unfolding fresh freshHeader recAt part
   root =
       ap (λ (x : List ℕ). take 64 x) (drop-at (freshHeader n) (recordBytes (rootHead total) [] rule ++ replicate (64 * (n - 1)) 0) 16 refl)
@@ -181,9 +181,9 @@ module _ (n total : ℕ) (rule : List ℕ) (least : 2 ≤ n) (most : n ≤ 1023)
       (ap (λ (x : View). x .parent) view-root) (ap (λ (x : View). x .level) view-root)
       (rw (ap (λ (x : View). x .size) view-root) within) (ap (λ (x : View). x .name) view-root) view-rest
 
-  df : currentDfOf (fresh n total rule) ≡ 0
+  pub root-current : currentDfOf (fresh n total rule) ≡ 0
   unfolding fresh freshHeader currentDfOf u16At
-  df = refl
+  root-current = refl
 
   ef : currentEfOf (fresh n total rule) ≡ none
   unfolding fresh freshHeader currentEfOf u16At
@@ -194,7 +194,7 @@ module _ (n total : ℕ) (rule : List ℕ) (least : 2 ≤ n) (most : n ≤ 1023)
     header = header;
     records = rw count (λ s l. own s l (same-or s 0));
     kin = rw count kin;
-    current = rw (count, df, ef)
+    current = rw (count, root-current, ef)
         (record {
           df-low = omega arith;
           df-dir = ap (λ (x : View). x .kind) view-root;

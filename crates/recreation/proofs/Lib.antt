@@ -1,0 +1,4 @@
+pub mod Top
+pub mod Told
+pub mod MadeAgain
+pub mod Somewhere

@@ -1,0 +1,151 @@
+-- The hypotheses of re-creation can be met (`welcome-somewhere`): a fresh card of 1,023 slots welcomes every file of any card but a root.
+use mathlib.Core.Path.{_≡_, refl, sym, ap, _∙_}
+use mathlib.Core.Bool.{true, cond}
+use mathlib.Core.List.{List, [], _∷_}
+use mathlib.Core.Logic.{⊎-elim}
+use Prim.Native.Nat.{ℕ, suc, _+_, _*_, _-_, _<_, _≤_}
+use native.Mathlib.Omega.{arith}
+use lib.Dec.{eqb}
+use lib.ListN.{length}
+use Rattle.laws.specs.Walks.{allBelow, anyBelow, countBelow}
+use Rattle.laws.proofs.Says.{same-or}
+use Rattle.laws.proofs.Sums.{sum-none}
+use Rattle.rules.specs.declared.Right.{Right}
+use Rattle.rules.specs.declared.Right.the-variants.{CreateDf, CreateEf}
+use Rattle.rules.specs.declared.Sets.{Sets}
+use Rattle.rules.specs.Condition.{holdsOf}
+use Rattle.rules.specs.Descriptor.{df}
+use Rattle.rules.specs.Group.{scAt, slotsOf, nextOf, groupLength, someGroup}
+use Rattle.rules.specs.Life.{lifeOf}
+use Rattle.rules.proofs.Lives.{activated-is}
+use Rattle.rules.specs.Rule.{malformedAt, wellFormed, fitsRecord, holdsAt, allowsOf, grantedOf}
+use Rattle.image.specs.Layout.{countOf, currentDfOf, recAt, kindOf, lifeCycleOf, identifierOf, sizeOf, ruleOf, recordBytes}
+use Rattle.image.proofs.Made.{life-made, rule-made}
+use Rattle.sound.specs.Table.{View, File, viewAt, up, charged, chargeOf}
+use Rattle.sound.specs.Kin.{Placed}
+use Rattle.sound.specs.Sound.{Sound}
+use Rattle.sound.specs.Kinship.{roomFor, totalFor}
+use Rattle.sound.specs.Effects.{rootHead, fresh}
+use Rattle.sound.proofs.Charges.{charge-free, charge-stranger}
+use Rattle.sound.proofs.Climbing.{up-shift}
+use Rattle.sound.proofs.Kept.{gone}
+use Rattle.sound.proofs.NewRecords.{viewMade}
+use Rattle.sound.proofs.Fresh.{count, root, root-current, view-root, view-rest, sound-fresh}
+use Rattle.fcp.proofs.Sizes.{file-fits}
+use Rattle.judge_target.specs.Target.{allowedAt}
+use Rattle.card.proofs.Steps.{cond-by}
+use Rattle.recreation.proofs.Top.{root-above}
+use Rattle.recreation.specs.Recreation.{rightOf, Retold, Welcomes, WelcomeSomewhere}
+
+-- the rule that allows everything
+abbrev allowing : List ℕ
+allowing = 0x7F ∷ 0 ∷ 0 ∷ 0 ∷ 0 ∷ 0 ∷ 0 ∷ 0 ∷ []
+
+all-fits : fitsRecord allowing ≡ true
+unfolding malformedAt nextOf someGroup wellFormed fitsRecord
+all-fits = refl
+
+all-grants : (x : Sets) (r : List ℕ) → grantedOf allowing (rightOf r) x ≡ true
+unfolding anyBelow countBelow holdsOf scAt slotsOf nextOf groupLength someGroup malformedAt wellFormed holdsAt allowsOf grantedOf
+all-grants x r = cond-by (λ (right : Right). grantedOf allowing right x ≡ true) (eqb (kindOf r) df) CreateDf CreateEf (λ q. refl) (λ q. refl)
+
+-- a fresh card with that rule
+module _ (n total : ℕ) (least : 2 ≤ n) (most : n ≤ 1023) (some : 1 ≤ total) (within : total ≤ 64 * (n - 1)) where
+  card : List ℕ
+  card = fresh n total allowing
+
+  whole : Sound card
+  unfolding card
+  whole = sound-fresh n total allowing least most some within all-fits
+
+  slots : countOf card ≡ n
+  unfolding card
+  slots = count n total allowing least most some within (omega arith) all-fits
+
+  -- its root's record, and no other
+  at-root : viewAt card 0 ≡ viewMade (rootHead total) []
+  unfolding card
+  at-root = view-root n total allowing least most some within (omega arith) all-fits
+
+  free : (t : ℕ) → t < n → (t ≡ 0 → ⊥) → viewAt card t ≡ gone
+  unfolding card
+  free = view-rest n total allowing least most some within (omega arith) all-fits
+
+  here : currentDfOf card ≡ 0
+  unfolding card
+  here = root-current n total allowing least most some within (omega arith) all-fits
+
+  its-root : recAt card 0 ≡ recordBytes (rootHead total) [] allowing
+  unfolding card
+  its-root = root n total allowing least most some within (omega arith) all-fits
+
+  nobody : (t : ℕ) → t < n → File (viewAt card) t → ⊥
+  nobody t l f = f .0 (ap (λ (x : View). x .kind) (free t l (f .1)))
+
+  -- it is empty, so its room is its total
+  all-room : roomFor n (viewAt card) 0 ≡ total
+  unfolding roomFor totalFor charged
+  all-room =
+      let none = sum-none n (λ t. chargeOf 0 t (viewAt card t))
+          (λ t l. ⊎-elim (λ e. charge-stranger 0 t (viewAt card t) (λ u z w. z e))
+          (λ z. charge-free 0 t (viewAt card t) (ap (λ (x : View). x .kind) (free t l z))) (same-or t 0))
+      in
+      omega (arith, none, ap (λ (x : View). x .size) at-root)
+
+  nameless : (t : ℕ) → t < n → viewAt card t .name ≡ []
+  nameless t l = ⊎-elim
+      (λ e. ap (λ (x : ℕ). viewAt card x .name) e ∙ ap (λ (x : View). x .name) at-root)
+      (λ z. ap (λ (x : View). x .name) (free t l z))
+      (same-or t 0)
+
+  welcomes : (img r : List ℕ) (x : Sets) → Sound img → (identifierOf r ≡ 0x3F00 → ⊥) → sizeOf r + 64 ≤ total
+      → Welcomes img card r (record { sets = x; channels = 0 })
+  unfolding allowedAt up
+  welcomes img r x sound other fits = record {
+    version = whole .header .version ∙ sym (sound .header .version);
+    alone = refl;
+    empty = λ t l f p. nobody t (rw slots at l) f;
+    active = rw here (ap lifeOf (ap lifeCycleOf its-root ∙ life-made (rootHead total) [] allowing) ∙ activated-is);
+    above = λ k a b. absurd (omega (arith, a, b, level));
+    right = rw (here, ap ruleOf its-root ∙ rule-made (rootHead total) [] allowing (omega arith)) (all-grants x r);
+    room = rw (here, slots) (omega (arith, all-room, fits));
+    identifier = λ k l e. other
+        (sym e ∙ ap (λ (j : ℕ). viewAt card (up (viewAt card) j (currentDfOf card)) .identifier) (none-above k l)
+        ∙ root-named);
+    name = λ z t l e. z (sym e ∙ nameless t (rw slots at l));
+  }
+    where
+      level : viewAt card (currentDfOf card) .level ≡ 0
+      level = ap (λ (d : ℕ). viewAt card d .level) here ∙ ap (λ (x : View). x .level) at-root
+
+      none-above : (k : ℕ) → k ≤ viewAt card (currentDfOf card) .level → k ≡ 0
+      none-above k l = omega (arith, l, level)
+
+      root-named : viewAt card (currentDfOf card) .identifier ≡ 0x3F00
+      root-named = ap (λ (d : ℕ). viewAt card d .identifier) here ∙ ap (λ (x : View). x .identifier) at-root
+
+-- no file but the root has its identifier
+not-3F00 : (img : List ℕ) → Sound img → (s : ℕ) → Retold img s → (s ≡ 0 → ⊥) → identifierOf (recAt img s) ≡ 0x3F00 → ⊥
+unfolding up
+not-3F00 img sound s file z e =
+    sound .kin .above s (file .low) (file .used, z) (viewAt img (viewAt img s .parent) .level) (omega (arith, placed .up))
+    (ap (λ (x : ℕ). viewAt img x .identifier) top ∙ sound .kin .root-identifier ∙ sym e)
+  where
+    dir : ℕ
+    dir = viewAt img s .parent
+
+    placed : Placed (countOf img) (viewAt img) s
+    placed = sound .kin .placed s (file .low) (file .used, z)
+
+    top : up (viewAt img) (suc (viewAt img dir .level)) s ≡ 0
+    top =
+        sym (up-shift (viewAt img) (viewAt img dir .level) s)
+        ∙ root-above img sound dir (placed .low) (λ q. omega (arith, q, placed .dir))
+
+pub welcome-somewhere : WelcomeSomewhere
+unfolding card
+welcome-somewhere img s x sound file z = (
+  whole 1023 65408 (omega arith) (omega arith) (omega arith) (omega arith),
+  welcomes 1023 65408 (omega arith) (omega arith) (omega arith) (omega arith) img (recAt img s) x sound (not-3F00 img sound s file z)
+  (file-fits img sound s (file .low) (file .used) z),
+)

@@ -1,0 +1,91 @@
+-- A file made again (02 Ticket 2): what SELECT told of it, sent in a CREATE FILE on another card, makes the same record there, but for
+-- parent and level. Each statement is proved in proofs/ under the same name in small letters.
+use mathlib.Core.Path.{_≡_}
+use mathlib.Core.Bool.{true, cond}
+use mathlib.Core.List.{List, [], _∷_, _++_}
+use Prim.Native.Nat.{ℕ, _+_, _/_, _%_, _<_, _≤_}
+use lib.Dec.{eqb}
+use lib.ListN.{length, take}
+use Rattle.laws.specs.Lists.{Bytes, splice}
+use Rattle.numbers.specs.Numbers.{be16}
+use Rattle.rules.specs.declared.Right.{Right}
+use Rattle.rules.specs.declared.Right.the-variants.{CreateDf, CreateEf}
+use Rattle.rules.specs.declared.Sets.{Sets}
+use Rattle.rules.specs.Descriptor.{df}
+use Rattle.rules.specs.Life.{newLife, lifeOf, activated, terminated}
+use Rattle.image.specs.Layout.{versionOf, countOf, currentDfOf, recAt, kindOf, lifeCycleOf, identifierOf, sizeOf, nameOf}
+use Rattle.sound.specs.Table.{File, viewAt, up}
+use Rattle.sound.specs.Sound.{Sound}
+use Rattle.sound.specs.Kinship.{freeSlot, roomFor}
+use Rattle.sound.specs.Effects.{fresh}
+use Rattle.fcp.specs.Template.{templateOf}
+use Rattle.fcp.specs.Again.{Sends}
+use Rattle.verdict.specs.declared.State.{State}
+use Rattle.judge_target.specs.Target.{lifeAt, allowedAt, slotIn}
+use Rattle.apdu.specs.Apdu.{instruction}
+use Rattle.card.specs.declared.Reply.the-variants.{Word}
+use Rattle.card.specs.Command.{replyOf, imageOf, responseOf}
+use Rattle.card.specs.Conditions.{FreeName, found}
+
+-- what SELECT told is the template of the file that it found
+abbrev pub SelectTold : Type 0
+SelectTold = (img c : List ℕ) (st : State) (response : List ℕ) (word told : ℕ) → Sound img → instruction c ≡ 0xA4
+    → replyOf img c st (length response) ≡ Word word told → 1 ≤ told
+    → take told (responseOf img c st response) ≡ templateOf (recAt img (found img c))
+
+-- CREATE FILE with the data s
+abbrev pub createOf : List ℕ → List ℕ
+createOf s = 0x00 ∷ 0xE0 ∷ 0x00 ∷ 0x00 ∷ length s ∷ s
+
+-- the right that it takes to create the file with record r
+abbrev pub rightOf : List ℕ → Right
+rightOf r = cond (eqb (kindOf r) df) CreateDf CreateEf
+
+-- a file of a card, whose life cycle is one that CREATE takes
+pub record Retold (img : List ℕ) (s : ℕ) : Type 0 where
+  pub low : s < countOf img
+  pub used : kindOf (recAt img s) ≡ 0 → ⊥
+  pub life : newLife (lifeCycleOf (recAt img s)) ≡ true
+
+-- THE OTHER CARD, on which the file with record r is to be made again: what the ticket asks of it, sentence by sentence
+pub record Welcomes (img other r : List ℕ) (st : State) : Type 0 where
+  -- it is of the same version
+  pub version : versionOf other ≡ versionOf img
+  -- no other channel is open
+  pub alone : st .channels / 2 % 8 ≡ 0
+  -- the current directory is empty ..
+  pub empty : (s : ℕ) → s < countOf other → File (viewAt other) s → viewAt other s .parent ≡ currentDfOf other → ⊥
+  -- .. and activated
+  pub active : lifeOf (lifeAt other (currentDfOf other)) ≡ activated
+  -- none above is terminated
+  pub above : (k : ℕ) → 1 ≤ k → k ≤ viewAt other (currentDfOf other) .level
+      → lifeOf (lifeAt other (up (viewAt other) k (currentDfOf other))) ≡ terminated → ⊥
+  -- rights and room suffice
+  pub right : allowedAt other (currentDfOf other) (rightOf r) (st .sets) ≡ true
+  pub room : sizeOf r + 64 ≤ roomFor (countOf other) (viewAt other) (currentDfOf other)
+  -- neither it nor a directory above has that identifier
+  pub identifier : (k : ℕ) → k ≤ viewAt other (currentDfOf other) .level
+      → viewAt other (up (viewAt other) k (currentDfOf other)) .identifier ≡ identifierOf r → ⊥
+  -- nor any file that name
+  pub name : FreeName other (nameOf r)
+
+-- the slot that the new file gets
+abbrev pub newSlot : List ℕ → ℕ
+newSlot other = slotIn (freeSlot (countOf other) (viewAt other))
+
+-- RE-CREATION: the template, with a C6 after 81 for a DF, gives 9000 there, and the new record is the old one but for parent and level.
+-- Nothing welcomes a root: a directory above, the other card's root, has its identifier
+abbrev pub MadeAgain : Type 0
+MadeAgain = (img : List ℕ) (s : ℕ) (sent other : List ℕ) (st : State) (response : List ℕ)
+    → Bytes img → Sound img → Retold img s → Sends (recAt img s) sent → Sound other → Welcomes img other (recAt img s) st
+    → (replyOf other (createOf sent) st (length response) ≡ Word 0x9000 0)
+    × (recAt (imageOf other (createOf sent) st (length response)) (newSlot other)
+    ≡ splice (recAt img s) 6 (be16 (currentDfOf other) ++ be16 (viewAt other (currentDfOf other) .level + 1)))
+
+-- that can be met: every file of any card but its root is welcome on a fresh card of 1,023 slots whose root allows everything
+abbrev pub largest : List ℕ
+largest = fresh 1023 65408 (0x7F ∷ 0 ∷ 0 ∷ 0 ∷ 0 ∷ 0 ∷ 0 ∷ 0 ∷ [])
+
+abbrev pub WelcomeSomewhere : Type 0
+WelcomeSomewhere = (img : List ℕ) (s : ℕ) (x : Sets) → Sound img → Retold img s → (s ≡ 0 → ⊥)
+    → Sound largest × Welcomes img largest (recAt img s) (record { sets = x; channels = 0 })
