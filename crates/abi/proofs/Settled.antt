@@ -1,8 +1,5 @@
 -- Any two results that a C function's promise allows are equal: each names one result; and the numbers that C sees.
 use mathlib.Core.Path.{_≡_, ap, _∙_}
-use mathlib.Core.Bool.{cond}
-use mathlib.Core.List.{List}
-use Prim.Native.Nat.{ℕ}
 use native.Mathlib.Omega.{arith}
 use lib.ListN.{length}
 use Rattle.card.specs.declared.Reply.{Reply}
@@ -10,7 +7,7 @@ use Rattle.card.specs.declared.Reply.the-variants.{Word, Damaged, Short}
 use Rattle.card.specs.Command.{answerNumber, answerWord, replyOf}
 use Rattle.laws.proofs.Settling.{settled, both-are, pair-settled}
 use Rattle.abi.specs.Promises.{HullCommand, HullSound, EachSettles, HullNumbers}
-use Rattle.abi.specs.Numbers.{packed}
+use Rattle.abi.specs.Numbers.{packed, toldNumbers}
 
 pub each-settles : EachSettles
 each-settles = record {
@@ -31,9 +28,9 @@ word-only Short e = absurd (omega arith)
 pub hull-numbers : HullNumbers
 unfolding replyOf
 hull-numbers = record {
-  damaged = λ img c st o r left y numbers p e. p .result ∙ rw e;
-  short = λ img c st o r left y numbers p e. p .result ∙ ap packed e;
-  word = λ img c st o r left y numbers p e. p .result ∙ word-only (replyOf img c st (length o)) e;
+  damaged = λ img c st o r left y numbers p e. (p .result ∙ rw e, p .numbers-are ∙ rw e);
+  short = λ img c st o r left y numbers p e. (p .result ∙ ap packed e, p .numbers-are ∙ ap toldNumbers e);
+  word = λ img c st o r left y numbers p e. (p .result ∙ word-only (replyOf img c st (length o)) e, p .numbers-are);
   sound = λ img r p e. p ∙ rw e;
   unsound = λ img r p e. p ∙ rw e;
 }

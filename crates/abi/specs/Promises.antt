@@ -2,7 +2,7 @@
 -- result (proofs/Settled, `each-settles`).
 use mathlib.Core.Path.{_≡_}
 use mathlib.Core.Bool.{true, false, cond}
-use mathlib.Core.List.{List}
+use mathlib.Core.List.{List, [], _∷_}
 use Prim.Native.Nat.{ℕ}
 use lib.ListN.{length}
 use Rattle.laws.specs.Settled.{Settles}
@@ -11,7 +11,7 @@ use Rattle.maker.specs.Making.{madeNumber, madeOf, leftBy}
 use Rattle.maker.specs.Reporting.{reportedNumber, numbersOf, reportedOf}
 use Rattle.verdict.specs.declared.State.{State}
 use Rattle.card.specs.declared.Reply.the-variants.{Short}
-use Rattle.card.specs.Command.{answerNumber, answerWord, replyOf, imageOf, responseOf}
+use Rattle.card.specs.Command.{answerNumber, answerWord, answerTold, replyOf, imageOf, responseOf}
 use Rattle.abi.specs.Numbers.{packed, toldNumbers}
 
 abbrev pub HullMake : List ℕ → ℕ → List ℕ → ℕ → List ℕ → Type 0
@@ -38,16 +38,17 @@ pub record EachSettles : Type 0 where
   pub report : (img : List ℕ) → Settles (ℕ × List ℕ) (λ p. HullReport img (p .0) (p .1))
   pub sound : (img : List ℕ) → Settles ℕ (HullSound img)
 
--- the numbers that C sees (`hull-numbers`): a command on a damaged image gives 65536, one whose data don't fit 327680, any other its
--- word; hull_sound gives 1 for a sound image and 0 for any other. Those of hull_make and hull_report are the maker's and the report's
+-- the numbers that C sees (`hull-numbers`): a command on a damaged image gives 65536, one whose data don't fit 327680, both with three
+-- zeros, any other its word and how many bytes were told; hull_sound gives 1 for a sound image and 0 for any other. Those of hull_make and hull_report are the maker's and the report's
 -- (maker/specs, `MakerAnswers`, `ReportAnswers`)
 pub record HullNumbers : Type 0 where
   pub damaged : (img c : List ℕ) (st : State) (response : List ℕ) (r : ℕ) (left answered numbers : List ℕ)
-      → HullCommand img c st response r left answered numbers → soundb img ≡ false → r ≡ 65536
+      → HullCommand img c st response r left answered numbers → soundb img ≡ false → (r ≡ 65536) × (numbers ≡ 0 ∷ 0 ∷ 0 ∷ [])
   pub short : (img c : List ℕ) (st : State) (response : List ℕ) (r : ℕ) (left answered numbers : List ℕ)
-      → HullCommand img c st response r left answered numbers → replyOf img c st (length response) ≡ Short → r ≡ 327680
+      → HullCommand img c st response r left answered numbers → replyOf img c st (length response) ≡ Short
+      → (r ≡ 327680) × (numbers ≡ 0 ∷ 0 ∷ 0 ∷ [])
   pub word : (img c : List ℕ) (st : State) (response : List ℕ) (r : ℕ) (left answered numbers : List ℕ)
       → HullCommand img c st response r left answered numbers → answerNumber (replyOf img c st (length response)) ≡ 0
-      → r ≡ answerWord (replyOf img c st (length response))
+      → (r ≡ answerWord (replyOf img c st (length response))) × (numbers ≡ answerTold (replyOf img c st (length response)) ∷ 0 ∷ 0 ∷ [])
   pub sound : (img : List ℕ) (r : ℕ) → HullSound img r → soundb img ≡ true → r ≡ 1
   pub unsound : (img : List ℕ) (r : ℕ) → HullSound img r → soundb img ≡ false → r ≡ 0

@@ -1,4 +1,4 @@
-// The calls as C sees them (include/hullplaiter.h): each wraps one public call and gives 01's numbers for its answer.
+// The calls as C sees them (include/hullplaiter.h): each wraps one public call and gives 01's numbers, and 02's, for its answer.
 // No call asks anything of its caller, and none keeps anything from call to call.
 ghost use Rattle.abi.specs.Numbers.{stateOf};
 ghost use Rattle.abi.specs.Promises.{HullMake, HullCommand, HullReport, HullSound};

@@ -1,6 +1,6 @@
 -- What stands where after an effect: each record, the header, the current slots; from what the verdict tells.
 use mathlib.Core.Path.{_≡_, refl, sym, ap, _∙_}
-use mathlib.Core.Bool.{Bool, true, false, cond}
+use mathlib.Core.Bool.{cond}
 use mathlib.Core.List.{List}
 use mathlib.Core.Logic.{_⊎_, ⊎-elim}
 use Prim.Native.Nat.{ℕ, _+_, _-_, _<_, _≤_}
@@ -8,13 +8,11 @@ use native.Mathlib.Omega.{arith}
 use lib.Dec.{eqb}
 use lib.ListN.{length, getD}
 use borrow.Author.Tests.{eq-eqb, ne-eqb}
-use Rattle.laws.specs.Lists.{part}
 use Rattle.laws.proofs.Says.{same-or}
 use Rattle.laws.proofs.Splices.{getD-part}
-use Rattle.rules.specs.Descriptor.{df}
 use Rattle.image.specs.declared.Head.{Head}
-use Rattle.image.specs.Layout.{base, Within, Sized, recAt, recordBytes, putRecord, setLife, setCurrent, countOf, currentDfOf}
-use Rattle.image.specs.Layout.{currentEfOf, none}
+use Rattle.image.specs.Layout.{Within, recAt, recordBytes, putRecord, setLife, countOf, currentDfOf}
+use Rattle.image.specs.Layout.{currentEfOf}
 use Rattle.image.proofs.Records.{record-same, record-other}
 use Rattle.image.proofs.Made.{length-made}
 use Rattle.image.proofs.Lives.{life-same, life-other}
@@ -22,13 +20,13 @@ use Rattle.image.proofs.Headers.{SameFront, SameHeader, same-front, same-df, sa
 use Rattle.image.proofs.Headers.{front-current, current-byte, df-current, ef-current, record-current}
 use Rattle.sound.specs.Table.{viewAt}
 use Rattle.sound.specs.Sound.{Sound}
-use Rattle.sound.specs.Kinship.{atOrBeneath, freeSlot}
+use Rattle.sound.specs.Kinship.{atOrBeneath}
 use Rattle.sound.specs.Effects.{Creates, clearBelow, created, deleted}
 use Rattle.sound.proofs.Front.{sound-sized, sound-within}
 use Rattle.sound.proofs.Cleared.{header-clear, record-clear}
 use Rattle.verdict.specs.declared.Verdict.{Verdict}
 use Rattle.verdict.specs.declared.Verdict.the-variants.{Refuse, Select, Create, Delete, SetLife}
-use Rattle.verdict.specs.Applied.{sentData, appliedOf}
+use Rattle.verdict.specs.Applied.{appliedOf}
 use Rattle.card.specs.After.{recordAfter, currentAfter, dfAfter, efAfter}
 use Rattle.card.proofs.Tells.{Tells}
 

@@ -93,7 +93,8 @@ module _ (img c : List ℕ) (st : State) (lent : ℕ) where
       × (allHold (allSteps img c st lent) ≡ false → dueOf img c st lent ≡ Refuse (firstFailing (allSteps img c st lent)))
   due-in-order =
       let e = due-judged img c st lent in
-      ((λ h. e ∙ judged-all (allSteps img c st lent) (effectOf img c st) h), (λ h. e ∙ judged-first (allSteps img c st lent) (effectOf img c st) h))
+      let steps = allSteps img c st lent in
+      ((λ h. e ∙ judged-all steps (effectOf img c st) h), (λ h. e ∙ judged-first steps (effectOf img c st) h))
 
   -- where all hold, the last check does
   all-fit : allHold (allSteps img c st lent) ≡ true → fits img c st lent ≡ true

@@ -1,14 +1,12 @@
 -- The verdict that stands (specs/Command, `dueOf`): the judged one where what it tells fits the response, else a refusal without a word.
-use mathlib.Core.Path.{_≡_, refl, sym, ap, _∙_}
-use mathlib.Core.Bool.{Bool, true, false, cond}
+use mathlib.Core.Path.{_≡_}
+use mathlib.Core.Bool.{true, false}
 use mathlib.Core.List.{List}
 use mathlib.Core.Logic.{⊎-elim}
 use Prim.Native.Nat.{ℕ, _<_, _≤_}
 use native.Mathlib.Omega.{arith}
-use lib.Dec.{eqb, leb}
 use lib.ListN.{length}
 use borrow.Author.Tests.{le-leb, lt-leb}
-use Rattle.laws.proofs.Says.{le-says}
 use Rattle.image.specs.Layout.{countOf, recAt, kindOf, none}
 use Rattle.sound.specs.Own.{Used}
 use Rattle.sound.specs.Table.{viewAt}

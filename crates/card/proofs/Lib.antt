@@ -11,5 +11,6 @@ pub mod Called
 pub mod After
 pub mod Answered
 pub mod Demands
+pub mod Obeying
 pub mod Obeyed
 pub mod Lives

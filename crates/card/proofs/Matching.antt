@@ -5,7 +5,6 @@ use mathlib.Core.Bool.{Bool, true, false, cond, _&&_, false≢true}
 use mathlib.Core.List.{List, [], _∷_, _++_}
 use mathlib.Core.Logic.{_↔_, _⊎_, inl, inr, ⊎-elim}
 use Prim.Native.Nat.{ℕ}
-use Rattle.laws.proofs.Says.{and-says}
 use Rattle.judge_target.specs.Steps.{Step, allHold}
 use Rattle.card.specs.Steps.{firstFailing}
 use Rattle.card.specs.Conditions.{Ask, Met, Refused}

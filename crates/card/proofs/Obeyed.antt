@@ -1,18 +1,18 @@
 -- Demand 2, command by command (specs/Obeyed): the steps that judging makes are the asks of specs/Conditions, in their order
 -- and with their words, and the effect is the stated one.
-use mathlib.Core.Path.{_≡_, refl, sym, ap, subst, _∙_}
+use mathlib.Core.Path.{_≡_, refl, sym, _∙_}
 use mathlib.Core.Bool.{Bool, true, false, cond, _||_, false≢true}
-use mathlib.Core.List.{List, [], _∷_, _++_}
+use mathlib.Core.List.{List, [], _∷_}
 use mathlib.Core.Logic.{_↔_, _⊎_, inl, inr, ⊎-elim}
 use Prim.Native.Nat.{ℕ, _<_, _≤_}
 use native.Mathlib.Omega.{arith}
 use lib.Dec.{eqb, leb}
 use lib.ListN.{length, getD}
-use borrow.Author.Tests.{ne-eqb, le-leb}
+use borrow.Author.Tests.{ne-eqb}
 use Rattle.laws.proofs.Says.{eq-says, le-says, or-says}
 use Rattle.laws.specs.declared.Found.{Found}
 use Rattle.laws.specs.declared.Found.the-variants.{At, Nothing}
-use Rattle.laws.specs.Lists.{part, splice}
+use Rattle.laws.specs.Lists.{part}
 use Rattle.rules.specs.Descriptor.{df}
 use Rattle.rules.specs.Life.{lifeOf}
 use Rattle.rules.proofs.Lives.{activates-says}
@@ -24,95 +24,29 @@ use Rattle.sound.proofs.Created.{name-says, room-says}
 use Rattle.create_data.specs.declared.Data.{Data}
 use Rattle.create_data.specs.declared.Data.the-variants.{Df, Ef, Bad}
 use Rattle.create_data.specs.Data.{dataOf}
-use Rattle.verdict.specs.declared.State.{State}
 use Rattle.verdict.specs.declared.Verdict.{Verdict}
 use Rattle.verdict.specs.declared.Verdict.the-variants.{Select}
 use Rattle.verdict.specs.Applied.{sentData, wordOf, appliedOf}
-use Rattle.judge_target.specs.Steps.{Step, step, allHold, Plan}
 use Rattle.judge_target.specs.Target.{currentFile, lifeAt, slotIn, selected, describes, creating as creatingIt}
 use Rattle.apdu.specs.Apdu.{classByte, instruction, sentIdentifier, isTerminate, isKnown, wantsAlone, wantsTemplate}
 use Rattle.judge_create.specs.Creation.{create}
 use Rattle.judge_commands.specs.Commands.{selectWord, selecting as selectingIt, select, delete, activate, deactivate, terminateTheEf}
 use Rattle.judge_commands.specs.Commands.{terminateTheDf, terminateTheCard}
-use Rattle.judge.specs.Shared.{laterSteps, sharedSteps}
 use Rattle.judge.specs.Judge.{lifePlan, planFor}
 use Rattle.judge_target.proofs.FromSound.{judgeable, selected-stands}
 use Rattle.fcp.specs.Template.{templateOf}
 use Rattle.effect.specs.Told.{chosen, told}
-use Rattle.card.specs.declared.Reply.the-variants.{Word}
-use Rattle.card.specs.Steps.{allSteps, effectOf, firstFailing}
-use Rattle.card.specs.Conditions.{Ask, Met, Refused, alone, parametersAre, fourBytes, knownAsks, unknownAsks, AsksTemplate, selectAsks}
+use Rattle.card.specs.Conditions.{unknownAsks, AsksTemplate}
 use Rattle.card.specs.Conditions.{createAsks, deleteAsks, activateAsks, deactivateAsks, terminateEfAsks, terminateDfAsks}
-use Rattle.card.specs.Conditions.{terminateCardAsks, found}
-use Rattle.card.specs.Obeyed.{refusal, Obeys, wordFor, selecting, telling, creating, isOneOf, SelectObeys, CreateObeys, DeleteObeys, ActivateObeys}
+use Rattle.card.specs.Conditions.{terminateCardAsks, selectAsks, found}
+use Rattle.card.specs.Obeyed.{wordFor, selecting, telling, creating, isOneOf, SelectObeys, CreateObeys}
+use Rattle.card.specs.Obeyed.{DeleteObeys, ActivateObeys}
 use Rattle.card.specs.Obeyed.{DeactivateObeys, TerminateEfObeys, TerminateDfObeys, TerminateCardObeys, OthersRefused, NoBodiesYet}
-use Rattle.card.proofs.Matching.{Reads, reads-none, reads-ask, reads-skip, reads-stop, reads-end}
-use Rattle.card.proofs.Asked.{channel-says, alive-says, none-says, takes-says, deletes-says, identifier-free}
-use Rattle.card.proofs.Asked.{is-not-says, known, calm, alone-says, parameters-say, select-parameters, data-says, select-length}
-use Rattle.card.proofs.Asked.{delete-length, four-says, file-says}
-use Rattle.card.proofs.Demands.{replies-in-order}
-
--- a command with this plan, whose steps read as these asks, and whose effect gives this word and image where all hold
-module _ (img c : List ℕ) (st : State) (response : List ℕ) (sound : Sound img) (p : Plan)
-    (is : planFor img (countOf img) (currentDfOf img) c st ≡ p) where
-  -- its last step, by what the effect tells
-  final : Step
-  final = step (leb (length (told img c (p .effect))) (length response)) 0x0000
-
-  obeys : (asks : List Ask) (word : ℕ) (left answer : List ℕ) → Reads ((sharedSteps img c st ++ p .steps) ++ (final ∷ [])) asks
-      → (Met asks → (wordOf (p .effect) ≡ word) × (appliedOf img c (p .effect) ≡ left) × (told img c (p .effect) ≡ answer))
-      → Obeys img c st response asks word left answer
-  unfolding final
-  obeys asks word left answer reads gives = record {
-    met = λ m.
-        let r = replies-in-order img c st response sound .0 (reads-them .holds m) in
-        let g = gives m in
-        let tells = ap (told img c) effect ∙ g .2 in
-        (
-          r .0 ∙ ap (λ (n : ℕ). Word n (length (told img c (effectOf img c st)))) (ap wordOf effect ∙ g .0)
-          ∙ ap (λ (l : List ℕ). Word word (length l)) tells,
-          r .1 ∙ ap (appliedOf img c) effect ∙ g .1,
-          r .2 ∙ ap (splice response 0) tells,
-        );
-    refused = λ w f.
-        let q = reads-them .first w f in
-        let r = replies-in-order img c st response sound .1 (q .0) in
-        (r .0 ∙ ap refusal (q .1), r .1, r .2);
-    always = either-way (allHold (allSteps img c st (length response))) refl;
-  }
-    where
-      reads-them : Reads (allSteps img c st (length response)) asks
-      reads-them = subst
-          (λ (q : Plan). Reads
-          ((sharedSteps img c st ++ q .steps) ++ (step (leb (length (told img c (q .effect))) (length response)) 0x0000 ∷ [])) asks)
-          (sym is) reads
-
-      effect : effectOf img c st ≡ p .effect
-      effect = ap (λ (x : Plan). x .effect) is
-
-      either-way : (b : Bool) → allHold (allSteps img c st (length response)) ≡ b → Met asks ⊎ ((w : ℕ) × Refused asks w)
-      either-way true e = inl (reads-them .met e)
-      either-way false e = inr (firstFailing (allSteps img c st (length response)), reads-them .refused e)
-
-  -- an effect that tells nothing
-  obeys-silent : (asks : List Ask) (word : ℕ) (left : List ℕ) → told img c (p .effect) ≡ [] → Reads (sharedSteps img c st ++ p .steps) asks
-      → (Met asks → (wordOf (p .effect) ≡ word) × (appliedOf img c (p .effect) ≡ left)) → Obeys img c st response asks word left []
-  unfolding final
-  obeys-silent asks word left silent reads gives =
-      let none : length (told img c (p .effect)) ≤ length response = omega (arith, ap length silent) in
-      obeys asks word left [] (reads-end _ _ _ asks (le-leb _ _ none) reads)
-      (λ m. let g = gives m in (g .0, g .1, silent))
-
--- the steps A to D of an instruction i that 01 lists
-module _ (img c : List ℕ) (st : State) (i : ℕ) (e : instruction c ≡ i) (k : isKnown i ≡ true) where
-  opens : (steps : List Step) (rest : List Ask) → Reads (laterSteps c st ++ steps) rest
-      → Reads (sharedSteps img c st ++ steps) (knownAsks img c rest)
-  opens steps rest r =
-      reads-ask _ _ _ _ _ _ (le-says _ _) refl
-      (reads-ask _ _ _ _ _ _ (channel-says (classByte c)) refl
-      (reads-ask _ _ _ _ _ _ (eq-says _ _) refl
-      (reads-skip _ _ _ _ (known c st i e k)
-      (reads-ask _ _ _ _ _ _ (alive-says img 0) refl r))))
+use Rattle.card.proofs.Matching.{reads-none, reads-ask, reads-skip, reads-stop}
+use Rattle.card.proofs.Asked.{channel-says, none-says, takes-says, deletes-says, identifier-free}
+use Rattle.card.proofs.Asked.{is-not-says, calm, alone-says, parameters-say, select-parameters, data-says, select-length}
+use Rattle.card.proofs.Asked.{delete-length, file-says}
+use Rattle.card.proofs.Obeying.{final, obeys, obeys-silent, opens, opens-anyway, opens-alone}
 
 -- what SELECT finds has a slot, the root's where nothing was found
 found-low : (img : List ℕ) → Sound img → (x : ℕ) → slotIn (selected img (countOf img) (currentDfOf img) x) < countOf img
@@ -170,7 +104,8 @@ select-obeys img c st response sound e =
 pub create-obeys : CreateObeys
 unfolding planFor isKnown wantsAlone isTerminate part
 create-obeys img c st response sound e =
-    obeys-silent img c st response sound (create img (countOf img) (currentDfOf img) (sentData c) (st .sets)) (rw e) (createAsks img c st) _ _
+    obeys-silent img c st response sound (create img (countOf img) (currentDfOf img) (sentData c) (st .sets)) (rw e)
+    (createAsks img c st) _ _
     (create-silent (dataOf (sentData c)))
     (opens img c st 0xE0 e refl _ _
     (reads-ask _ _ _ _ _ _ (alone-says c st 0xE0 e refl) refl
@@ -202,7 +137,8 @@ create-obeys img c st response sound e =
 pub delete-obeys : DeleteObeys
 unfolding planFor isKnown wantsAlone isTerminate
 delete-obeys img c st response sound e =
-    obeys-silent img c st response sound (delete img (countOf img) (currentDfOf img) (sentIdentifier c) (st .sets)) (rw e) (deleteAsks img c st) _ _ refl
+    obeys-silent img c st response sound (delete img (countOf img) (currentDfOf img) (sentIdentifier c) (st .sets)) (rw e)
+    (deleteAsks img c st) _ _ refl
     (opens img c st 0xE4 e refl _ _
     (reads-ask _ _ _ _ _ _ (alone-says c st 0xE4 e refl) refl
     (reads-ask _ _ _ _ _ _ (parameters-say c st 0xE4 e refl) refl
@@ -211,25 +147,6 @@ delete-obeys img c st response sound e =
     (reads-ask _ _ _ _ _ _ (deletes-says img (currentDfOf img) _ (st .sets)) refl
     reads-none))))))
     (λ m. (refl, refl))
-
--- the life-cycle commands have no data
-module _ (img c : List ℕ) (st : State) (i : ℕ) (e : instruction c ≡ i) (k : isKnown i ≡ true)
-    (p : eqb i 0xE0 ≡ false) (q : eqb i 0xA4 ≡ false) (r : eqb i 0xE4 ≡ false) where
-  opens-anyway : wantsAlone i ≡ false → (steps : List Step) (rest : List Ask) → Reads steps rest
-      → Reads (sharedSteps img c st ++ steps) (knownAsks img c (parametersAre c 0x00 0x00 ∷ fourBytes c ∷ rest))
-  opens-anyway w steps rest more =
-      opens img c st i e k _ _
-      (reads-skip _ _ _ _ (calm c st i e w)
-      (reads-ask _ _ _ _ _ _ (parameters-say c st i e q) refl
-      (reads-ask _ _ _ _ _ _ (four-says c i e p q r) refl more)))
-
-  opens-alone : wantsAlone i ≡ true → (steps : List Step) (rest : List Ask) → Reads steps rest
-      → Reads (sharedSteps img c st ++ steps) (knownAsks img c (alone st ∷ parametersAre c 0x00 0x00 ∷ fourBytes c ∷ rest))
-  opens-alone w steps rest more =
-      opens img c st i e k _ _
-      (reads-ask _ _ _ _ _ _ (alone-says c st i e w) refl
-      (reads-ask _ _ _ _ _ _ (parameters-say c st i e q) refl
-      (reads-ask _ _ _ _ _ _ (four-says c i e p q r) refl more)))
 
 pub activate-obeys : ActivateObeys
 unfolding planFor lifePlan isKnown wantsAlone isTerminate

@@ -1,20 +1,17 @@
 -- The words of a verdict: a refusal never says 9000, 6283 or 6285, a selection says one of them; and where all
 -- steps hold, the effect is no refusal.
-use mathlib.Core.Path.{_≡_, refl, sym, ap, _∙_}
-use mathlib.Core.Bool.{Bool, true, false, cond, not, _&&_, _||_, false≢true}
-use mathlib.Core.List.{List, [], _∷_}
+use mathlib.Core.Path.{_≡_, refl}
+use mathlib.Core.Bool.{Bool, true, false, not, _||_, false≢true}
+use mathlib.Core.List.{List}
 use mathlib.Core.Logic.{_⊎_, inl, inr, ⊎-elim}
 use Prim.Native.Nat.{ℕ}
-use native.Mathlib.Omega.{arith}
 use lib.Dec.{eqb}
 use borrow.Author.Tests.{eq-eqb}
 use Rattle.laws.proofs.Says.{and-says, not-says, or-says}
-use Rattle.rules.specs.declared.Sets.{Sets}
 use Rattle.rules.specs.Descriptor.{df}
 use Rattle.rules.specs.Life.{isDeactivated, isTerminated}
 use Rattle.image.specs.Layout.{countOf, currentDfOf}
 use Rattle.sound.specs.Table.{viewAt}
-use Rattle.sound.specs.Kinship.{freeSlot}
 use Rattle.create_data.specs.declared.Data.{Data}
 use Rattle.create_data.specs.declared.Data.the-variants.{Df, Ef, Bad}
 use Rattle.create_data.specs.Data.{dataOf}
@@ -23,10 +20,10 @@ use Rattle.verdict.specs.declared.Verdict.{Verdict}
 use Rattle.verdict.specs.declared.Verdict.the-variants.{Refuse, Select, Create, Delete, SetLife}
 use Rattle.verdict.specs.Words.{done, fileDeactivated, fileTerminated}
 use Rattle.verdict.specs.Applied.{wordOf, sentData}
-use Rattle.judge_target.specs.Steps.{allHold, Plan, followed}
+use Rattle.judge_target.specs.Steps.{allHold, Plan}
 use Rattle.apdu.specs.Apdu.{instruction}
 use Rattle.judge.specs.Shared.{sharedSteps}
-use Rattle.judge_target.specs.Target.{lifeAt, slotIn, describes, creating, selected}
+use Rattle.judge_target.specs.Target.{slotIn, describes, creating, selected}
 use Rattle.judge_commands.specs.Commands.{selectWord, selecting}
 use Rattle.judge.specs.Judge.{lifePlan, planFor, judgeFor, judgeOf}
 use Rattle.card.specs.Demands.{Succeeds}

@@ -3,7 +3,7 @@
 use mathlib.Core.Path.{_≡_, refl}
 use mathlib.Core.Bool.{true}
 use mathlib.Core.List.{List}
-use Prim.Native.Nat.{ℕ, _<_}
+use Prim.Native.Nat.{ℕ}
 use Rattle.template.specs.Objects.{bytesAt}
 use Rattle.rules.specs.Life.{knownLife}
 use Rattle.image.specs.Layout.{countOf}

@@ -1,10 +1,9 @@
 -- Which words a verdict can have, and which verdicts warn.
-use mathlib.Core.Path.{_≡_, refl, sym, ap, _∙_}
+use mathlib.Core.Path.{_≡_, refl}
 use mathlib.Core.Bool.{Bool, true, false, not, _&&_, false≢true}
 use mathlib.Core.List.{List, [], _∷_}
 use mathlib.Core.Logic.{_⊎_, inl, inr, ⊎-elim}
 use Prim.Native.Nat.{ℕ}
-use native.Mathlib.Omega.{arith}
 use lib.Dec.{eqb}
 use borrow.Author.Tests.{eq-eqb}
 use Rattle.laws.proofs.Says.{and-says, not-says, or-says}
@@ -17,9 +16,9 @@ use Rattle.create_data.specs.declared.Data.the-variants.{Df, Ef, Bad}
 use Rattle.create_data.specs.Data.{dataOf}
 use Rattle.verdict.specs.declared.State.{State}
 use Rattle.verdict.specs.declared.Verdict.{Verdict}
-use Rattle.verdict.specs.declared.Verdict.the-variants.{Refuse, Select, Create, Delete, SetLife}
+use Rattle.verdict.specs.declared.Verdict.the-variants.{Refuse}
 use Rattle.verdict.specs.Applied.{wordOf, sentData}
-use Rattle.judge_target.specs.Steps.{allHold, Plan, followed}
+use Rattle.judge_target.specs.Steps.{Plan, followed}
 use Rattle.judge_target.specs.Target.{lifeAt, creating}
 use Rattle.apdu.specs.Apdu.{instruction}
 use Rattle.judge_commands.specs.Commands.{selectWord, selecting}
@@ -27,7 +26,7 @@ use Rattle.judge.specs.Shared.{sharedSteps}
 use Rattle.judge.specs.Judge.{lifePlan, planFor, judgeFor, judgeOf}
 use Rattle.card.specs.Obeyed.{isOneOf}
 use Rattle.card.specs.Demands.{wordsOfTable}
-use Rattle.card.proofs.Steps.{cond-by, chosen-by, allWords, judged-by, followed-by}
+use Rattle.card.proofs.Steps.{cond-by, chosen-by, judged-by, followed-by}
 
 abbrev ours : ℕ → Bool
 ours w = isOneOf w wordsOfTable

@@ -1,5 +1,5 @@
--- Demands 1 and 2, as statements over what a call gives (specs/Command). Each is proved in proofs/Demands under
--- the same name in small letters. What each command asks and does stands in specs/Obeyed.
+-- Demands 1 and 2, as statements over what a call gives (specs/Command). Each is proved in proofs/Answered (demand 1, and what is told)
+-- or proofs/Demands under the same name in small letters. What each command asks and does stands in specs/Obeyed.
 use mathlib.Core.Path.{_≡_}
 use mathlib.Core.Bool.{true, false}
 use mathlib.Core.List.{List, [], _∷_}
@@ -38,7 +38,8 @@ DamagedRefused = (img c : List ℕ) (st : State) (response : List ℕ) → sound
 abbrev pub SoundAnswered : Type 0
 SoundAnswered = (img c : List ℕ) (st : State) (lent : ℕ) → soundb img ≡ true
     → (length (told img c (judgeOf img c st)) ≤ lent → answerNumber (replyOf img c st lent) ≡ 0)
-    × (lent < length (told img c (judgeOf img c st)) → (answerNumber (replyOf img c st lent) ≡ 5) × (answerWord (replyOf img c st lent) ≡ 0x0000))
+    × (lent < length (told img c (judgeOf img c st))
+    → (answerNumber (replyOf img c st lent) ≡ 5) × (answerWord (replyOf img c st lent) ≡ 0x0000))
 
 -- 9000, 6283 or 6285
 abbrev pub Succeeds : ℕ → Type 0

@@ -33,7 +33,8 @@ TransitionsWrite = (img c : List ℕ) (st : State) (lent s : ℕ) → s < countO
 -- .. so 06 and 07 come from CREATE alone: no other command brings a file to either
 abbrev pub OnlyCreated : Type 0
 OnlyCreated = (img c : List ℕ) (st : State) (lent s : ℕ) → s < countOf img → (instruction c ≡ 0xE0 → ⊥)
-    → (lifeAt (imageOf img c st lent) s ≡ 0x06) ⊎ (lifeAt (imageOf img c st lent) s ≡ 0x07) → lifeAt (imageOf img c st lent) s ≡ lifeAt img s
+    → (lifeAt (imageOf img c st lent) s ≡ 0x06) ⊎ (lifeAt (imageOf img c st lent) s ≡ 0x07)
+    → lifeAt (imageOf img c st lent) s ≡ lifeAt img s
 
 -- CREATE keeps the byte as given: where it says 9000, the new file holds the byte of object 8A
 abbrev pub KeptAsGiven : Type 0

@@ -1,6 +1,6 @@
 // The card: one command per call on an image in a lent buffer (01), with what it tells in a second one (02 Ticket 2). Soundness
 // first, then judging, then what is told, then the one effect that is due. It answers demands 1 and 2: specs/Command says what a
-// call gives, proofs/Demands that this is what the demands ask for. specs/Lives says who writes which life-cycle byte (02 Ticket 1).
+// call gives, specs/Demands and specs/Obeyed what the demands ask for. specs/Lives says who writes which life-cycle byte (02 Ticket 1).
 ghost use Rattle.card.specs.Command.{CommandPromises};
 use fcp::Written;
 use verdict::State;

@@ -37,7 +37,8 @@ fn tell_selected(response: &mut [u8], image: &[u8], command: &[u8], df: u16, ef:
 // What the verdict on the command tells, at the start of the response, whose other bytes stay; or Short, and the response as it came.
 pub fn tell(response: &mut [u8], image: &[u8], command: &[u8], verdict: Verdict) -> Written
     requires { ⌜ CanTell (now image) verdict ⌝ }
-    ensures { λ r. ⌜ Answered (told (now (image .entry)) (now (command .entry)) verdict) (now (response .entry)) (now (response .exit)) r ⌝ }
+    ensures { λ r. ⌜ Answered (told (now (image .entry)) (now (command .entry)) verdict) (now (response .entry))
+        (now (response .exit)) r ⌝ }
 {
     match verdict {
         Verdict::Refuse(word) => Written::Done(0),

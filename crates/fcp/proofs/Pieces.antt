@@ -25,13 +25,13 @@ field-short : (r : List ℕ) (n : ℕ) → length (fieldAt r n) ≤ getD r n 0
 unfolding fieldAt part
 field-short r n = rw length-take (omega arith)
 
-pub name-short : (r : List ℕ) {v : List ℕ} → v ≡ nameOf r → getD r 16 0 ≤ 16 → length v ≤ 16
+pub name-fits : (r : List ℕ) {v : List ℕ} → v ≡ nameOf r → getD r 16 0 ≤ 16 → length v ≤ 16
 unfolding nameOf
-name-short r e h = omega (arith, ap length e, field-short r 16)
+name-fits r e h = omega (arith, ap length e, field-short r 16)
 
-pub rule-short : (r : List ℕ) {v : List ℕ} → v ≡ ruleOf r → getD r 33 0 ≤ 16 → length v ≤ 16
+pub rule-fits : (r : List ℕ) {v : List ℕ} → v ≡ ruleOf r → getD r 33 0 ≤ 16 → length v ≤ 16
 unfolding ruleOf
-rule-short r e h = omega (arith, ap length e, field-short r 33)
+rule-fits r e h = omega (arith, ap length e, field-short r 33)
 
 -- d is the descriptor that was read, q whether its structure has records
 records : (r : List ℕ) {d : ℕ} {q : Bool} → d ≡ descriptorOf r → q ≡ hasRecords d → q ≡ hasRecords (descriptorOf r)
@@ -84,7 +84,8 @@ an-object (x ∷ v) n = refl
 
 module _ (r : List ℕ) {v : List ℕ} (e : v ≡ nameOf r) where
   pub no-name-told : {at : ℕ} {o : List ℕ} → at + length (nameObject r) ≤ length o → length v ≡ 0 → WroteAt at at o o (nameObject r)
-  no-name-told {at} {o} f z = same-text [] _ (nothing-written at o (omega arith)) (sym (no-object v z) ∙ ap (λ (u : List ℕ). optional 0x84 (named u)) e)
+  no-name-told {at} {o} f z =
+      same-text [] _ (nothing-written at o (omega arith)) (sym (no-object v z) ∙ ap (λ (u : List ℕ). optional 0x84 (named u)) e)
 
   pub name-told : {at to : ℕ} {o y : List ℕ} → (length v ≡ 0 → ⊥) → WroteAt at to o y (object 0x84 v) → WroteAt at to o y (nameObject r)
   name-told n w = same-text _ _ w (sym (an-object v n) ∙ ap (λ (u : List ℕ). optional 0x84 (named u)) e)

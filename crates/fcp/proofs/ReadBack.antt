@@ -95,7 +95,7 @@ module _ (r : List ℕ) (u : Used r) where
       go false p = sym (plain-length r u p)
 
 -- an EF's template as it is
-module _ (r s : List ℕ) (u : Used r) (new : newLife (lifeCycleOf r) ≡ true) (w : SendsEf r s) where
+module _ (r s : List ℕ) (u : Used r) (new : newLife (lifeCycleOf r) ≡ true) (w : SendsEf r (templateOf r) s) where
   ef-data : EfData s
   unfolding templateOf bodyOf sizeTag
   ef-data = record {
@@ -130,7 +130,7 @@ module _ (r s : List ℕ) (u : Used r) (new : newLife (lifeCycleOf r) ≡ true) 
   ef-tells Bad t g = absurd t
 
 -- a DF's with a C6
-module _ (r s : List ℕ) (u : Used r) (new : newLife (lifeCycleOf r) ≡ true) (w : SendsDf r s) where
+module _ (r s : List ℕ) (u : Used r) (new : newLife (lifeCycleOf r) ≡ true) (w : SendsDf r (templateOf r) s) where
   no-length : recordBytesOf r ≡ []
   unfolding recordBytesOf
   no-length = rw (df-no-records r u (w .kind))

@@ -4,7 +4,7 @@ use mathlib.Core.Bool.{Bool, true, false, cond, false≢true}
 use mathlib.Core.List.{List, [], _∷_}
 use Prim.Native.Nat.{ℕ, _+_, _≤_}
 use native.Mathlib.Omega.{arith}
-use lib.ListN.{length, length-take}
+use lib.ListN.{length}
 use borrow.Author.Tests.{eqb-true}
 use Rattle.laws.specs.Lists.{part}
 use Rattle.laws.proofs.Says.{either-says}
@@ -17,6 +17,7 @@ use Rattle.sound.specs.Own.{Used}
 use Rattle.sound.proofs.Created.{class-low}
 use Rattle.create_data.specs.Grammar.{optional, number}
 use Rattle.fcp.specs.Template.{recordBytesOf, named, nameObject}
+use Rattle.fcp.proofs.Pieces.{name-fits}
 
 -- a number in two bytes is read back
 pub number-back : (n : ℕ) → number (be16 n) ≡ n
@@ -29,8 +30,7 @@ named-short (x ∷ v) = omega arith
 
 module _ (r : List ℕ) (u : Used r) where
   pub name-short : length (nameOf r) ≤ 16
-  unfolding nameOf fieldAt part
-  name-short = rw length-take (omega (arith, u .name .short))
+  name-short = name-fits r refl (u .name .short)
 
   pub ef-nameless : kindOf r ≡ ef → nameOf r ≡ []
   unfolding nameOf fieldAt part

@@ -23,21 +23,21 @@ use Rattle.create_data.specs.Data.{dataOf}
 use Rattle.create_data.specs.Grammar.{DfData, EfData}
 use Rattle.fcp.specs.Template.{templateOf, withC6}
 
--- what is sent to make the file with record r again: an EF's template as it is ..
-pub record SendsEf (r s : List ℕ) : Type 0 where
+-- what is sent to make the file with record r again, of which t was told: for an EF just that ..
+pub record SendsEf (r t s : List ℕ) : Type 0 where
   pub kind : kindOf r ≡ ef
-  pub sent : s ≡ templateOf r
+  pub sent : s ≡ t
 
--- .. a DF's with a C6 of any value of at least one byte after 81. LL is 00-7F, as of all data
-pub record SendsDf (r s : List ℕ) : Type 0 where
+-- .. for a DF with a C6 of any value of at least one byte after 81. LL is 00-7F, as of all data
+pub record SendsDf (r t s : List ℕ) : Type 0 where
   pub kind : kindOf r ≡ df
   pub value : List ℕ
   pub some : 1 ≤ length value
-  pub sent : s ≡ withC6 value (templateOf r)
+  pub sent : s ≡ withC6 value t
   pub short : length s ≤ 2 + 0x7F
 
-abbrev pub Sends : List ℕ → List ℕ → Type 0
-Sends r s = SendsEf r s ⊎ SendsDf r s
+abbrev pub Sends : List ℕ → List ℕ → List ℕ → Type 0
+Sends r t s = SendsEf r t s ⊎ SendsDf r t s
 
 -- the new file x that the data s describe is the one with record r
 pub record SameFile (s r : List ℕ) (kind : ℕ) (x : NewFile) : Type 0 where
@@ -57,7 +57,8 @@ Tells s r (Ef x) = SameFile s r ef x
 
 -- the round trip: what a template says is good data, and is read as the file that it was written of
 abbrev pub ReadBack : Type 0
-ReadBack = (r s : List ℕ) → Used r → newLife (lifeCycleOf r) ≡ true → Sends r s → (DfData s ⊎ EfData s) × Tells s r (dataOf s)
+ReadBack = (r s : List ℕ) → Used r → newLife (lifeCycleOf r) ≡ true → Sends r (templateOf r) s
+    → (DfData s ⊎ EfData s) × Tells s r (dataOf s)
 
 -- the fields of record r, under another parent and level
 abbrev pub headAgain : List ℕ → ℕ → ℕ → Head

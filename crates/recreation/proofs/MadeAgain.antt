@@ -1,25 +1,22 @@
 -- Re-creation (`made-again`): CREATE's conditions hold on a card that welcomes the file, and what it makes of the data is the file's
 -- own record under another parent and level.
-use mathlib.Core.Path.{_≡_, refl, sym, ap, _∙_}
-use mathlib.Core.Bool.{Bool, true, false, cond}
-use mathlib.Core.List.{List, [], _∷_, _++_}
-use mathlib.Core.Logic.{_⊎_, inl, inr, ⊎-elim}
+use mathlib.Core.Path.{_≡_, refl, ap, subst, _∙_}
+use mathlib.Core.Bool.{Bool, true, false}
+use mathlib.Core.List.{List}
+use mathlib.Core.Logic.{_⊎_, ⊎-elim}
 use Prim.Native.Nat.{ℕ, zero, suc, _+_, _<_, _≤_}
 use native.Mathlib.Omega.{arith}
 use lib.Dec.{eqb, ltb}
 use lib.ListN.{length, getD, List·getD-eq-default}
-use borrow.Author.Tests.{eq-eqb, ne-eqb, ltb-true, ltb-false}
+use borrow.Author.Tests.{ltb-true, ltb-false}
 use Rattle.laws.specs.declared.Found.{Found}
 use Rattle.laws.specs.declared.Found.the-variants.{At, Nothing}
-use Rattle.laws.specs.Lists.{Bytes, splice}
-use Rattle.laws.proofs.Says.{same-or}
+use Rattle.laws.specs.Lists.{Bytes}
 use Rattle.laws.proofs.Firsts.{first-is}
-use Rattle.numbers.specs.Numbers.{be16}
-use Rattle.rules.specs.Descriptor.{df, ef}
-use Rattle.rules.specs.Life.{lifeOf, activated, deactivated, terminated}
+use Rattle.rules.specs.Life.{newLife, lifeOf, terminated}
 use Rattle.rules.proofs.Groups.{fits-short}
 use Rattle.image.specs.declared.Head.{Head}
-use Rattle.image.specs.Layout.{base, countOf, currentDfOf, recAt, kindOf, identifierOf, sizeOf, nameOf, ruleOf, putRecord, recordBytes}
+use Rattle.image.specs.Layout.{base, countOf, currentDfOf, recAt, lifeCycleOf, identifierOf, sizeOf, nameOf, ruleOf, recordBytes}
 use Rattle.image.proofs.Made.{length-made}
 use Rattle.image.proofs.Records.{record-same}
 use Rattle.image.proofs.Headers.{header-put, record-current}
@@ -31,7 +28,6 @@ use Rattle.sound.specs.Kinship.{freeSlot, roomFor}
 use Rattle.sound.specs.Effects.{created}
 use Rattle.sound.proofs.Front.{sound-within}
 use Rattle.sound.proofs.FullTable.{slot-exists}
-use Rattle.template.specs.Objects.{bytesAt}
 use Rattle.create_data.specs.declared.Data.{Data}
 use Rattle.create_data.specs.declared.Data.the-variants.{Df, Ef, Bad}
 use Rattle.create_data.specs.Data.{dataOf}
@@ -42,12 +38,12 @@ use Rattle.fcp.proofs.ReadBack.{read-back}
 use Rattle.fcp.proofs.RecordAgain.{record-again}
 use Rattle.verdict.specs.declared.State.{State}
 use Rattle.judge_target.specs.Target.{lifeAt, slotIn, rightFor, newIdentifier, newName, newSize}
-use Rattle.card.specs.Command.{imageOf}
-use Rattle.card.specs.Conditions.{Met, NoneTerminated, createAsks}
+use Rattle.card.specs.Conditions.{Met, NoneTerminated, createAsks, found}
 use Rattle.card.specs.Obeyed.{creating}
 use Rattle.card.proofs.Obeyed.{create-obeys}
 use Rattle.recreation.proofs.Top.{root-above}
-use Rattle.recreation.specs.Recreation.{createOf, rightOf, Retold, Welcomes, newSlot, MadeAgain}
+use Rattle.recreation.proofs.Told.{found-stands, select-told}
+use Rattle.recreation.specs.Recreation.{createOf, rightOf, Welcomes, newSlot, MadeAgain}
 
 -- what data say that tell of record r
 record Same (s r : List ℕ) (x : Data) : Type 0 where
@@ -70,7 +66,7 @@ makes other s r slot (Df x) t = cc
 makes other s r slot (Ef x) t = cc
 
 -- what is sent is some data
-sends-some : (r s : List ℕ) → Sends r s → 1 ≤ length s
+sends-some : (r s : List ℕ) → Sends r (templateOf r) s → 1 ≤ length s
 unfolding templateOf withC6
 sends-some r s w = ⊎-elim (λ e. omega (arith, ap length (e .sent))) (λ d. omega (arith, ap length (d .sent))) w
 
@@ -104,13 +100,13 @@ module _ (other : List ℕ) (sound : Sound other) where
       record-current _ _ _ (omega (arith, put .long, sound .header .long)) t (omega (arith, put .long, sound-within other sound t low .0))
       ∙ record-same other t _ (sound-within other sound t low) whole
 
-module _ (img : List ℕ) (s : ℕ) (sent other : List ℕ) (st : State) (sound : Sound img) (file : Retold img s)
-    (sends : Sends (recAt img s) sent) (whole : Sound other) (welcomes : Welcomes img other (recAt img s) st) where
-  own : Used (recAt img s)
-  own = sound .records s (file .low) .used (file .used)
+-- the file in slot s, whose template is sent
+module _ (img : List ℕ) (s : ℕ) (sent other : List ℕ) (st : State) (own : Used (recAt img s))
+    (life : newLife (lifeCycleOf (recAt img s)) ≡ true) (sends : Sends (recAt img s) (templateOf (recAt img s)) sent) (whole : Sound other)
+    (welcomes : Welcomes img other (recAt img s) st) where
 
   told : Tells sent (recAt img s) (dataOf sent)
-  told = read-back (recAt img s) sent own (file .life) sends .1
+  told = read-back (recAt img s) sent own life sends .1
 
   said : Same sent (recAt img s) (dataOf sent)
   said = same sent (recAt img s) (dataOf sent) told
@@ -130,24 +126,31 @@ module _ (img : List ℕ) (s : ℕ) (sent other : List ℕ) (st : State) (sound 
   met =
       (omega arith, ((λ k. omega (arith, k .0)), (refl, (alive,
       (welcomes .alone, ((refl, refl), ((sends-some (recAt img s) sent sends, omega arith),
-      (read-back (recAt img s) sent own (file .life) sends .0,
+      (read-back (recAt img s) sent own life sends .0,
       (rw (said .right) (welcomes .right),
       (((λ e. omega (arith, e, welcomes .active)), none-terminated),
       (rw (said .identifier) ((λ t l f p q. welcomes .empty t l f p), welcomes .identifier),
       (rw (said .name) (welcomes .name),
       (rw (said .size) (welcomes .room), tt)))))))))))))
 
+-- what was told is the template
+of-template : (r t u s : List ℕ) → t ≡ u → Sends r t s → Sends r u s
+of-template r t u s e w = subst (λ (x : List ℕ). Sends r x s) e w
+
 pub made-again : MadeAgain
-made-again img s sent other st response bytes sound file sends whole welcomes =
+made-again img c st response n sent other state buffer bytes sound said sends whole welcomes =
+    let s = found img c in
     let r = recAt img s in
-    let k = create-obeys other (createOf sent) st response whole refl .met (met img s sent other st sound file sends whole welcomes) in
-    let u = own img s sent other st sound file sends whole welcomes in
+    let file = found-stands img c st response n sound said in
+    let u = sound .records s (file .low) .used (file .used) in
+    let w = of-template r _ _ sent (select-told img c st response n sound said) sends in
+    let k = create-obeys other (createOf sent) state buffer whole refl .met (met img s sent other state u (said .life) w whole welcomes) in
     let long = sound-within img sound s (file .low) .0 in
     let slot = slot-low other whole (sizeOf r) (welcomes .room) in
     (
       k .0,
       ap (λ (x : List ℕ). recAt x (newSlot other)) (k .1 ∙ makes other sent r (newSlot other) (dataOf sent)
-      (told img s sent other st sound file sends whole welcomes))
+      (told img s sent other state u (said .life) w whole welcomes))
       ∙ new-record other whole (newSlot other) _ _ _ slot (name-short r u) (fits-short (ruleOf r) (u .formed))
       ∙ record-again r _ _ (length-record img s long) (bytes-in img s long bytes) u,
     )

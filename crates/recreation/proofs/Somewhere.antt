@@ -1,13 +1,12 @@
 -- The hypotheses of re-creation can be met (`welcome-somewhere`): a fresh card of 1,023 slots welcomes every file of any card but a root.
 use mathlib.Core.Path.{_≡_, refl, sym, ap, _∙_}
-use mathlib.Core.Bool.{true, cond}
-use mathlib.Core.List.{List, [], _∷_}
+use mathlib.Core.Bool.{true}
+use mathlib.Core.List.{List, []}
 use mathlib.Core.Logic.{⊎-elim}
 use Prim.Native.Nat.{ℕ, suc, _+_, _*_, _-_, _<_, _≤_}
 use native.Mathlib.Omega.{arith}
 use lib.Dec.{eqb}
-use lib.ListN.{length}
-use Rattle.laws.specs.Walks.{allBelow, anyBelow, countBelow}
+use Rattle.laws.specs.Walks.{anyBelow, countBelow}
 use Rattle.laws.proofs.Says.{same-or}
 use Rattle.laws.proofs.Sums.{sum-none}
 use Rattle.rules.specs.declared.Right.{Right}
@@ -35,11 +34,7 @@ use Rattle.fcp.proofs.Sizes.{file-fits}
 use Rattle.judge_target.specs.Target.{allowedAt}
 use Rattle.card.proofs.Steps.{cond-by}
 use Rattle.recreation.proofs.Top.{root-above}
-use Rattle.recreation.specs.Recreation.{rightOf, Retold, Welcomes, WelcomeSomewhere}
-
--- the rule that allows everything
-abbrev allowing : List ℕ
-allowing = 0x7F ∷ 0 ∷ 0 ∷ 0 ∷ 0 ∷ 0 ∷ 0 ∷ 0 ∷ []
+use Rattle.recreation.specs.Recreation.{rightOf, Welcomes, allowing, WelcomeSomewhere}
 
 all-fits : fitsRecord allowing ≡ true
 unfolding malformedAt nextOf someGroup wellFormed fitsRecord
@@ -47,7 +42,8 @@ all-fits = refl
 
 all-grants : (x : Sets) (r : List ℕ) → grantedOf allowing (rightOf r) x ≡ true
 unfolding anyBelow countBelow holdsOf scAt slotsOf nextOf groupLength someGroup malformedAt wellFormed holdsAt allowsOf grantedOf
-all-grants x r = cond-by (λ (right : Right). grantedOf allowing right x ≡ true) (eqb (kindOf r) df) CreateDf CreateEf (λ q. refl) (λ q. refl)
+all-grants x r =
+    cond-by (λ (right : Right). grantedOf allowing right x ≡ true) (eqb (kindOf r) df) CreateDf CreateEf (λ q. refl) (λ q. refl)
 
 -- a fresh card with that rule
 module _ (n total : ℕ) (least : 2 ≤ n) (most : n ≤ 1023) (some : 1 ≤ total) (within : total ≤ 64 * (n - 1)) where
@@ -125,17 +121,17 @@ module _ (n total : ℕ) (least : 2 ≤ n) (most : n ≤ 1023) (some : 1 ≤ tot
       root-named = ap (λ (d : ℕ). viewAt card d .identifier) here ∙ ap (λ (x : View). x .identifier) at-root
 
 -- no file but the root has its identifier
-not-3F00 : (img : List ℕ) → Sound img → (s : ℕ) → Retold img s → (s ≡ 0 → ⊥) → identifierOf (recAt img s) ≡ 0x3F00 → ⊥
+not-3F00 : (img : List ℕ) → Sound img → (s : ℕ) → s < countOf img → File (viewAt img) s → identifierOf (recAt img s) ≡ 0x3F00 → ⊥
 unfolding up
-not-3F00 img sound s file z e =
-    sound .kin .above s (file .low) (file .used, z) (viewAt img (viewAt img s .parent) .level) (omega (arith, placed .up))
+not-3F00 img sound s low file e =
+    sound .kin .above s low file (viewAt img (viewAt img s .parent) .level) (omega (arith, placed .up))
     (ap (λ (x : ℕ). viewAt img x .identifier) top ∙ sound .kin .root-identifier ∙ sym e)
   where
     dir : ℕ
     dir = viewAt img s .parent
 
     placed : Placed (countOf img) (viewAt img) s
-    placed = sound .kin .placed s (file .low) (file .used, z)
+    placed = sound .kin .placed s low file
 
     top : up (viewAt img) (suc (viewAt img dir .level)) s ≡ 0
     top =
@@ -144,8 +140,8 @@ not-3F00 img sound s file z e =
 
 pub welcome-somewhere : WelcomeSomewhere
 unfolding card
-welcome-somewhere img s x sound file z = (
+welcome-somewhere img s x sound low used z = (
   whole 1023 65408 (omega arith) (omega arith) (omega arith) (omega arith),
-  welcomes 1023 65408 (omega arith) (omega arith) (omega arith) (omega arith) img (recAt img s) x sound (not-3F00 img sound s file z)
-  (file-fits img sound s (file .low) (file .used) z),
+  welcomes 1023 65408 (omega arith) (omega arith) (omega arith) (omega arith) img (recAt img s) x sound (not-3F00 img sound s low (used, z))
+  (file-fits img sound s low used z),
 )

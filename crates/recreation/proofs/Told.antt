@@ -6,19 +6,26 @@ use mathlib.Core.Logic.{⊎-elim}
 use Prim.Native.Nat.{ℕ, _≤_}
 use native.Mathlib.Omega.{arith}
 use lib.Dec.{eqb}
-use lib.ListN.{length, getD, take, drop}
+use lib.ListN.{length, getD, take}
 use Rattle.laws.specs.Lists.{part, splice}
 use Rattle.laws.proofs.Splices.{part-splice}
-use Rattle.image.specs.Layout.{recAt}
+use Rattle.rules.specs.Life.{lifeOf}
+use Rattle.image.specs.Layout.{countOf, currentDfOf, recAt}
+use Rattle.sound.specs.Sound.{Sound}
+use Rattle.kinship.specs.Climb.{Stands}
 use Rattle.fcp.specs.Template.{templateOf}
-use Rattle.card.specs.declared.Reply.{Reply}
+use Rattle.verdict.specs.declared.State.{State}
+use Rattle.judge_target.specs.Target.{lifeAt}
+use Rattle.judge_target.proofs.FromSound.{judgeable, selected-stands}
+use Rattle.apdu.specs.Apdu.{sentIdentifier}
 use Rattle.card.specs.declared.Reply.the-variants.{Word, Short}
-use Rattle.card.specs.Command.{answerTold, replyOf, responseOf}
-use Rattle.card.specs.Conditions.{Met, Refused, selectAsks, found}
-use Rattle.card.specs.Obeyed.{refusal, telling}
+use Rattle.card.specs.Command.{answerTold, responseOf}
+use Rattle.card.specs.Conditions.{Met, selectAsks, found}
+use Rattle.card.specs.Obeyed.{refusal, Obeys, wordFor, selecting, telling}
 use Rattle.card.proofs.Obeyed.{select-obeys}
+use Rattle.card.proofs.Telling.{found-at}
 use Rattle.card.proofs.Answered.{response-stays}
-use Rattle.recreation.specs.Recreation.{SelectTold}
+use Rattle.recreation.specs.Recreation.{Told, toldBy, SelectTold}
 
 -- a refusal tells nothing
 refusal-silent : (w : ℕ) → answerTold (refusal w) ≡ 0
@@ -40,22 +47,31 @@ some-template c t h = go (eqb (getD c 3 0) 0x04) h
     go true k = refl
     go false k = absurd (omega arith)
 
+module _ (img c : List ℕ) (st : State) (response : List ℕ) (n : ℕ) (sound : Sound img) (t : Told img c st response n) where
+  obeyed : Obeys img c st response (selectAsks img c (length response)) (wordFor (lifeOf (lifeAt img (found img c))))
+      (selecting img (found img c)) (telling img c (found img c))
+  obeyed = select-obeys img c st response sound (t .select)
+
+  -- bytes were told, so all asks are met
+  asks-met : Met (selectAsks img c (length response))
+  asks-met = ⊎-elim (λ m. m)
+      (λ f. absurd (omega (arith, t .some, ap answerTold (sym (t .reply) ∙ obeyed .refused (f .0) (f .1) .0), refusal-silent (f .0))))
+      (obeyed .always)
+
+  -- .. and the file was found
+  pub found-stands : Stands img (countOf img) (found img c)
+  found-stands =
+      selected-stands img (countOf img) (currentDfOf img) (sentIdentifier c) (found img c) (judgeable img sound)
+      (found-at _ (asks-met .1 .1 .1 .1 .1 .1 .0))
+
+  told-is : toldBy img c st response n ≡ templateOf (recAt img (found img c))
+  told-is =
+      let k = obeyed .met asks-met in
+      let long : n ≡ length (telling img c (found img c)) = ap answerTold (sym (t .reply) ∙ k .0) in
+      let within = response-stays img c st response .within in
+      ap (λ (i : ℕ). take i (responseOf img c st response)) long ∙ ap (take (length (telling img c (found img c)))) (k .2)
+      ∙ take-splice response (telling img c (found img c)) (omega (arith, long, within, ap answerTold (t .reply)))
+      ∙ some-template c (templateOf (recAt img (found img c))) (omega (arith, long, t .some))
+
 pub select-told : SelectTold
-select-told img c st response word told sound e reply some = ⊎-elim asked refused (select-obeys img c st response sound e .always)
-  where
-    t : List ℕ
-    t = templateOf (recAt img (found img c))
-
-    asked : Met (selectAsks img c (length response)) → take told (responseOf img c st response) ≡ t
-    asked m =
-        let k = select-obeys img c st response sound e .met m in
-        let n : told ≡ length (telling img c (found img c)) = ap answerTold (sym reply ∙ k .0) in
-        let within = response-stays img c st response .within in
-        ap (λ (i : ℕ). take i (responseOf img c st response)) n ∙ ap (take (length (telling img c (found img c)))) (k .2)
-        ∙ take-splice response (telling img c (found img c)) (omega (arith, n, within, ap answerTold reply))
-        ∙ some-template c t (omega (arith, n))
-
-    refused : (w : ℕ) × Refused (selectAsks img c (length response)) w → take told (responseOf img c st response) ≡ t
-    refused m =
-        let k = select-obeys img c st response sound e .refused (m .0) (m .1) in
-        absurd (omega (arith, ap answerTold (sym reply ∙ k .0), refusal-silent (m .0)))
+select-told img c st response n sound t = told-is img c st response n sound t

@@ -27,12 +27,6 @@ use Rattle.card.specs.declared.Reply.the-variants.{Word}
 use Rattle.card.specs.Command.{replyOf, imageOf, responseOf}
 use Rattle.card.specs.Conditions.{FreeName, found}
 
--- what SELECT told is the template of the file that it found
-abbrev pub SelectTold : Type 0
-SelectTold = (img c : List ℕ) (st : State) (response : List ℕ) (word told : ℕ) → Sound img → instruction c ≡ 0xA4
-    → replyOf img c st (length response) ≡ Word word told → 1 ≤ told
-    → take told (responseOf img c st response) ≡ templateOf (recAt img (found img c))
-
 -- CREATE FILE with the data s
 abbrev pub createOf : List ℕ → List ℕ
 createOf s = 0x00 ∷ 0xE0 ∷ 0x00 ∷ 0x00 ∷ length s ∷ s
@@ -41,13 +35,20 @@ createOf s = 0x00 ∷ 0xE0 ∷ 0x00 ∷ 0x00 ∷ length s ∷ s
 abbrev pub rightOf : List ℕ → Right
 rightOf r = cond (eqb (kindOf r) df) CreateDf CreateEf
 
--- a file of a card, whose life cycle is one that CREATE takes
-pub record Retold (img : List ℕ) (s : ℕ) : Type 0 where
-  pub low : s < countOf img
-  pub used : kindOf (recAt img s) ≡ 0 → ⊥
-  pub life : newLife (lifeCycleOf (recAt img s)) ≡ true
+-- a SELECT that told the template of the file that it found, n bytes; the file's life cycle is one that CREATE takes
+pub record Told (img c : List ℕ) (st : State) (response : List ℕ) (n : ℕ) : Type 0 where
+  pub select : instruction c ≡ 0xA4
+  pub word : ℕ
+  pub reply : replyOf img c st (length response) ≡ Word word n
+  pub some : 1 ≤ n
+  pub life : newLife (lifeCycleOf (recAt img (found img c))) ≡ true
 
--- THE OTHER CARD, on which the file with record r is to be made again: what the ticket asks of it, sentence by sentence
+-- what it told
+abbrev pub toldBy : List ℕ → List ℕ → State → List ℕ → ℕ → List ℕ
+toldBy img c st response n = take n (responseOf img c st response)
+
+-- THE OTHER CARD, on which the file with record r is to be made again: what the ticket asks of it, sentence by sentence. Variants and
+-- pools are none yet
 pub record Welcomes (img other r : List ℕ) (st : State) : Type 0 where
   -- it is of the same version
   pub version : versionOf other ≡ versionOf img
@@ -73,19 +74,29 @@ pub record Welcomes (img other r : List ℕ) (st : State) : Type 0 where
 abbrev pub newSlot : List ℕ → ℕ
 newSlot other = slotIn (freeSlot (countOf other) (viewAt other))
 
--- RE-CREATION: the template, with a C6 after 81 for a DF, gives 9000 there, and the new record is the old one but for parent and level.
--- Nothing welcomes a root: a directory above, the other card's root, has its identifier
+-- RE-CREATION, from call to call: what SELECT told of a file, with a C6 after 81 for a DF, gives 9000 there, and the new record is the old
+-- one but for parent and level. Nothing welcomes a root: a directory above, the other card's root, has its identifier. An image's elements
+-- are bytes, as of any buffer; that it is sound doesn't say so
 abbrev pub MadeAgain : Type 0
-MadeAgain = (img : List ℕ) (s : ℕ) (sent other : List ℕ) (st : State) (response : List ℕ)
-    → Bytes img → Sound img → Retold img s → Sends (recAt img s) sent → Sound other → Welcomes img other (recAt img s) st
-    → (replyOf other (createOf sent) st (length response) ≡ Word 0x9000 0)
-    × (recAt (imageOf other (createOf sent) st (length response)) (newSlot other)
-    ≡ splice (recAt img s) 6 (be16 (currentDfOf other) ++ be16 (viewAt other (currentDfOf other) .level + 1)))
+MadeAgain = (img c : List ℕ) (st : State) (response : List ℕ) (n : ℕ) (sent other : List ℕ) (state : State) (buffer : List ℕ)
+    → Bytes img → Sound img → Told img c st response n → Sends (recAt img (found img c)) (toldBy img c st response n) sent
+    → Sound other → Welcomes img other (recAt img (found img c)) state
+    → (replyOf other (createOf sent) state (length buffer) ≡ Word 0x9000 0)
+    × (recAt (imageOf other (createOf sent) state (length buffer)) (newSlot other)
+    ≡ splice (recAt img (found img c)) 6 (be16 (currentDfOf other) ++ be16 (viewAt other (currentDfOf other) .level + 1)))
 
--- that can be met: every file of any card but its root is welcome on a fresh card of 1,023 slots whose root allows everything
+-- what was told is the template of the file that was found
+abbrev pub SelectTold : Type 0
+SelectTold = (img c : List ℕ) (st : State) (response : List ℕ) (n : ℕ) → Sound img → Told img c st response n
+    → toldBy img c st response n ≡ templateOf (recAt img (found img c))
+
+-- the other card can be had: every file of any card but its root is welcome on a fresh card of 1,023 slots whose root allows everything
+abbrev pub allowing : List ℕ
+allowing = 0x7F ∷ 0 ∷ 0 ∷ 0 ∷ 0 ∷ 0 ∷ 0 ∷ 0 ∷ []
+
 abbrev pub largest : List ℕ
-largest = fresh 1023 65408 (0x7F ∷ 0 ∷ 0 ∷ 0 ∷ 0 ∷ 0 ∷ 0 ∷ 0 ∷ [])
+largest = fresh 1023 65408 allowing
 
 abbrev pub WelcomeSomewhere : Type 0
-WelcomeSomewhere = (img : List ℕ) (s : ℕ) (x : Sets) → Sound img → Retold img s → (s ≡ 0 → ⊥)
+WelcomeSomewhere = (img : List ℕ) (s : ℕ) (x : Sets) → Sound img → s < countOf img → (kindOf (recAt img s) ≡ 0 → ⊥) → (s ≡ 0 → ⊥)
     → Sound largest × Welcomes img largest (recAt img s) (record { sets = x; channels = 0 })

@@ -1,15 +1,19 @@
 -- The text of a stream (01 "Replay"): `UFS`, version 1, N, total, then commands each after a 16-bit length; root rule 7F
 -- and seven 00; sets full, no other channel.
 use Prim.Native.Nat.{ℕ, zero, suc, _+_, _*_}
-use mathlib.Core.Bool.{Bool, cond, _&&_, _||_}
+use mathlib.Core.Path.{_≡_}
+use mathlib.Core.Bool.{Bool, true, cond, _&&_, _||_}
 use mathlib.Core.List.{List, [], _∷_, _++_}
 use lib.Dec.{eqb, ltb, leb}
 use lib.ListN.{length, getD, replicate}
 use Rattle.laws.specs.Lists.{part}
 use Rattle.numbers.specs.Numbers.{u16At, u32At}
+use Rattle.sound.specs.Sound.{soundb}
 use Rattle.verdict.specs.declared.State.{State}
 use Rattle.maker.specs.Making.{madeOf, madeNumber, leftBy}
 use Rattle.card.specs.Command.{replyOf, imageOf, answerWord}
+use Rattle.card.specs.Obeyed.{isOneOf}
+use Rattle.card.specs.Demands.{wordsOfTable}
 use Rattle.text.specs.Written.{big}
 use Rattle.replay_text.specs.Text.{lineOf, bad, cut}
 
@@ -35,7 +39,7 @@ endOf s at = at + 2 + u16At s at
 unfoldable pub cutShort : List ℕ → ℕ → Bool
 cutShort s at = ltb (length s) (at + 2) || ltb (length s) (endOf s at)
 
--- a response that is long enough for all that a command tells (card/specs/Demands, `LongEnough`), and is never shown
+-- a response that is long enough for all that a command tells, and is never shown
 abbrev pub lent : ℕ
 lent = 53
 
@@ -45,6 +49,10 @@ wordAt s at img = answerWord (replyOf img (sentAt s at) full lent)
 
 unfoldable pub imageAt : List ℕ → ℕ → List ℕ → List ℕ
 imageAt s at img = imageOf img (sentAt s at) full lent
+
+-- .. so that a command on a sound image is always answered by a word of 01's table, never 0000 (proofs/Worded, `always-worded`)
+abbrev pub AlwaysWorded : Type 0
+AlwaysWorded = (s : List ℕ) (at : ℕ) (img : List ℕ) → soundb img ≡ true → isOneOf (wordAt s at img) wordsOfTable ≡ true
 
 -- the lines from `at` on, of commands on one image in turn. A command has two bytes at least, its length, so that as many
 -- turns as the stream has bytes are enough

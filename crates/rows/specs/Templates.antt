@@ -4,11 +4,12 @@
 use Prim.Native.Nat.{ℕ}
 use mathlib.Core.Path.{_≡_}
 use mathlib.Core.List.{List, [], _∷_, _++_}
-use lib.ListN.{length, take, drop, replicate}
+use lib.ListN.{take, drop, replicate}
 use Rattle.rules.specs.declared.Sets.{Sets}
 use Rattle.image.specs.Layout.{recAt, currentDfOf, currentEfOf, setLife}
 use Rattle.fcp.specs.Template.{withC6}
 use Rattle.card.specs.Command.{answerNumber, answerWord, answerTold, replyOf, imageOf, responseOf}
+use Rattle.recreation.specs.Recreation.{createOf}
 use Rattle.rows.specs.Calls.{with, left, card, createDf, createEf, selectFile}
 
 -- answer, word, how many bytes were told, what is current afterwards, and the response, of which n bytes of AA were lent
@@ -92,10 +93,6 @@ answers =
 
 abbrev pub TemplatesTold : Type 0
 TemplatesTold = (x : Sets) → asked x ≡ answers
-
--- CREATE FILE of data
-abbrev pub createOf : List ℕ → List ℕ
-createOf s = 0x00 ∷ 0xE0 ∷ 0x00 ∷ 0x00 ∷ length s ∷ s
 
 -- a file made again in a DF of another card, by what SELECT told of it: the word, and the record, in slot 2
 abbrev pub elsewhere : Sets → List ℕ

@@ -5,8 +5,6 @@ use Prim.Native.Nat.{ℕ, _+_}
 use lib.Dec.{eqb}
 use lib.ListN.{length}
 use Rattle.laws.proofs.Chains.{ands, le-and}
-use Rattle.laws.proofs.Branches.{tested}
-use mathlib.Core.Path.{refl}
 use Rattle.apdu.specs.Apdu.{hasData}
 use borrow.Author.Needs.{needs}
 use Rattle.apdu.proofs.has_data.Statement.{statement}

@@ -11,11 +11,11 @@ has-records-requires c κs = search needs
 
 returns : tie.Need-returns
 unfolding descriptorLength
-returns c = (search (called, refl), search needs)
+returns c = (search called, search needs)
 
 returns-2 : tie.Need-returns-2
 unfolding descriptorLength
-returns-2 c = (search (refused, refl), search needs)
+returns-2 c = (search refused, search needs)
 
 pub descriptor-length-spec : {M : Type 1} → statement M
 descriptor-length-spec = tie.close (tie.spec has-records-requires returns returns-2)

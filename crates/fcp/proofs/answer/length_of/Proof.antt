@@ -1,7 +1,7 @@
 -- `answer::length_of` adds up the lengths of the objects.
 use borrow.Author.Needs.{needs}
 use Rattle.fcp.proofs.Filled.{long-from}
-use Rattle.fcp.proofs.Pieces.{name-short, rule-short}
+use Rattle.fcp.proofs.Pieces.{name-fits, rule-fits}
 use denote.Ref.{now}
 use lib.ListN.{length}
 use native.Mathlib.Omega.{arith}
@@ -19,7 +19,7 @@ name-requires : tie.Need-name-requires
 name-requires c κs = search needs
 
 name-length-requires : tie.Need-name-length-requires
-name-length-requires c κs = search name-short
+name-length-requires c κs = search name-fits
 
 rule-requires : tie.Need-rule-requires
 rule-requires c κs = search needs
@@ -36,7 +36,7 @@ add-result-3 c = search needs
 returns : tie.Need-returns
 returns c =
     let a = c .before .before .before .before .before .before .args in
-    let e : length (now (c .rule .result)) ≤ 16 = search rule-short in
+    let e : length (now (c .rule .result)) ≤ 16 = search rule-fits in
     (search long-from, omega arith)
 
 pub length-of-spec : {M : Type 1} → statement M

@@ -8,14 +8,14 @@ use Rattle.fcp.proofs.answer.name_length.Tie as tie
 
 returns : tie.Need-returns
 unfolding nameLength
-returns c = (search (is-eq, refl), search needs)
+returns c = (search is-eq, search needs)
 
 add-result : tie.Need-add-result
 add-result c = search needs
 
 returns-2 : tie.Need-returns-2
 unfolding nameLength
-returns-2 c = (search (not-eq, refl), search needs)
+returns-2 c = (search not-eq, search needs)
 
 pub name-length-spec : {M : Type 1} → statement M
 name-length-spec = tie.close (tie.spec returns add-result returns-2)

@@ -7,7 +7,7 @@ use lib.ListN.{length}
 use native.Mathlib.Omega.{arith}
 use Prim.Native.Nat.{_+_, _≤_}
 use mathlib.Core.Path.{_≡_}
-use Rattle.fcp.proofs.Pieces.{name-short, no-name-told, name-told, name-long}
+use Rattle.fcp.proofs.Pieces.{name-fits, no-name-told, name-told, name-long}
 use Rattle.fcp.proofs.objects.put_name.Statement.{statement}
 use Rattle.fcp.proofs.objects.put_name.Tie as tie
 
@@ -21,7 +21,7 @@ object-requires : tie.Need-object-requires
 object-requires c κs =
     let a = c .before .before .before .before .before .args in
     let v = now (c .before .before .name .result) in
-    let e : length v ≤ 16 = search name-short in
+    let e : length v ≤ 16 = search name-fits in
     let f : length (nameObject (recAt (now (a .image)) (a .s))) ≡ 2 + length v = search name-long in
     (omega arith, omega arith)
 

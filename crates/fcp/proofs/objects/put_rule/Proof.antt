@@ -5,7 +5,7 @@ use lib.ListN.{length}
 use native.Mathlib.Omega.{arith}
 use Prim.Native.Nat.{_≤_}
 use mathlib.Core.Path.{ap}
-use Rattle.fcp.proofs.Pieces.{rule-short, rule-told}
+use Rattle.fcp.proofs.Pieces.{rule-fits, rule-told}
 use Rattle.fcp.proofs.objects.put_rule.Statement.{statement}
 use Rattle.fcp.proofs.objects.put_rule.Tie as tie
 
@@ -14,7 +14,7 @@ rule-requires c κs = search needs
 
 object-requires : tie.Need-object-requires
 object-requires c κs =
-    let e : length (now (c .before .rule .result)) ≤ 16 = search rule-short in
+    let e : length (now (c .before .rule .result)) ≤ 16 = search rule-fits in
     (omega (arith, ap length (c .before .rule .ensures)), omega arith)
 
 same-length : tie.Need-same-length

@@ -11,11 +11,11 @@ kind-requires c κs = search needs
 
 returns : tie.Need-returns
 unfolding sizeTag
-returns c = search (got-eq, refl)
+returns c = search got-eq
 
 returns-2 : tie.Need-returns-2
 unfolding sizeTag
-returns-2 c = search (got-ne, refl)
+returns-2 c = search got-ne
 
 pub size-tag-spec : {M : Type 1} → statement M
 size-tag-spec = tie.close (tie.spec kind-requires returns returns-2)
