@@ -22,9 +22,9 @@ pub struct Other {
 }
 
 impl Other {
-    /// A file, or a directory with a file in it. The first of the two numbers
-    /// sets its identifier apart from others; unless it may be the same as that
-    /// of the file that is made again.
+    /// An EF, or a directory with or without a file in it. Its identifier goes
+    /// by the number; where it may be the same as that of the file that is made
+    /// again, it often is.
     pub fn any(
         random: &mut Random,
         again: &Record,

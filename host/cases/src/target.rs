@@ -82,7 +82,7 @@ struct Level {
     directory: FileData,
     /// What is in it beside the next directory.
     others: Vec<Other>,
-    /// Whether it is deactivated when the next directory is made.
+    /// Whether it is deactivated once the next directory is made.
     deactivated: bool,
 }
 
