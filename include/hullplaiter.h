@@ -23,13 +23,13 @@
  * needs that much left when it calls. The library asks for no more, checks nothing and cannot refuse: with less the
  * system ends the process, or, where no guard page stands below the stack, memory below it is overwritten.
  *
- * Answers (01, "Making and reporting"):
+ * Answers (0 to 4 are of 01, "Making and reporting"; 5 is of 02, Ticket 2):
  *   0  done; for a command its word tells
- *   1  the image is not sound (command, report): word 0000, numbers 0, image as it came
+ *   1  the image is not sound (command, report): word 0000, numbers 0, image and response as they came
  *   2  maker: the length is not 16 + 64 N with N 2 to 1023: buffer as it came
  *   3  maker: the total is not 1 to 64 (N - 1): buffer as it came
  *   4  maker: the rule is not 1 to 16 bytes, or not well formed: buffer as it came
- *   5  command: the response is shorter than the data: word 0000, image and response as they came
+ *   5  command: the response is shorter than the data: word 0000, numbers 0, image and response as they came
  * The maker checks 2, 3, 4 in that order. A command finds 1 first and 5 last. */
 #ifndef HULLPLAITER_H
 #define HULLPLAITER_H
@@ -55,10 +55,11 @@ extern "C" {
  * no name, and a DF has no records. */
 #define HULL_RESPONSE_MOST 53u
 
-/* The numbers that hull_command writes. */
-#define HULL_NUMBERS 3u
+/* How many numbers hull_command and hull_report write. */
+#define HULL_COMMAND_NUMBERS 3u
+#define HULL_REPORT_NUMBERS 4u
 
-/* Stack that a call takes at most. The compiled library takes 34256 bytes; the rest is left for other builds of it. */
+/* Stack that a call takes at most. The compiled library takes 34408 bytes; the rest is left for other builds of it. */
 #define HULL_STACK_BYTES 40960u
 
 #define HULL_DONE 0u
@@ -91,14 +92,14 @@ uint32_t hull_make(uint8_t *image, size_t image_length, uint32_t total, const ui
  * channels
  *         a bit for each open channel, of which only bits 1 to 3 count: 0 if no other channel than the basic one is open
  * numbers
- *         HULL_NUMBERS numbers that the caller lends, each written on every call:
+ *         HULL_COMMAND_NUMBERS numbers that the caller lends, each written on every call:
  *         numbers[0]  how many bytes of data were written to the response; 0 if there are none
  *         numbers[1]  0; kept for a later version, which tells there what a security refusal lacks
  *         numbers[2]  0; kept for a later version, which tells there how many bytes were moved
  * returns 65536 times the answer, plus the word: HULL_ANSWER and HULL_WORD take them apart.
  *         Answer HULL_DONE: the word tells. With 9000 the command has had its effect on the image; with 6283 or 6285 the
  *         file is selected; with any other word every byte of the image is as it came.
- *         Answer HULL_NOT_SOUND: the word is 0000, every byte as it came.
+ *         Answer HULL_NOT_SOUND: the word is 0000, every byte of image and response as it came.
  *         Answer HULL_SHORT_RESPONSE: the word is 0000, every byte of image and response as it came, nothing is selected.
  *         The SELECT had no other fault, and succeeds with a response that is long enough.
  *         A sound image is sound afterwards.
@@ -135,20 +136,20 @@ uint32_t hull_make(uint8_t *image, size_t image_length, uint32_t total, const ui
 uint32_t hull_command(uint8_t *image, size_t image_length, const uint8_t *command, size_t command_length,
                       uint8_t *response, size_t response_length,
                       uint16_t messaging, uint16_t external, uint16_t user, uint8_t channels,
-                      uint32_t numbers[3]);
+                      uint32_t numbers[HULL_COMMAND_NUMBERS]);
 
 /* The two parts of what hull_command returns. */
 #define HULL_ANSWER(result) ((uint32_t)(result) >> 16)
 #define HULL_WORD(result) ((uint16_t)((uint32_t)(result)&0xFFFFu))
 
-/* Reports on the current DF. `numbers` is four numbers that the caller lends, each written on every answer:
+/* Reports on the current DF. `numbers` is HULL_REPORT_NUMBERS numbers that the caller lends, each written every time:
  *   numbers[0]  its total
  *   numbers[1]  its room: the total less size and 64 of each direct child
  *   numbers[2]  its direct children, DFs and EFs
  *   numbers[3]  all files beneath it, DFs and EFs, itself not among them
  *
- * returns HULL_DONE; or HULL_NOT_SOUND with four zeros. It works on a terminated card too. */
-uint32_t hull_report(const uint8_t *image, size_t image_length, uint32_t numbers[4]);
+ * returns HULL_DONE; or HULL_NOT_SOUND with all of them 0. It works on a terminated card too. */
+uint32_t hull_report(const uint8_t *image, size_t image_length, uint32_t numbers[HULL_REPORT_NUMBERS]);
 
 /* Whether the bytes are a sound image: 1 or 0. hull_command and hull_report look for themselves; this is for a caller
  * who wants to know before. */

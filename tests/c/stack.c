@@ -24,7 +24,7 @@ static const uint8_t *bytes;
 static size_t length;
 static uint8_t response[HULL_RESPONSE_MOST];
 static size_t response_length = sizeof response;
-static uint32_t numbers[HULL_NUMBERS];
+static uint32_t numbers[HULL_COMMAND_NUMBERS];
 static uint32_t given;
 
 static void make(void) { given = hull_make(image, sizeof image, 64 * (SLOTS - 1), rule, sizeof rule); }
@@ -35,7 +35,7 @@ static void command(void)
 static void sound(void) { given = hull_sound(image, sizeof image); }
 static void report(void)
 {
-    uint32_t counts[4];
+    uint32_t counts[HULL_REPORT_NUMBERS];
     given = hull_report(image, sizeof image, counts);
 }
 

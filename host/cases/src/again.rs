@@ -59,7 +59,7 @@ pub type Call<'a, E> = &'a mut dyn FnMut(&Line) -> Result<Left, E>;
 pub struct Remade {
     /// The file's record.
     pub old: Vec<u8>,
-    /// The record in the lowest free slot of the other card, after all.
+    /// The record in the lowest free slot of the other card, at the end.
     pub new: Vec<u8>,
     /// The template.
     pub template: Vec<u8>,
@@ -185,17 +185,16 @@ impl Again {
         let template = own.command(call, &select_fcp(file.identifier))?.data;
         let target = Target::for_file(random, file);
         let mut other = Session { image: call(&target.make())?.image, state: target.state };
-        for directory in &target.directories {
-            other.command(call, &directory.command())?;
+        for command in &target.commands {
+            other.command(call, command)?;
         }
-        let depth = target.directories.len();
         let word = other.create(random, call, &template, file.is_df())?;
         Ok(Remade {
             old: record_of(&self.image, slot),
-            new: record_of(&other.image, depth + 1),
+            new: record_of(&other.image, usize::from(target.directory.0) + 1),
             template,
             word,
-            directory: (depth as u16, depth as u16),
+            directory: target.directory,
         })
     }
 }

@@ -134,16 +134,10 @@ pub fn make_case(random: &mut Random, kind: Kind) -> Case {
         }
         Kind::SoundReport => Case::Report { image: images::sound_image(random) },
         Kind::DamagedCommand => {
-            let card = images::sound_card(random);
-            let field = random.pick(Field::ALL);
-            let image = damaged(random, &card, field);
+            let (card, image) = damaged_card(random);
             fitting(random, &card, image)
         }
-        Kind::DamagedReport => {
-            let card = images::sound_card(random);
-            let field = random.pick(Field::ALL);
-            Case::Report { image: damaged(random, &card, field) }
-        }
+        Kind::DamagedReport => Case::Report { image: damaged_card(random).1 },
         Kind::RawCommand => {
             let image = images::sound_image(random);
             let (command, state) = (raw::raw(random), states::any(random));
@@ -165,6 +159,14 @@ pub fn make_case(random: &mut Random, kind: Kind) -> Case {
         Kind::FilesAgain => Case::Again(Again::files(random)),
         Kind::TreeAgain => Case::Again(Again::tree(random)),
     }
+}
+
+/// A sound card, and its image damaged in one field.
+fn damaged_card(random: &mut Random) -> (Card, Vec<u8>) {
+    let card = images::sound_card(random);
+    let field = random.pick(Field::ALL);
+    let image = damaged(random, &card, field);
+    (card, image)
 }
 
 /// A command that fits the card, on its image or a damaged one.

@@ -30,7 +30,7 @@
 //! | rules, life-cycle bytes, states | [`rules`], [`life_cycles`], [`states`] |
 //! | maker's calls, replay's streams | [`makers`], [`streams`] |
 //! | response buffers | [`responses`] |
-//! | files made again by their templates | [`again`], [`target`], [`regrown`] |
+//! | files made again by their templates | [`again`], [`target`], [`elsewhere`], [`regrown`], [`sorts`] |
 //! | worst-case cards | [`worst`] |
 
 #![forbid(unsafe_code)]
@@ -43,6 +43,7 @@ pub mod case;
 pub mod choices;
 pub mod creations;
 pub mod damage;
+pub mod elsewhere;
 pub mod generator;
 pub mod history;
 pub mod images;
@@ -54,6 +55,7 @@ pub mod raw;
 pub mod regrown;
 pub mod responses;
 pub mod rules;
+pub mod sorts;
 pub mod states;
 pub mod streams;
 pub mod target;

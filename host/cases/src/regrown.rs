@@ -68,7 +68,7 @@ impl Tree<'_> {
         Ok(())
     }
 
-    /// What was made, with the records as they are after all: they fill the
+    /// What was made, with the records as they are at the end: they fill the
     /// slots from 1 on in the order in which they were made.
     fn after(self) -> Vec<Remade> {
         let image = self.other.image;

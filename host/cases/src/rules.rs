@@ -11,6 +11,11 @@ pub fn open() -> Vec<u8> {
     vec![0x7F, 0, 0, 0, 0, 0, 0, 0]
 }
 
+/// DEACTIVATE and CREATE always, and nothing else ever.
+pub fn for_the_way() -> Vec<u8> {
+    vec![0x0E, 0, 0, 0]
+}
+
 /// Mostly open; else well formed at random.
 pub fn mostly_open(random: &mut Random) -> Vec<u8> {
     if random.chance(85) {

@@ -54,6 +54,11 @@ impl FileData {
         }
     }
 
+    /// The same with another size, written in as few bytes as can be.
+    pub fn resize(&mut self, size: u32) {
+        (self.size, self.size_bytes) = (size, fewest_bytes(size));
+    }
+
     /// Whether it describes a directory.
     pub fn is_df(&self) -> bool {
         self.descriptor & 0x3F == 0x38

@@ -17,17 +17,18 @@ pub fn complaint(line: &Line, given: &Outcome) -> Option<String> {
     let [data, later @ ..] = told.numbers;
     let data = usize::try_from(data).unwrap_or(usize::MAX);
     if data > lent.len() {
-        return Some(format!("{data} bytes of data in a buffer of {}", lent.len()));
+        return Some(format!("{data} bytes of data are told in a buffer of {}", lent.len()));
     }
     let effect = told.answer == 0 && is_success(told.word);
     let checks = [
-        (ANSWERS.contains(&told.answer), "no answer of a command"),
-        ((told.answer == 0) == (told.word != 0), "a word exactly with answer 0"),
-        (later == [0; 2], "numbers of later tickets"),
-        (effect || image == came, "the image is left"),
-        (effect || response == lent, "the response buffer is left"),
-        (effect || data == 0, "data come with an effect alone"),
-        (response.get(data..) == lent.get(data..), "bytes past the data stay"),
+        (ANSWERS.contains(&told.answer), "the answer is none of a command's"),
+        (told.answer != 0 || told.word != 0, "there is no word with answer 0"),
+        (told.answer == 0 || told.word == 0, "there is a word with another answer than 0"),
+        (later == [0; 2], "a number of a later ticket is not 0"),
+        (effect || image == came, "the image was changed without an effect"),
+        (effect || response == lent, "the response buffer was changed without an effect"),
+        (effect || data == 0, "data came without an effect"),
+        (response.get(data..) == lent.get(data..), "bytes past the data were changed"),
     ];
     checks.into_iter().find(|(holds, _)| !holds).map(|(_, what)| what.to_string())
 }

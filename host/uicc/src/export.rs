@@ -21,7 +21,7 @@ const TERMINATE_EF: u8 = 0xE8;
 const TERMINATE_DF: u8 = 0xE6;
 const TERMINATE_CARD: u8 = 0xFE;
 
-/// A script, and what of the card it does not make again.
+/// A script, and what of the card it does not make again, a sentence for each.
 pub struct Export {
     pub script: String,
     pub lost: Vec<String>,
@@ -104,7 +104,7 @@ impl Exporter<'_> {
                 many => format!(", nor the {many} files beneath it"),
             };
             let refused = refused("CREATE FILE", word);
-            self.lose(format!("{name} is not made{beneath}: {refused}"));
+            self.lose(format!("{name} does not come back{beneath}: {refused}"));
             return Ok(false);
         }
         self.target.made(slot);
@@ -142,7 +142,7 @@ impl Exporter<'_> {
         if let Some((instruction, after)) = change {
             let command = [0x00, instruction, 0x00, 0x00];
             let becomes = describe::life_cycle_and_byte(after);
-            self.target.note(&format!("{name} becomes {becomes}"));
+            self.target.note(&format!("{name} is to become {becomes}"));
             // TERMINATE CARD USAGE goes by no current file.
             if instruction != TERMINATE_CARD {
                 self.target.make_current(slot)?;
@@ -154,7 +154,7 @@ impl Exporter<'_> {
         }
         if own != now {
             let [own, now] = [own, now].map(describe::life_cycle_and_byte);
-            self.lose(format!("{name} is {now} and not {own}: {why}"));
+            self.lose(format!("{name} comes back {now}, not {own}: {why}"));
         }
         Ok(())
     }
@@ -166,12 +166,12 @@ impl Exporter<'_> {
         let descriptor = root.descriptor;
         if descriptor != self.target.root_descriptor()? {
             self.lose(format!(
-                "3F00 has not the descriptor {descriptor:02X}: uicc new gives another"
+                "the descriptor {descriptor:02X} of 3F00 does not come back: uicc new gives another"
             ));
         }
         if !root.name.is_empty() {
             let name = hex::row(&root.name);
-            self.lose(format!("3F00 has not the name {name}: uicc new gives none"));
+            self.lose(format!("the name {name} of 3F00 does not come back: uicc new gives none"));
         }
         let terminated = is_terminated(root.life_cycle);
         if !terminated {
@@ -199,6 +199,7 @@ impl Exporter<'_> {
         self.target.make_current(ROOT)
     }
 
+    /// Tells of something that it does not come back, by a whole sentence.
     fn lose(&mut self, what: String) {
         self.target.note(&format!("LOST: {what}"));
         self.lost.push(what);

@@ -2,6 +2,7 @@
 //! a CREATE that makes the file again.
 
 use model::descriptor::{class, Class};
+use model::template::tags;
 
 use crate::rule::{self, Owner};
 use crate::{describe, hex};
@@ -9,18 +10,9 @@ use crate::{describe, hex};
 /// A TLV object: tag and value.
 pub type Object<'a> = (u8, &'a [u8]);
 
-/// The tag of the template itself.
-const TEMPLATE: u8 = 0x62;
-const DESCRIPTOR: u8 = 0x82;
-const IDENTIFIER: u8 = 0x83;
-const NAME: u8 = 0x84;
-const LIFE_CYCLE: u8 = 0x8A;
-const RULE: u8 = 0x8C;
-const FILE_SIZE: u8 = 0x80;
-const DIRECTORY_TOTAL: u8 = 0x81;
 /// What CREATE wants behind a directory's total and no card keeps; its value
 /// means nothing here.
-const PIN_STATUS: Object = (0xC6, &[0x00]);
+const PIN_STATUS: Object = (tags::PIN_STATUS, &[0x00]);
 
 /// A template, its values read.
 pub struct Template<'a> {
@@ -41,20 +33,20 @@ impl<'a> Template<'a> {
     /// Reads what SELECT answered; nothing if it is no template.
     pub fn read(data: &'a [u8]) -> Option<Template<'a>> {
         let objects = match objects(data)?.as_slice() {
-            [(TEMPLATE, inside)] => objects(inside)?,
+            [(tags::TEMPLATE, inside)] => objects(inside)?,
             _ => return None,
         };
         let value = |tag| objects.iter().find(|(other, _)| *other == tag).map(|(_, value)| *value);
-        let (descriptor, after) = value(DESCRIPTOR)?.split_first()?;
-        let [life_cycle] = value(LIFE_CYCLE)? else { return None };
+        let (descriptor, after) = value(tags::DESCRIPTOR)?.split_first()?;
+        let [life_cycle] = value(tags::LIFE_CYCLE)? else { return None };
         Some(Template {
             descriptor: *descriptor,
             record_length: number(after.get(1..)?),
-            identifier: u16::from_be_bytes(value(IDENTIFIER)?.try_into().ok()?),
-            name: value(NAME).unwrap_or_default(),
+            identifier: u16::from_be_bytes(value(tags::IDENTIFIER)?.try_into().ok()?),
+            name: value(tags::NAME).unwrap_or_default(),
             life_cycle: *life_cycle,
-            rule: value(RULE)?,
-            size: number(value(FILE_SIZE).or(value(DIRECTORY_TOTAL))?),
+            rule: value(tags::COMPACT_RULE)?,
+            size: number(value(tags::EF_SIZE).or(value(tags::DF_TOTAL))?),
             objects,
         })
     }
@@ -67,14 +59,14 @@ impl<'a> Template<'a> {
     pub fn create(&self, life_cycle: u8) -> Vec<u8> {
         let own = [life_cycle];
         let mut objects = self.objects.clone();
-        for object in objects.iter_mut().filter(|(tag, _)| *tag == LIFE_CYCLE) {
+        for object in objects.iter_mut().filter(|(tag, _)| *tag == tags::LIFE_CYCLE) {
             object.1 = &own;
         }
         if self.is_directory() {
             objects.push(PIN_STATUS);
         }
         let inside: Vec<u8> = objects.into_iter().flat_map(encoded).collect();
-        let data = encoded((TEMPLATE, &inside));
+        let data = encoded((tags::TEMPLATE, &inside));
         [&[0x00, 0xE0, 0x00, 0x00, length(&data)], &data[..]].concat()
     }
 

@@ -1,5 +1,6 @@
-//! A program for people: plays scripts of commands on the proved card, makes
-//! card images and shows what is on them.
+//! A program for people: plays scripts of commands on the proved card (`run`),
+//! makes card images (`new`), shows what is on them (`show`), and writes the
+//! script that makes the files of one again (`export`).
 //!
 //! The proved card decides everything. Only `show` and `export`, once the proved
 //! card has found the image sound, read its records by the model.
@@ -90,7 +91,7 @@ fn carry_out(wish: Wish) -> Result<Done, Failure> {
             let card = store::look(&image).map_err(Failure::Refused)?;
             let Export { script, lost } = export::export(&card).map_err(Failure::Refused)?;
             let name = image.display();
-            let lost = lost.into_iter().map(|what| format!("{name}: {what}")).collect();
+            let lost = lost.into_iter().map(|what| format!("{name}: lost: {what}")).collect();
             Ok(Done { text: script, saved: None, lost })
         }
         Wish::New { image, fresh, replace } => {

@@ -1,13 +1,13 @@
 //! Files made again by their templates: the model makes each one again, and
 //! all sorts of files are among them.
 
-use std::collections::BTreeMap;
 use std::convert::Infallible;
 
 use crate::common::say;
 use cases::again::{by_model, Played};
 use cases::damage::{damaged, Field};
 use cases::images::sound_card_of;
+use cases::sorts::{self, Sorts};
 use cases::{Again, Case, Generator, Kind, Random};
 use model::lines::Case as Line;
 use model::words::SUCCESS;
@@ -28,62 +28,36 @@ fn play(again: &Again) -> Played {
     played.unwrap_or_else(|never| match never {})
 }
 
-/// What a record is, by its bytes; the largest file is of 65,344 bytes.
-fn sorts(record: &[u8]) -> Vec<String> {
-    let kind = if record[0] == 1 { "DF" } else { "EF" };
-    let mut found = vec![kind.to_string(), format!("life cycle {:02X}", record[2])];
-    found.extend((record[16] > 0).then(|| "name".to_string()));
-    found.extend((record[10..12] != [0, 0]).then(|| "records".to_string()));
-    found.extend((record[33] == 16).then(|| "longest rule".to_string()));
-    found.extend((record[12..16] == [0, 0, 0xFF, 0x40]).then(|| "largest".to_string()));
-    found.extend((record[14] >= 0x40).then(|| "large".to_string()));
-    found
-}
-
-/// Every file is made again; gives how many of each sort.
-fn counts(kind: Kind, cases: usize) -> BTreeMap<String, usize> {
-    let mut counts = BTreeMap::new();
+/// Every file is made again; gives how many of each sort. All sorts are among
+/// them, but for terminated files.
+#[track_caller]
+fn all_sorts(kind: Kind, cases: usize) -> Sorts {
+    let mut sorts = Sorts::default();
     for (again, played) in played(kind, cases) {
         for file in &played.remade {
             assert_eq!(file.complaint(), None, "{file:02X?} of {again:02X?}");
-            let more = if file.old[6..10] == file.new[6..10] { "same place" } else { "elsewhere" };
-            for sort in sorts(&file.old).into_iter().chain([more.to_string(), "all".to_string()]) {
-                *counts.entry(sort).or_insert(0) += 1;
-            }
         }
-        *counts.entry("terminated".to_string()).or_insert(0) += played.terminated;
-        *counts.entry("passed over".to_string()).or_insert(0) += played.passed;
+        sorts.add(&played);
     }
-    counts
-}
-
-#[track_caller]
-fn shows(what: &str, counts: &BTreeMap<String, usize>, fewest: usize) {
-    say(&format!("made again, {what}: {counts:?}"));
-    for sort in ["DF", "EF", "name", "records", "longest rule", "elsewhere"] {
-        assert!(counts.get(sort).copied().unwrap_or(0) >= fewest, "{sort}: {counts:?}");
-    }
-    for byte in [0x01, 0x03, 0x04, 0x05, 0x06, 0x07] {
-        let sort = format!("life cycle {byte:02X}");
-        assert!(counts.get(&sort).copied().unwrap_or(0) >= fewest, "{sort}: {counts:?}");
-    }
-    assert!(!counts.contains_key("life cycle 0C"), "{counts:?}");
+    say(&format!("made again, {}: {sorts:?}", kind.name()));
+    assert_eq!(sorts.rarer(&sorts::TOLD, 20), [""; 0], "{sorts:?}");
+    assert!(sorts.of(sorts::MOVED) >= 20, "{sorts:?}");
+    assert_eq!(sorts.of("life cycle 0C"), 0, "{sorts:?}");
+    sorts
 }
 
 #[test]
 fn files_of_all_sorts_are_made_again() {
-    let counts = counts(Kind::FilesAgain, 600);
-    shows("one by one", &counts, 20);
-    assert!(counts["all"] > 2000, "{counts:?}");
-    assert!(counts["large"] >= 10 && counts["largest"] >= 2, "{counts:?}");
+    let sorts = all_sorts(Kind::FilesAgain, 600);
+    assert!(sorts.of(sorts::ALL) > 2000, "{sorts:?}");
+    assert!(sorts.of(sorts::LARGE) >= 10 && sorts.of(sorts::LARGEST) >= 2, "{sorts:?}");
 }
 
 #[test]
 fn whole_trees_are_made_again() {
-    let counts = counts(Kind::TreeAgain, 300);
-    shows("whole trees", &counts, 20);
-    assert!(counts["all"] > 1500, "{counts:?}");
-    assert_eq!((counts["terminated"], counts["passed over"]), (0, 0));
+    let sorts = all_sorts(Kind::TreeAgain, 300);
+    assert!(sorts.of(sorts::ALL) > 1500, "{sorts:?}");
+    assert_eq!((sorts.of(sorts::TERMINATED), sorts.of(sorts::PASSED)), (0, 0));
 }
 
 /// A tree keeps its levels; only parents' slots may differ.

@@ -118,14 +118,17 @@ impl Shown {
             (with_0c && done && !self.lent.is_empty(), "0C with a buffer"),
             (no_select && done && self.lent.is_empty(), "another command without a buffer"),
             (no_select && done && !self.lent.is_empty(), "another command with a buffer"),
-            (self.outcome.answer == 1 && self.is_04() && !short, "damaged, with a buffer"),
-            (self.outcome.answer == 1 && self.is_04() && short, "damaged, with a short one"),
+            (self.is_04_on_damaged_image() && !short, "damaged, with a buffer"),
+            (self.is_04_on_damaged_image() && short, "damaged, with a short one"),
         ];
         told.into_iter().filter(|(shown, _)| *shown).map(|(_, name)| name).collect()
     }
 
-    fn is_04(&self) -> bool {
-        !model::sound(&self.image) && self.command.starts_with(&[0x00, 0xA4, 0x00, 0x04])
+    /// SELECT with 04 on a damaged image, which is answered 1.
+    fn is_04_on_damaged_image(&self) -> bool {
+        self.outcome.answer == 1
+            && !model::sound(&self.image)
+            && self.command.starts_with(&[0x00, 0xA4, 0x00, 0x04])
     }
 }
 

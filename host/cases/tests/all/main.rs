@@ -7,6 +7,7 @@ mod again;
 mod common;
 mod coverage;
 mod determinism;
+mod elsewhere;
 mod fcp;
 mod histories;
 mod images;

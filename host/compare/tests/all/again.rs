@@ -1,9 +1,8 @@
 //! Files made again by their templates, by the proved card and by the model.
 
-use std::collections::BTreeMap;
-
 use crate::say;
 use cases::again::Played;
+use cases::sorts::{self, Sorts};
 use cases::{worst, Again, Case, Generator, Kind};
 use compare::again::check_again;
 use compare::shrink::smallest;
@@ -26,50 +25,6 @@ fn played(pair: Pair, again: &Again, tally: &mut Tally) -> Played {
     check_again(pair, again, tally).unwrap_or_else(|found| panic!("{}", smallest(pair, found)))
 }
 
-/// Counts of what was made again: kinds, names, records, life cycles.
-#[derive(Default)]
-struct Sorts(BTreeMap<String, usize>);
-
-impl Sorts {
-    fn add(&mut self, played: &Played) {
-        for file in &played.remade {
-            let record = &file.old;
-            let kind = if record[0] == 1 { "DF" } else { "EF" };
-            let mut sorts = vec![kind.to_string(), format!("life cycle {:02X}", record[2])];
-            sorts.extend((record[16] > 0).then(|| "with a name".to_string()));
-            sorts.extend((record[10..12] != [0, 0]).then(|| "with records".to_string()));
-            sorts.extend((record[14] >= 0x40).then(|| "of 16,384 bytes and more".to_string()));
-            for sort in sorts {
-                *self.0.entry(sort).or_insert(0) += 1;
-            }
-        }
-        *self.0.entry("terminated, left out".to_string()).or_insert(0) += played.terminated;
-        *self.0.entry("one of many, left out".to_string()).or_insert(0) += played.passed;
-    }
-
-    #[track_caller]
-    fn have(&self, sorts: &[&str], fewest: usize) {
-        for sort in sorts {
-            let count = self.0.get(*sort).copied().unwrap_or(0);
-            assert!(count >= fewest, "{sort} comes {count} times: {:?}", self.0);
-        }
-    }
-}
-
-/// Every sort of file that a template can describe.
-const SORTS: [&str; 10] = [
-    "DF",
-    "EF",
-    "with a name",
-    "with records",
-    "life cycle 01",
-    "life cycle 03",
-    "life cycle 04",
-    "life cycle 05",
-    "life cycle 06",
-    "life cycle 07",
-];
-
 /// The cases of a kind, each call made by one subject alone.
 fn made_by(subject: &dyn Subject, kind: Kind, count: usize) -> (u64, Sorts) {
     let pair = Pair { card: subject, model: subject };
@@ -77,7 +32,7 @@ fn made_by(subject: &dyn Subject, kind: Kind, count: usize) -> (u64, Sorts) {
     for again in cases_of(kind, count) {
         sorts.add(&played(pair, &again, &mut tally));
     }
-    sorts.have(&SORTS, 15);
+    assert_eq!(sorts.rarer(&sorts::TOLD, 15), [""; 0], "{sorts:?}");
     (tally.made_again, sorts)
 }
 
@@ -85,8 +40,8 @@ fn made_by(subject: &dyn Subject, kind: Kind, count: usize) -> (u64, Sorts) {
 fn made_by_both(kind: Kind, count: usize) -> (u64, Sorts) {
     let (by_card, sorts) = made_by(&Proved, kind, count);
     let (by_model, same) = made_by(&Model, kind, count);
-    assert_eq!((by_card, &sorts.0), (by_model, &same.0));
-    say(&format!("{by_card} files made again, {} of {count} cards: {:?}", kind.name(), sorts.0));
+    assert_eq!((by_card, &sorts), (by_model, &same));
+    say(&format!("{by_card} files made again, {} of {count} cards: {:?}", kind.name(), sorts));
     (by_card, sorts)
 }
 
@@ -94,7 +49,7 @@ fn made_by_both(kind: Kind, count: usize) -> (u64, Sorts) {
 fn files_are_made_again_one_by_one() {
     let (all, sorts) = made_by_both(Kind::FilesAgain, CARDS);
     assert!(all > 1500, "{all}");
-    sorts.have(&["of 16,384 bytes and more"], 5);
+    assert!(sorts.of(sorts::LARGE) >= 5, "{sorts:?}");
 }
 
 #[test]

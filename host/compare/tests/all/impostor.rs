@@ -100,6 +100,17 @@ pub fn found_line(title: &str, impostor: &Impostor, kind: Option<Kind>) -> Line 
     }
 }
 
+/// A wrong command is found among all kinds of cases, and told on a small card.
+pub fn found_small(title: &str, command: Spoil) {
+    let line = found_line(title, &Impostor { command, ..HONEST }, None);
+    let small = match &line {
+        Line::Command { response, image, .. } => image.len() <= 272 && response.len() <= 56,
+        Line::Replay { input } => input.len() < 40,
+        _ => false,
+    };
+    assert!(small, "{title}: {}", line.line());
+}
+
 /// Answer 5, with everything as it came.
 pub fn too_short(came: &Came, left: &mut Left) -> Told {
     left.image.copy_from_slice(came.image);

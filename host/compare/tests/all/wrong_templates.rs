@@ -1,11 +1,19 @@
 //! Cards with a wrong template (02, Ticket 2) are found, and told in a small
 //! form; also where nothing else shows it than that a file is not made again.
 
-use crate::impostor::{found, found_line, respelled, with_value, Impostor, Spoil, HONEST};
+use crate::impostor::{
+    found, found_small, respelled, with_value, word, Came, Impostor, Left, Spoil, HONEST,
+};
 use cases::Kind;
-use compare::{Disagreement, Pair};
+use compare::{Disagreement, Pair, Told};
+use model::life_cycle::is_deactivated;
 use model::lines::Case as Line;
+use model::rule::{grants, Right};
+use model::soundness::sound_card;
+use model::template::{self, NewFile};
 use model::vectors::case_lines;
+use model::words::SUCCESS;
+use model::Card;
 
 /// Wrong templates, each of which a CREATE refuses or makes another file of.
 const TEMPLATES: [(&str, Spoil); 8] = [
@@ -57,13 +65,7 @@ const TEMPLATES: [(&str, Spoil); 8] = [
 #[test]
 fn every_wrong_template_is_found() {
     for (title, command) in TEMPLATES {
-        let line = found_line(title, &Impostor { command, ..HONEST }, None);
-        let small = match &line {
-            Line::Command { response, image, .. } => image.len() <= 272 && response.len() <= 56,
-            Line::Replay { input } => input.len() < 40,
-            _ => false,
-        };
-        assert!(small, "{title}: {}", line.line());
+        found_small(title, command);
     }
 }
 
@@ -84,6 +86,80 @@ fn a_template_that_makes_no_such_file_is_found() {
             assert_eq!(told, lines.into_iter().map(Some).collect::<Vec<_>>(), "{title}");
             assert!(told.len() < 20, "{title}: {complaint}: {} lines", told.len());
             assert!(again.image.len() <= 16 + 64 * 8, "{title}: {complaint}");
+        }
+    }
+}
+
+/// The card before a CREATE that was done, and the file that it makes.
+fn creation(came: &Came, told: Told) -> Option<(Card, NewFile)> {
+    let [0x00, 0xE0, 0x00, 0x00, _, data @ ..] = came.command else { return None };
+    let card = sound_card(came.image).filter(|_| told.word == SUCCESS)?;
+    let file = template::read(data, card.edition)?;
+    Some((card, file))
+}
+
+fn refused(came: &Came, left: &mut Left, refusal: u16) -> Told {
+    left.image.copy_from_slice(came.image);
+    word(refusal)
+}
+
+/// Cards that refuse a CREATE for what does not matter.
+const STRICT: [(&str, Spoil); 4] = [
+    ("a directory above is deactivated", |came, left, told| {
+        let closed = creation(came, told).is_some_and(|(card, _)| {
+            let deactivated = |&slot: &usize| is_deactivated(card.record(slot).life_cycle);
+            card.above(card.current_df).iter().any(deactivated)
+        });
+        if closed {
+            refused(came, left, 0x6985)
+        } else {
+            told
+        }
+    }),
+    ("the identifier stands elsewhere", |came, left, told| {
+        let taken = creation(came, told).is_some_and(|(card, file)| {
+            card.used_slots().any(|slot| card.record(slot).identifier == file.identifier)
+        });
+        if taken {
+            refused(came, left, 0x6A89)
+        } else {
+            told
+        }
+    }),
+    ("a name begins alike", |came, left, told| {
+        let taken = creation(came, told).is_some_and(|(card, file)| {
+            let alike = |name: &[u8]| !name.is_empty() && file.name.starts_with(name);
+            card.used_slots().any(|slot| alike(&card.record(slot).name))
+        });
+        if taken {
+            refused(came, left, 0x6A8A)
+        } else {
+            told
+        }
+    }),
+    ("both rights are asked for", |came, left, told| {
+        let denied = creation(came, told).is_some_and(|(card, _)| {
+            let rule = &card.record(card.current_df).rule;
+            let granted = |right| grants(rule, right, came.state);
+            !(granted(Right::CreateDf) && granted(Right::CreateEf))
+        });
+        if denied {
+            refused(came, left, 0x6982)
+        } else {
+            told
+        }
+    }),
+];
+
+/// Held against itself, such a card is found because some file is not made
+/// again on the card that is made for it.
+#[test]
+fn a_card_that_asks_more_than_the_ticket_is_found() {
+    for (title, command) in STRICT {
+        let wrong = Impostor { command, ..HONEST };
+        match found(Pair { card: &wrong, model: &wrong }, Some(Kind::FilesAgain)) {
+            Some(Disagreement::Again { .. }) => {}
+            other => panic!("{title}: {other:?}"),
         }
     }
 }

@@ -13,4 +13,5 @@ mod order;
 mod readings;
 mod scope;
 mod soundness;
+mod stored;
 mod vectors;

@@ -46,72 +46,74 @@ fn parts(script: &str) -> (Vec<&str>, Vec<&str>) {
     (commands, comments.into_iter().skip(5).collect())
 }
 
+/// A terminated card with directories and files in all life cycles.
+fn all_life_cycles() -> Vec<u8> {
+    card(&[
+        directory(0x3F00, 0x0C, &OPEN),
+        directory(0x7F01, 0x04, &OPEN),
+        file(0x6F01, 1, 0x06, &CLOSED),
+        file(0x6F02, 1, 0x0C, &OPEN),
+        directory(0x7F02, 0x0C, &OPEN),
+        directory(0x7F03, 0x06, &CLOSED),
+        directory(0x7F04, 0x0C, &OPEN),
+        file(0x6F03, 6, 0x07, &CLOSED),
+    ])
+}
+
+const COMMANDS: [&str; 18] = [
+    "00E000001E 621C 82023821 83027F01 8A0105 8C087F00000000000000 81020082 C60100",
+    "00E0000014 6212 82024121 83026F01 8A0106 8C0100 80020001",
+    "00E000001B 6219 82024121 83026F02 8A0105 8C087F00000000000000 80020001",
+    "00E80000",
+    "00A4000C02 7F01",
+    "00040000",
+    "00A4000C02 3F00",
+    "00E000001E 621C 82023821 83027F02 8A0105 8C087F00000000000000 81020082 C60100",
+    "00E60000",
+    "00A4000C02 3F00",
+    "00E0000017 6215 82023821 83027F03 8A0106 8C0100 81020082 C60100",
+    "00A4000C02 3F00",
+    "00E000001E 621C 82023821 83027F04 8A0105 8C087F00000000000000 81020082 C60100",
+    "00E0000014 6212 82024121 83026F03 8A0107 8C0100 80020001",
+    "00A4000C02 7F04",
+    "00E60000",
+    "00A4000C02 3F00",
+    "00FE0000",
+];
+
+const COMMENTS: [&str; 13] = [
+    "# 7F01 in 3F00: directory, deactivated (04), total 130",
+    "# 6F01 in 7F01: transparent, deactivated (06), size 1",
+    "# 6F02 in 7F01: transparent, terminated (0C), size 1",
+    "# 6F02 in 7F01 is to become terminated (0C)",
+    "# 7F01 in 3F00 is to become deactivated (04)",
+    "# 7F02 in 3F00: directory, terminated (0C), total 130",
+    "# 7F02 in 3F00 is to become terminated (0C)",
+    "# 7F03 in 3F00: directory, deactivated (06), total 130",
+    "# 7F04 in 3F00: directory, terminated (0C), total 130",
+    "# 6F03 in 7F04: transparent, activated (07), size 1",
+    "# 7F04 in 3F00 is to become terminated (0C)",
+    "# what is current in the end",
+    "# 3F00 is to become terminated (0C)",
+];
+
 /// Deactivated and terminated directories get their files first; EFs and empty
 /// directories get their life cycle at once, unless CREATE takes none such.
 #[test]
 fn life_cycles_come_when_the_files_are_made() {
     let folder = Folder::new("export-order");
-    folder.write(
-        "card",
-        card(&[
-            directory(0x3F00, 0x0C, &OPEN),
-            directory(0x7F01, 0x04, &OPEN),
-            file(0x6F01, 1, 0x06, &CLOSED),
-            file(0x6F02, 1, 0x0C, &OPEN),
-            directory(0x7F02, 0x0C, &OPEN),
-            directory(0x7F03, 0x06, &CLOSED),
-            directory(0x7F04, 0x0C, &OPEN),
-            file(0x6F03, 6, 0x07, &CLOSED),
-        ]),
-    );
+    folder.write("card", all_life_cycles());
     let script = folder.done(&["export", "card"]);
     let (commands, comments) = parts(&script);
-    let wanted = [
-        "00E000001E 621C 82023821 83027F01 8A0105 8C087F00000000000000 81020082 C60100",
-        "00E0000014 6212 82024121 83026F01 8A0106 8C0100 80020001",
-        "00E000001B 6219 82024121 83026F02 8A0105 8C087F00000000000000 80020001",
-        "00E80000",
-        "00A4000C02 7F01",
-        "00040000",
-        "00A4000C02 3F00",
-        "00E000001E 621C 82023821 83027F02 8A0105 8C087F00000000000000 81020082 C60100",
-        "00E60000",
-        "00A4000C02 3F00",
-        "00E0000017 6215 82023821 83027F03 8A0106 8C0100 81020082 C60100",
-        "00A4000C02 3F00",
-        "00E000001E 621C 82023821 83027F04 8A0105 8C087F00000000000000 81020082 C60100",
-        "00E0000014 6212 82024121 83026F03 8A0107 8C0100 80020001",
-        "00A4000C02 7F04",
-        "00E60000",
-        "00A4000C02 3F00",
-        "00FE0000",
-    ];
-    assert_eq!(commands, wanted, "{script}");
-    let wanted = [
-        "# 7F01 in 3F00: directory, deactivated (04), total 130",
-        "# 6F01 in 7F01: transparent, deactivated (06), size 1",
-        "# 6F02 in 7F01: transparent, terminated (0C), size 1",
-        "# 6F02 in 7F01 becomes terminated (0C)",
-        "# 7F01 in 3F00 becomes deactivated (04)",
-        "# 7F02 in 3F00: directory, terminated (0C), total 130",
-        "# 7F02 in 3F00 becomes terminated (0C)",
-        "# 7F03 in 3F00: directory, deactivated (06), total 130",
-        "# 7F04 in 3F00: directory, terminated (0C), total 130",
-        "# 6F03 in 7F04: transparent, activated (07), size 1",
-        "# 7F04 in 3F00 becomes terminated (0C)",
-        "# what is current in the end",
-        "# 3F00 becomes terminated (0C)",
-    ];
-    assert_eq!(comments, wanted, "{script}");
+    assert_eq!(commands, COMMANDS, "{script}");
+    assert_eq!(comments, COMMENTS, "{script}");
     assert!(script.contains("no command is refused, and all of the card is made again"));
 }
 
 const DENIED: &str = "is answered 6982, security status not satisfied: no access rule allows this";
 
-/// Each thing that cannot be made again, in the script and on standard error.
-#[test]
-fn what_is_lost_is_told() {
-    let folder = Folder::new("export-lost");
+/// A card with each thing that cannot be made again.
+fn much_to_lose() -> Vec<u8> {
     let mut root = directory(0x3F00, 0x07, &OPEN);
     root.descriptor = 0x78;
     root.name = vec![0xA0, 0x01];
@@ -130,23 +132,34 @@ fn what_is_lost_is_told() {
     ]);
     // Current is 6F03 in 7F03, which is not made.
     image[7..11].copy_from_slice(&[0, 5, 0, 6]);
-    folder.write("card", image);
+    image
+}
+
+/// What is lost of it, in the script and on standard error.
+#[test]
+fn what_is_lost_is_told() {
+    let folder = Folder::new("export-lost");
+    folder.write("card", much_to_lose());
     let ran = folder.uicc(&["export", "card"]);
     let wanted = [
-        "7F01 in 3F00 is deactivated (04) and not deactivated (06): no command writes 06",
-        &format!("6F02 in 7F02 is activated (05) and not terminated (0C): TERMINATE EF {DENIED}"),
+        "7F01 in 3F00 comes back deactivated (04), not deactivated (06): no command writes 06",
         &format!(
-            "7F02 in 3F00 is activated (05) and not deactivated (04): DEACTIVATE FILE {DENIED}"
+            "6F02 in 7F02 comes back activated (05), not terminated (0C): TERMINATE EF {DENIED}"
         ),
-        &format!("6F03 in 7F03 is not made: CREATE FILE {DENIED}"),
-        &format!("7F04 in 7F03 is not made: CREATE FILE {DENIED}"),
-        &format!("7F05 in 3F00 is activated (05) and not terminated (0C): TERMINATE DF {DENIED}"),
-        "3F00 has not the descriptor 78: uicc new gives another",
-        "3F00 has not the name A001: uicc new gives none",
-        "3F00 is activated (05) and not activated (07): no command writes 07",
+        &format!(
+            "7F02 in 3F00 comes back activated (05), not deactivated (04): DEACTIVATE FILE {DENIED}"
+        ),
+        &format!("6F03 in 7F03 does not come back: CREATE FILE {DENIED}"),
+        &format!("7F04 in 7F03 does not come back: CREATE FILE {DENIED}"),
+        &format!(
+            "7F05 in 3F00 comes back activated (05), not terminated (0C): TERMINATE DF {DENIED}"
+        ),
+        "the descriptor 78 of 3F00 does not come back: uicc new gives another",
+        "the name A001 of 3F00 does not come back: uicc new gives none",
+        "3F00 comes back activated (05), not activated (07): no command writes 07",
     ];
     let err: Vec<_> = ran.err.lines().collect();
-    assert_eq!(err, wanted.map(|what| format!("uicc: card: {what}")), "{}", ran.err);
+    assert_eq!(err, wanted.map(|what| format!("uicc: card: lost: {what}")), "{}", ran.err);
     let (_, comments) = parts(&ran.out);
     let lost: Vec<_> = comments.iter().filter_map(|line| line.strip_prefix("# LOST: ")).collect();
     assert_eq!(lost, wanted, "{}", ran.out);
@@ -154,6 +167,17 @@ fn what_is_lost_is_told() {
     let head = "and NOT ALL of the card is made again:\n# 9 lines below begin with LOST.\n";
     assert!(ran.out.contains(head), "{}", ran.out);
     assert!(comments.contains(&"# 3F00 is current in the end, since 6F03 in 7F03 is not made"));
+}
+
+/// The maker gives the root 05, so that a rule that never allows DEACTIVATE
+/// loses its 04 also where no file is in it.
+#[test]
+fn an_empty_root_can_lose_its_life_cycle() {
+    let folder = Folder::new("export-root");
+    folder.write("card", card(&[directory(0x3F00, 0x04, &CLOSED)]));
+    let ran = folder.uicc(&["export", "card"]);
+    let told = "3F00 comes back activated (05), not deactivated (04): DEACTIVATE FILE";
+    assert_eq!((ran.status, ran.err), (4, format!("uicc: card: lost: {told} {DENIED}\n")));
 }
 
 /// A root that lets no file be made, with a tree beneath a directory.
@@ -168,8 +192,8 @@ fn a_directory_that_is_not_made_takes_its_files_along() {
     ];
     folder.write("card", card(&files));
     let ran = folder.uicc(&["export", "card"]);
-    let told = format!("7F01 in 3F00 is not made, nor the file beneath it: CREATE FILE {DENIED}");
-    assert_eq!((ran.status, ran.err.as_str()), (4, &*format!("uicc: card: {told}\n")));
+    let told = "lost: 7F01 in 3F00 does not come back, nor the file beneath it: CREATE FILE";
+    assert_eq!((ran.status, ran.err), (4, format!("uicc: card: {told} {DENIED}\n")));
     assert!(ran.out.contains("made again:\n# one line below begins with LOST.\n"), "{}", ran.out);
     let commands = parts(&ran.out).0;
     let wanted = [

@@ -53,7 +53,7 @@ fn compare(folder: &Folder, old: &Card, what: &str) -> usize {
     let told: Vec<_> =
         export.out.lines().filter_map(|line| line.strip_prefix("# LOST: ")).collect();
     let also: Vec<_> =
-        export.err.lines().filter_map(|line| line.strip_prefix("uicc: old: ")).collect();
+        export.err.lines().filter_map(|line| line.strip_prefix("uicc: old: lost: ")).collect();
     assert_eq!(told, also, "{what}");
     if lost == 0 {
         assert_eq!((tree(&new), current(&new)), (tree(old), current(old)), "{what}");
