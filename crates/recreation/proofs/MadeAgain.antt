@@ -138,19 +138,19 @@ of-template : (r t u s : List ℕ) → t ≡ u → Sends r t s → Sends r u s
 of-template r t u s e w = subst (λ (x : List ℕ). Sends r x s) e w
 
 pub made-again : MadeAgain
-made-again img c st response n sent other state buffer bytes sound said sends whole welcomes =
+made-again img c st response n sent other state buffer bytes sound said life sends whole welcomes =
     let s = found img c in
     let r = recAt img s in
     let file = found-stands img c st response n sound said in
     let u = sound .records s (file .low) .used (file .used) in
     let w = of-template r _ _ sent (select-told img c st response n sound said) sends in
-    let k = create-obeys other (createOf sent) state buffer whole refl .met (met img s sent other state u (said .life) w whole welcomes) in
+    let k = create-obeys other (createOf sent) state buffer whole refl .met (met img s sent other state u life w whole welcomes) in
     let long = sound-within img sound s (file .low) .0 in
     let slot = slot-low other whole (sizeOf r) (welcomes .room) in
     (
       k .0,
       ap (λ (x : List ℕ). recAt x (newSlot other)) (k .1 ∙ makes other sent r (newSlot other) (dataOf sent)
-      (told img s sent other state u (said .life) w whole welcomes))
+      (told img s sent other state u life w whole welcomes))
       ∙ new-record other whole (newSlot other) _ _ _ slot (name-short r u) (fits-short (ruleOf r) (u .formed))
       ∙ record-again r _ _ (length-record img s long) (bytes-in img s long bytes) u,
     )

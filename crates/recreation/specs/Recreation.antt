@@ -35,15 +35,14 @@ createOf s = 0x00 ∷ 0xE0 ∷ 0x00 ∷ 0x00 ∷ length s ∷ s
 abbrev pub rightOf : List ℕ → Right
 rightOf r = cond (eqb (kindOf r) df) CreateDf CreateEf
 
--- a SELECT that told the template of the file that it found, n bytes; the file's life cycle is one that CREATE takes
+-- a SELECT that told n bytes
 pub record Told (img c : List ℕ) (st : State) (response : List ℕ) (n : ℕ) : Type 0 where
   pub select : instruction c ≡ 0xA4
   pub word : ℕ
   pub reply : replyOf img c st (length response) ≡ Word word n
   pub some : 1 ≤ n
-  pub life : newLife (lifeCycleOf (recAt img (found img c))) ≡ true
 
--- what it told
+-- what it told, at the start of the response
 abbrev pub toldBy : List ℕ → List ℕ → State → List ℕ → ℕ → List ℕ
 toldBy img c st response n = take n (responseOf img c st response)
 
@@ -74,12 +73,13 @@ pub record Welcomes (img other r : List ℕ) (st : State) : Type 0 where
 abbrev pub newSlot : List ℕ → ℕ
 newSlot other = slotIn (freeSlot (countOf other) (viewAt other))
 
--- RE-CREATION, from call to call: what SELECT told of a file, with a C6 after 81 for a DF, gives 9000 there, and the new record is the old
--- one but for parent and level. Nothing welcomes a root: a directory above, the other card's root, has its identifier. An image's elements
--- are bytes, as of any buffer; that it is sound doesn't say so
+-- RE-CREATION, from call to call: if the life cycle is one that CREATE takes, what SELECT told of a file, with a C6 after 81 for a DF,
+-- gives 9000 there, and the new record is the old one but for parent and level. Nothing welcomes a root: a directory above, the other
+-- card's root, has its identifier. An image's elements are bytes, as of any buffer; that it is sound doesn't say so
 abbrev pub MadeAgain : Type 0
 MadeAgain = (img c : List ℕ) (st : State) (response : List ℕ) (n : ℕ) (sent other : List ℕ) (state : State) (buffer : List ℕ)
-    → Bytes img → Sound img → Told img c st response n → Sends (recAt img (found img c)) (toldBy img c st response n) sent
+    → Bytes img → Sound img → Told img c st response n → newLife (lifeCycleOf (recAt img (found img c))) ≡ true
+    → Sends (recAt img (found img c)) (toldBy img c st response n) sent
     → Sound other → Welcomes img other (recAt img (found img c)) state
     → (replyOf other (createOf sent) state (length buffer) ≡ Word 0x9000 0)
     × (recAt (imageOf other (createOf sent) state (length buffer)) (newSlot other)
