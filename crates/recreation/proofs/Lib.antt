@@ -1,4 +1,3 @@
-pub mod Top
 pub mod Told
 pub mod MadeAgain
 pub mod Somewhere

@@ -27,7 +27,7 @@ use Rattle.sound.specs.Sound.{Sound}
 use Rattle.sound.specs.Kinship.{freeSlot, roomFor}
 use Rattle.sound.specs.Effects.{created}
 use Rattle.sound.proofs.Front.{sound-within}
-use Rattle.sound.proofs.FullTable.{slot-exists}
+use Rattle.sound.proofs.FullTable.{root-above, slot-exists}
 use Rattle.create_data.specs.declared.Data.{Data}
 use Rattle.create_data.specs.declared.Data.the-variants.{Df, Ef, Bad}
 use Rattle.create_data.specs.Data.{dataOf}
@@ -41,7 +41,6 @@ use Rattle.judge_target.specs.Target.{lifeAt, slotIn, rightFor, newIdentifier, 
 use Rattle.card.specs.Conditions.{Met, NoneTerminated, createAsks, found}
 use Rattle.card.specs.Obeyed.{creating}
 use Rattle.card.proofs.Obeyed.{create-obeys}
-use Rattle.recreation.proofs.Top.{root-above}
 use Rattle.recreation.proofs.Told.{found-stands, select-told}
 use Rattle.recreation.specs.Recreation.{createOf, rightOf, Welcomes, newSlot, MadeAgain}
 
@@ -120,7 +119,8 @@ module _ (img : List ℕ) (s : ℕ) (sent other : List ℕ) (st : State) (own : 
   alive : lifeOf (lifeAt other 0) ≡ terminated → ⊥
   alive e = none-terminated (viewAt other (currentDfOf other) .level) (omega arith)
       (ap (λ (x : ℕ). lifeOf (lifeAt other x))
-      (root-above other whole (currentDfOf other) (whole .current .df-low) (λ z. omega (arith, z, whole .current .df-dir))) ∙ e)
+      (root-above (countOf other) (viewAt other) (whole .kin) (omega (arith, whole .header .least)) (currentDfOf other)
+      (whole .current .df-low) (λ z. omega (arith, z, whole .current .df-dir))) ∙ e)
 
   met : Met (createAsks other (createOf sent) st)
   met =

@@ -33,7 +33,7 @@ use Rattle.sound.proofs.Fresh.{count, root, root-current, view-root, view-rest,
 use Rattle.fcp.proofs.Sizes.{file-fits}
 use Rattle.judge_target.specs.Target.{allowedAt}
 use Rattle.card.proofs.Steps.{cond-by}
-use Rattle.recreation.proofs.Top.{root-above}
+use Rattle.sound.proofs.FullTable.{root-above}
 use Rattle.recreation.specs.Recreation.{rightOf, Welcomes, allowing, WelcomeSomewhere}
 
 all-fits : fitsRecord allowing ≡ true
@@ -136,7 +136,8 @@ not-3F00 img sound s low file e =
     top : up (viewAt img) (suc (viewAt img dir .level)) s ≡ 0
     top =
         sym (up-shift (viewAt img) (viewAt img dir .level) s)
-        ∙ root-above img sound dir (placed .low) (λ q. omega (arith, q, placed .dir))
+        ∙ root-above (countOf img) (viewAt img) (sound .kin) (omega (arith, sound .header .least)) dir (placed .low)
+        (λ q. omega (arith, q, placed .dir))
 
 pub welcome-somewhere : WelcomeSomewhere
 unfolding card

@@ -54,16 +54,22 @@ module _ (n : ℕ) (v : ℕ → View) (kin : Kin n v) (some : 0 < n) where
             (not-root n v kin (up v k s) (r .used) (omega (arith, r .level))),
       )
 
-  -- a file lies at most as deep as there are other records
-  pub level-low : (s : ℕ) → s < n → (v s .kind ≡ 0 → ⊥) → v s .level < n
-  level-low s l u = go (same-or (up v (v s .level) s) 0)
+  -- the root stands at the top of every way up
+  pub root-above : (s : ℕ) → s < n → (v s .kind ≡ 0 → ⊥) → up v (v s .level) s ≡ 0
+  root-above s l u = ⊎-elim (λ e. e)
+      (λ z. absurd (omega (arith, kin .placed (up v (v s .level) s) (r .low) (r .used, z) .up, r .level)))
+      (same-or (up v (v s .level) s) 0)
     where
       r : Reached n v s (v s .level)
       r = reached n v kin s l u (v s .level) (omega arith)
 
-      go : (up v (v s .level) s ≡ 0) ⊎ (up v (v s .level) s ≡ 0 → ⊥) → v s .level < n
-      go (inl e) = omega (arith, rw e at (deeper s l u (v s .level) (omega arith)), kin .root-size)
-      go (inr z) = absurd (omega (arith, kin .placed (up v (v s .level) s) (r .low) (r .used, z) .up, r .level))
+  -- so a file's size, and 64 for each level, are within the root's total
+  pub within-root : (s : ℕ) → s < n → (v s .kind ≡ 0 → ⊥) → v s .size + 64 * v s .level ≤ v 0 .size
+  within-root s l u = rw (root-above s l u) at (deeper s l u (v s .level) (omega arith))
+
+  -- .. and it lies at most as deep as there are other records
+  pub level-low : (s : ℕ) → s < n → (v s .kind ≡ 0 → ⊥) → v s .level < n
+  level-low s l u = omega (arith, within-root s l u, kin .root-size)
 
   module _ (d : ℕ) (low : d < n) (dir : v d .kind ≡ 1) (room : charged n v d + 64 ≤ v d .size)
       (all : (s : ℕ) → s < n → v s .kind ≡ 0 → ⊥) where

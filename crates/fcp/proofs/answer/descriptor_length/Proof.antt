@@ -2,7 +2,6 @@
 use borrow.Author.Needs.{needs}
 use Rattle.fcp.specs.Writing.{descriptorLength}
 use Rattle.laws.proofs.Branches.{called, refused}
-use mathlib.Core.Path.{refl}
 use Rattle.fcp.proofs.answer.descriptor_length.Statement.{statement}
 use Rattle.fcp.proofs.answer.descriptor_length.Tie as tie
 

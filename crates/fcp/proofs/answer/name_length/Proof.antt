@@ -2,7 +2,6 @@
 use borrow.Author.Needs.{needs}
 use Rattle.fcp.specs.Writing.{nameLength}
 use Rattle.laws.proofs.Branches.{is-eq, not-eq}
-use mathlib.Core.Path.{refl}
 use Rattle.fcp.proofs.answer.name_length.Statement.{statement}
 use Rattle.fcp.proofs.answer.name_length.Tie as tie
 

@@ -2,7 +2,6 @@
 use borrow.Author.Needs.{needs}
 use Rattle.fcp.specs.Template.{sizeTag}
 use Rattle.laws.proofs.Branches.{got-eq, got-ne}
-use mathlib.Core.Path.{refl}
 use Rattle.fcp.proofs.objects.size_tag.Statement.{statement}
 use Rattle.fcp.proofs.objects.size_tag.Tie as tie
 
