@@ -39,7 +39,8 @@ pub record EachSettles : Type 0 where
   pub sound : (img : List ℕ) → Settles ℕ (HullSound img)
 
 -- the numbers that C sees (`hull-numbers`): a command on a damaged image gives 65536, one whose data don't fit 327680, both with three
--- zeros, any other its word and how many bytes were told; hull_sound gives 1 for a sound image and 0 for any other. Those of hull_make and hull_report are the maker's and the report's
+-- zeros, any other its word and how many bytes were told; hull_sound gives 1 for a sound image and 0 for any other. Those of hull_make
+-- and hull_report are the maker's and the report's
 -- (maker/specs, `MakerAnswers`, `ReportAnswers`)
 pub record HullNumbers : Type 0 where
   pub damaged : (img c : List ℕ) (st : State) (response : List ℕ) (r : ℕ) (left answered numbers : List ℕ)

@@ -73,7 +73,8 @@ module _ (img c : List ℕ) (st : State) (response : List ℕ) (sound : Sound im
       either-way false e = inr (firstFailing (allSteps img c st (length response)), reads-them .refused e)
 
   -- an effect that tells nothing
-  pub obeys-silent : (asks : List Ask) (word : ℕ) (left : List ℕ) → told img c (p .effect) ≡ [] → Reads (sharedSteps img c st ++ p .steps) asks
+  pub obeys-silent : (asks : List Ask) (word : ℕ) (left : List ℕ) → told img c (p .effect) ≡ []
+      → Reads (sharedSteps img c st ++ p .steps) asks
       → (Met asks → (wordOf (p .effect) ≡ word) × (appliedOf img c (p .effect) ≡ left)) → Obeys img c st response asks word left []
   unfolding final
   obeys-silent asks word left silent reads gives =
