@@ -23,12 +23,16 @@
  * needs that much left when it calls. The library asks for no more, checks nothing and cannot refuse: with less the
  * system ends the process, or, where no guard page stands below the stack, memory below it is overwritten.
  *
+ * Versions. An image has a version, 1 or 2, in its bytes 3 and 4, which the maker is told and no command changes. In
+ * version 1 every rule is compact and has 1 to 16 bytes. In version 2 a rule is compact or expanded and has 1 to 30.
+ *
  * Answers (0 to 4 are of 01, "Making and reporting"; 5 is of 02, Ticket 2):
  *   0  done; for a command its word tells
  *   1  the image is not sound (command, report): word 0000, numbers 0, image and response as they came
- *   2  maker: the length is not 16 + 64 N with N 2 to 1023: buffer as it came
+ *   2  maker: the length is not 16 + 64 N with N 2 to 1023, or the version is unknown: buffer as it came
  *   3  maker: the total is not 1 to 64 (N - 1): buffer as it came
- *   4  maker: the rule is not 1 to 16 bytes, or not well formed: buffer as it came
+ *   4  maker: the form is unknown or unfit for the version, or the rule has no byte, too many for the version, or is
+ *      not well formed: buffer as it came
  *   5  command: the response is shorter than the data: word 0000, numbers 0, image and response as they came
  * The maker checks 2, 3, 4 in that order. A command finds 1 first and 5 last. */
 #ifndef HULLPLAITER_H
@@ -41,19 +45,21 @@
 extern "C" {
 #endif
 
-/* Sizes in bytes: the header, one record, a rule at most; slots of an image at least and at most. */
+/* Sizes in bytes: the header, one record, a rule at most in any version, in version 1; slots of an image at least and at
+ * most. */
 #define HULL_HEADER_BYTES 16u
 #define HULL_RECORD_BYTES 64u
-#define HULL_RULE_MOST 16u
+#define HULL_RULE_MOST 30u
+#define HULL_RULE_MOST_1 16u
 #define HULL_SLOTS_LEAST 2u
 #define HULL_SLOTS_MOST 1023u
 #define HULL_IMAGE_BYTES(slots) (HULL_HEADER_BYTES + HULL_RECORD_BYTES * (size_t)(slots))
 
 /* Data that a command of this version answers at most, so that a response of this length is never too short. It is the
  * template of a DF with the longest name and the longest rule: 62 LL takes 2 bytes, 82 takes 4, 83 takes 4, 84 takes 18,
- * 8A takes 3, 8C takes 18 and 81 takes 4. An EF's is shorter, at most 37: its 82 takes 6 where it has records, but it has
- * no name, and a DF has no records. */
-#define HULL_RESPONSE_MOST 53u
+ * 8A takes 3, 8C or AB takes 32 and 81 takes 4. An EF's is shorter, at most 51: its 82 takes 6 where it has records, but
+ * it has no name, and a DF has no records. On a card of version 1 both are 14 bytes shorter. */
+#define HULL_RESPONSE_MOST 67u
 
 /* How many numbers hull_command and hull_report write. */
 #define HULL_COMMAND_NUMBERS 3u
@@ -62,21 +68,40 @@ extern "C" {
 /* Stack that a call takes at most. The compiled library takes 34408 bytes; the rest is left for other builds of it. */
 #define HULL_STACK_BYTES 40960u
 
+/* What card the maker makes: today the version of its image. A later version of this library joins a variant to it in
+ * the higher bits; a value that is neither of these two is unknown today. */
+#define HULL_VERSION_1 1u
+#define HULL_VERSION_2 2u
+
+/* The form of a rule: compact is the value of tag 8C, expanded that of tag AB. */
+#define HULL_COMPACT 0u
+#define HULL_EXPANDED 1u
+
+/* The answers. An unknown kind of card is answer 2 as well, and has a name of its own for it. */
 #define HULL_DONE 0u
 #define HULL_NOT_SOUND 1u
 #define HULL_BAD_LENGTH 2u
+#define HULL_BAD_KIND HULL_BAD_LENGTH
 #define HULL_BAD_TOTAL 3u
 #define HULL_BAD_RULE 4u
 #define HULL_SHORT_RESPONSE 5u
 
 /* Makes a fresh card in image[0 .. image_length): the root 3F00 with descriptor 38, life cycle 05, that total and that
- * rule, no name; the root current, no EF; all else free. `rule` is a compact rule (the value of tag 8C); it is copied
- * into the image.
+ * rule, no name; the root current, no EF; all else free.
  *
+ * kind    HULL_VERSION_1 or HULL_VERSION_2
  * total   1 to 64 (N - 1): what the root's direct children may use, each its size and 64 bytes
- * returns HULL_DONE, and every byte of the image is written, whatever was there; or HULL_BAD_LENGTH, HULL_BAD_TOTAL or
- *         HULL_BAD_RULE, and the buffer is as it came */
-uint32_t hull_make(uint8_t *image, size_t image_length, uint32_t total, const uint8_t *rule, size_t rule_length);
+ * form    of the root's rule: HULL_COMPACT, or in version 2 HULL_EXPANDED
+ * rule    the root's rule, without tag and length, 1 to HULL_RULE_MOST_1 bytes in version 1, to HULL_RULE_MOST in version
+ *         2; it is copied into the image. A compact one is groups of an AM byte with b8 clear and one SC byte for each of
+ *         its bits. An expanded one is groups of an AM_DO, 80 01 AM with b8 of AM clear, and one or more SC_DOs, of which
+ *         one suffices: 90 00 always, 97 00 never, 9E 01 SC an SC byte, A0 LL one of at least two SC_DOs inside, AF LL all
+ *         of at least two; at most four A0 or AF stand inside one another, and lengths are 00 to 7F. Groups of either form
+ *         are alternatives
+ * returns HULL_DONE, and every byte of the image is written, whatever was there; or HULL_BAD_LENGTH (HULL_BAD_KIND),
+ *         HULL_BAD_TOTAL or HULL_BAD_RULE, and the buffer is as it came */
+uint32_t hull_make(uint8_t *image, size_t image_length, uint32_t kind, uint32_t total, uint32_t form,
+                   const uint8_t *rule, size_t rule_length);
 
 /* Carries out one command on an image. `command` is the command as sent: CLA INS P1 P2, then Lc and data where it has
  * them, then Le where data is wanted. It may be of any length, also 0 (6700).
@@ -113,7 +138,9 @@ uint32_t hull_make(uint8_t *image, size_t image_length, uint32_t total, const ui
  *   6D00  an INS that is not built
  *   6B00  P1 P2 not 00 00 (SELECT: neither 00 0C, without data, nor 00 04, with the template)
  *   6A80  CREATE: wrong data. The life cycle in object 8A may be 01 (creation), 03 (initialisation), 04 or 06 (deactivated),
- *         05 or 07 (activated) and is kept as given; ACTIVATE writes 05, DEACTIVATE 04, TERMINATE 0C
+ *         05 or 07 (activated) and is kept as given; ACTIVATE writes 05, DEACTIVATE 04, TERMINATE 0C. The rule stands in
+ *         object 8C, or in version 2 in 8C or AB; AB in version 1, and a rule that is malformed or too long for the version,
+ *         is wrong data
  *   6A82  no such file
  *   6986  TERMINATE EF while no EF is current
  *   6982  the file's rule does not allow the command with these sets
@@ -129,7 +156,7 @@ uint32_t hull_make(uint8_t *image, size_t image_length, uint32_t total, const ui
  *   83  the identifier, two bytes
  *   84  the name, where the file has one
  *   8A  the life cycle, the byte that the card holds, 0C among them
- *   8C  the access rule
+ *   8C  the access rule if it is compact, or AB if it is expanded
  *   80  an EF's size, or 81 a DF's total, two bytes
  * With a C6 behind 81, which a card does not keep, it is the data of a CREATE that makes the same file again, unless the
  * file is the root or terminated. */

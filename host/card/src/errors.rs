@@ -3,28 +3,56 @@
 use std::error::Error;
 use std::fmt;
 
-use crate::LONGEST_RESPONSE;
+use crate::kind::{Form, Kind, Rule};
+use crate::{image_length, FEWEST_SLOTS, LONGEST_RESPONSE, MOST_SLOTS};
 
 /// Why the maker refused. The buffer is as it came.
 #[derive(Clone, Copy, PartialEq, Eq, Debug)]
 pub enum MakeError {
     /// Answer 2: the length of the buffer fits no number of slots.
     Length,
+    /// Answer 2: there is no card of this version.
+    Version(u16),
     /// Answer 3: the root's total is 0 or more than the slots allow.
     Total,
-    /// Answer 4: the root's rule is empty, too long or malformed.
-    Rule,
+    /// Answer 4: a card of this version takes no rule of this form.
+    Form(u16, Form),
+    /// Answer 4: the root's rule is empty, or longer than so many bytes.
+    RuleLength(usize),
+    /// Answer 4: the root's rule, which is of this form, is malformed.
+    Rule(Form),
     /// An answer that this version does not know.
     Unknown(u32),
 }
 
 impl MakeError {
+    /// Why answer 2 was given.
+    pub(crate) fn of_length_or_kind(length: usize, kind: Kind) -> MakeError {
+        let fits = (FEWEST_SLOTS..=MOST_SLOTS).any(|slots| image_length(slots) == length);
+        if fits {
+            MakeError::Version(kind.version)
+        } else {
+            MakeError::Length
+        }
+    }
+
+    /// Why answer 4 was given.
+    pub(crate) fn of_rule(kind: Kind, rule: Rule) -> MakeError {
+        match kind.longest_rule(rule.form) {
+            None => MakeError::Form(kind.version, rule.form),
+            Some(longest) if !(1..=longest).contains(&rule.bytes.len()) => {
+                MakeError::RuleLength(longest)
+            }
+            Some(_) => MakeError::Rule(rule.form),
+        }
+    }
+
     /// The library's number for it.
     pub fn answer(self) -> u32 {
         match self {
-            MakeError::Length => 2,
+            MakeError::Length | MakeError::Version(_) => 2,
             MakeError::Total => 3,
-            MakeError::Rule => 4,
+            MakeError::Form(..) | MakeError::RuleLength(_) | MakeError::Rule(_) => 4,
             MakeError::Unknown(answer) => answer,
         }
     }
@@ -34,20 +62,46 @@ impl fmt::Display for MakeError {
     fn fmt(&self, f: &mut fmt::Formatter<'_>) -> fmt::Result {
         match self {
             MakeError::Length => f.write_str("a card has 2 to 1,023 slots, and this is no such"),
+            MakeError::Version(version) => {
+                write!(f, "there is no card of version {version}: choose 1 or 2")
+            }
             MakeError::Total => f.write_str(
                 "the root's total does not fit the slots: choose from 1 up to 64 bytes for each \
                  slot but the root's",
             ),
-            MakeError::Rule => f.write_str(
-                "the root's access rule is malformed: give 1 to 16 bytes, groups of an AM byte \
-                 below 80 and one SC byte for each of its bits (7F00000000000000 allows all)",
+            MakeError::Form(version, form) => write!(
+                f,
+                "a card of version {version} takes no rule of tag {:02X}: version 2 takes 8C \
+                 and AB, version 1 only 8C",
+                form.tag()
             ),
+            MakeError::RuleLength(longest) => {
+                write!(f, "the root's access rule must have 1 to {longest} bytes on such a card")
+            }
+            MakeError::Rule(form) => {
+                write!(f, "the root's access rule is malformed: give {}", well_formed(*form))
+            }
             MakeError::Unknown(answer) => unknown(*answer, f),
         }
     }
 }
 
 impl Error for MakeError {}
+
+/// What a rule of a form must be.
+fn well_formed(form: Form) -> &'static str {
+    match form {
+        Form::Compact => {
+            "groups of an AM byte below 80 and one SC byte for each of its bits \
+             (7F00000000000000 allows all)"
+        }
+        Form::Expanded => {
+            "groups of 80 01 AM, with AM below 80, and conditions: 90 00, 97 00, 9E 01 SC, A0 or \
+             AF with a length and two conditions or more, four deep at most (80017F9000 allows \
+             all)"
+        }
+    }
+}
 
 /// The image is not sound, so that nothing was done with it.
 #[derive(Clone, Copy, PartialEq, Eq, Debug)]

@@ -3,6 +3,7 @@
 
 use crate::errors::{CommandError, Damaged, MakeError};
 use crate::ffi;
+use crate::kind::{Kind, Rule};
 use crate::state::State;
 use crate::word::Word;
 
@@ -29,12 +30,12 @@ pub struct Answer {
 }
 
 /// Makes a fresh card in the buffer: only the root, which is current.
-pub fn make(image: &mut [u8], total: u32, root_rule: &[u8]) -> Result<(), MakeError> {
-    match ffi::make(image, total, root_rule) {
+pub fn make(image: &mut [u8], kind: Kind, total: u32, root_rule: Rule) -> Result<(), MakeError> {
+    match ffi::make(image, kind.number(), total, root_rule.form.number(), root_rule.bytes) {
         0 => Ok(()),
-        2 => Err(MakeError::Length),
+        2 => Err(MakeError::of_length_or_kind(image.len(), kind)),
         3 => Err(MakeError::Total),
-        4 => Err(MakeError::Rule),
+        4 => Err(MakeError::of_rule(kind, root_rule)),
         answer => Err(MakeError::Unknown(answer)),
     }
 }

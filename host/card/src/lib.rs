@@ -6,9 +6,9 @@
 //! get names. No input makes a function of this crate panic.
 //!
 //! ```
-//! use card::{Card, State};
+//! use card::{Card, Kind, Rule, State};
 //!
-//! let mut card = Card::make(8, 448, &card::OPEN_RULE)?;
+//! let mut card = Card::make(8, Kind::VERSION_1, 448, Rule::OPEN)?;
 //! let select_root = [0x00, 0xA4, 0x00, 0x04, 0x02, 0x3F, 0x00, 0x00];
 //! let reply = card.command(&select_root, &State::FULL)?;
 //! assert_eq!(format!("{}: {}", reply.word, reply.word.meaning()), "9000: done");
@@ -22,6 +22,7 @@
 //! | a card that owns its image | [`Card`] |
 //! | the calls on a lent buffer | [`lent`] |
 //! | the same with the library's bare numbers | [`ffi`] |
+//! | what card it is, its root's rule | [`Kind`]; [`Rule`], [`Form`] |
 //! | what the caller has authenticated | [`State`] |
 //! | status words and their meaning | [`Word`] |
 //! | a word with the data that came with it | [`Reply`] |
@@ -40,12 +41,14 @@
 mod errors;
 #[allow(unsafe_code)]
 pub mod ffi;
+mod kind;
 pub mod lent;
 mod owned;
 mod state;
 mod word;
 
 pub use errors::{CommandError, Damaged, DamagedImage, MakeError};
+pub use kind::{Form, Kind, Rule};
 pub use lent::{Answer, Report};
 pub use owned::{Card, Reply};
 pub use state::State;
@@ -60,10 +63,8 @@ pub const FEWEST_SLOTS: usize = 2;
 /// Most slots of a card.
 pub const MOST_SLOTS: usize = 1023;
 /// The most bytes of data that a command answers: the template of a directory
-/// with a name of 16 bytes and a rule of 16.
-pub const LONGEST_RESPONSE: usize = 53;
-/// The access rule that allows everything always.
-pub const OPEN_RULE: [u8; 8] = [0x7F, 0, 0, 0, 0, 0, 0, 0];
+/// with a name of 16 bytes and a rule of 30.
+pub const LONGEST_RESPONSE: usize = 67;
 
 /// The length of the image of a card with so many slots.
 pub const fn image_length(slots: usize) -> usize {

@@ -3,6 +3,7 @@
 use std::fmt;
 
 use crate::errors::{CommandError, Damaged, DamagedImage, MakeError};
+use crate::kind::{Kind, Rule};
 use crate::lent::{self, Report};
 use crate::state::State;
 use crate::word::Word;
@@ -26,11 +27,11 @@ pub struct Card {
 
 impl Card {
     /// A fresh card: only the root, with this total and access rule.
-    pub fn make(slots: usize, total: u32, root_rule: &[u8]) -> Result<Card, MakeError> {
+    pub fn make(slots: usize, kind: Kind, total: u32, root_rule: Rule) -> Result<Card, MakeError> {
         // One slot more than allowed is refused like any larger number, and
         // no memory is asked for that nobody has.
         let mut image = vec![0; image_length(slots.min(MOST_SLOTS + 1))];
-        lent::make(&mut image, total, root_rule)?;
+        lent::make(&mut image, kind, total, root_rule)?;
         Ok(Card { image })
     }
 
@@ -60,6 +61,11 @@ impl Card {
     /// Asks the library once more whether the image is sound.
     pub fn is_sound(&self) -> bool {
         lent::is_sound(&self.image)
+    }
+
+    /// What card it is. No command changes that.
+    pub fn kind(&self) -> Kind {
+        Kind::of_image(&self.image)
     }
 
     /// The image.

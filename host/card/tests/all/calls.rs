@@ -1,8 +1,8 @@
 //! Each call reaches the library and tells what it answers, whatever it is
 //! handed.
 
-use card::{image_length, largest_total, lent};
-use card::{Card, CommandError, Damaged, MakeError, State, Word, LONGEST_RESPONSE, OPEN_RULE};
+use card::{largest_total, lent};
+use card::{Card, CommandError, Damaged, Kind, MakeError, Rule, State, Word, LONGEST_RESPONSE};
 
 use crate::common::{fresh, noise, run, select, CREATE_DF, CREATE_EF};
 
@@ -38,7 +38,9 @@ fn the_state_reaches_the_library_field_by_field() {
         (0x21, State { external: 2, ..State::EMPTY }),
         (0x11, State { user: 2, ..State::EMPTY }),
     ] {
-        let mut card = Card::make(8, 448, &[0x02, condition]).expect("a well-formed rule");
+        let rule = [0x02, condition];
+        let card = Card::make(8, Kind::VERSION_1, 448, Rule::compact(&rule));
+        let mut card = card.expect("a well-formed rule");
         let mut word = |state| card.command(CREATE_EF, &state).map(|reply| reply.word.0);
         let others = State {
             messaging: !state.messaging,
@@ -55,40 +57,15 @@ fn the_state_reaches_the_library_field_by_field() {
 }
 
 #[test]
-fn the_maker_refuses_in_its_order_and_every_error_says_what_to_do() {
-    let refused = |slots, total, rule: &[u8]| Card::make(slots, total, rule).err();
-    assert_eq!(refused(1, 0, &[]), Some(MakeError::Length));
-    assert_eq!(refused(1024, 1, &OPEN_RULE), Some(MakeError::Length));
-    assert_eq!(refused(usize::MAX, 1, &OPEN_RULE), Some(MakeError::Length));
-    assert_eq!(refused(2, 0, &[]), Some(MakeError::Total));
-    assert_eq!(refused(2, 65, &[]), Some(MakeError::Total));
-    assert_eq!(refused(2, 64, &[]), Some(MakeError::Rule));
-    assert_eq!(refused(2, 64, &[0; 17]), Some(MakeError::Rule));
-    assert_eq!(refused(2, 64, &[0x80]), Some(MakeError::Rule));
-    for (error, answer, advice) in [
-        (MakeError::Length, 2, "2 to 1,023 slots"),
-        (MakeError::Total, 3, "64 bytes for each slot but the root"),
-        (MakeError::Rule, 4, "1 to 16 bytes"),
-        (MakeError::Unknown(9), 9, "build both anew"),
-    ] {
-        assert_eq!(error.answer(), answer);
-        assert!(error.to_string().contains(advice), "{error}");
-    }
+fn a_command_that_fails_says_what_to_do() {
     for (error, answer, advice) in [
         (CommandError::Damaged, 1, "take an older copy"),
-        (CommandError::ShortResponse, 5, "53 bytes are enough"),
+        (CommandError::ShortResponse, 5, "67 bytes are enough"),
         (CommandError::Unknown(9), 9, "build both anew"),
     ] {
         assert_eq!(error.answer(), answer);
         assert!(error.to_string().contains(advice), "{error}");
     }
-}
-
-#[test]
-fn a_refused_buffer_is_left_alone() {
-    let mut buffer = vec![0xA5; image_length(2) - 1];
-    assert_eq!(lent::make(&mut buffer, 64, &OPEN_RULE), Err(MakeError::Length));
-    assert!(buffer.iter().all(|&byte| byte == 0xA5));
 }
 
 #[test]
@@ -128,8 +105,11 @@ fn every_word_has_a_meaning_of_its_own() {
 fn the_largest_total_is_the_one_that_the_maker_grants() {
     for slots in [2, 3, 8, 1023] {
         let largest = largest_total(slots);
-        assert!(Card::make(slots, largest, &OPEN_RULE).is_ok(), "{slots} slots");
-        assert_eq!(Card::make(slots, largest + 1, &OPEN_RULE).err(), Some(MakeError::Total));
+        for kind in Kind::ALL {
+            let made = |total| Card::make(slots, kind, total, Rule::OPEN);
+            assert!(made(largest).is_ok(), "{slots} slots, {kind:?}");
+            assert_eq!(made(largest + 1).err(), Some(MakeError::Total), "{kind:?}");
+        }
     }
     assert_eq!([0, 1, 1024, usize::MAX].map(largest_total), [0; 4]);
 }

@@ -1,6 +1,6 @@
 //! A card to try things on, and commands for it.
 
-use card::{Card, State, OPEN_RULE};
+use card::{Card, Kind, Rule, State};
 
 /// CREATE of the DF 7F10 with a total of 256.
 pub const CREATE_DF: &[u8] = &[
@@ -26,8 +26,31 @@ pub fn select_told(identifier: u16) -> Vec<u8> {
     vec![0x00, 0xA4, 0x00, 0x04, 0x02, high, low, 0x00]
 }
 
+/// An open card of a kind.
+pub fn fresh_of(kind: Kind) -> Card {
+    Card::make(8, kind, 448, Rule::OPEN).expect("a card that the maker grants")
+}
+
 pub fn fresh() -> Card {
-    Card::make(8, 448, &OPEN_RULE).expect("a card that the maker grants")
+    fresh_of(Kind::VERSION_1)
+}
+
+/// CREATE around data.
+pub fn create(data: &[u8]) -> Vec<u8> {
+    [&[0x00, 0xE0, 0x00, 0x00, data.len() as u8], data].concat()
+}
+
+/// The data of CREATE: a directory's template with a C6 behind 81.
+pub fn with_c6(template: &[u8]) -> Vec<u8> {
+    let mut data = [template, &[0xC6, 1, 0x00]].concat();
+    data[1] += 3;
+    data
+}
+
+/// What SELECT with 04 gives.
+pub fn told(card: &mut Card, identifier: u16) -> (u16, Vec<u8>) {
+    let reply = card.command(&select_told(identifier), &State::EMPTY).expect("a sound card");
+    (reply.word.0, reply.data)
 }
 
 /// The word of a command that has no data.

@@ -3,5 +3,7 @@
 
 mod calls;
 mod common;
+mod making;
 mod numbers;
+mod rules;
 mod templates;

@@ -1,7 +1,7 @@
 //! The bare numbers: each is written by every call, whatever it answers; and the
 //! header's numbers are the wrapper's.
 
-use card::{ffi, CommandError, MakeError};
+use card::{ffi, CommandError, Form, Kind, MakeError};
 use card::{FEWEST_SLOTS, HEADER_BYTES, LONGEST_RESPONSE, MOST_SLOTS, RECORD_BYTES};
 
 use crate::common::{fresh, select, select_told, CREATE_EF};
@@ -35,6 +35,7 @@ fn every_number_is_written_on_every_call() {
 #[test]
 fn the_header_has_the_same_numbers() {
     let answer = |number: u32| usize::try_from(number).expect("a small number");
+    let longest = |kind: Kind| kind.longest_rule(Form::Compact).expect("a card");
     for (name, value) in [
         ("HULL_HEADER_BYTES", HEADER_BYTES),
         ("HULL_RECORD_BYTES", RECORD_BYTES),
@@ -44,9 +45,15 @@ fn the_header_has_the_same_numbers() {
         ("HULL_COMMAND_NUMBERS", ffi::command(&mut [], &[], &mut [], FULL, 0).1.len()),
         ("HULL_REPORT_NUMBERS", ffi::report(&[]).1.len()),
         ("HULL_NOT_SOUND", answer(CommandError::Damaged.answer())),
+        ("HULL_VERSION_1", answer(Kind::VERSION_1.number())),
+        ("HULL_VERSION_2", answer(Kind::VERSION_2.number())),
+        ("HULL_RULE_MOST", longest(Kind::VERSION_2)),
+        ("HULL_RULE_MOST_1", longest(Kind::VERSION_1)),
+        ("HULL_COMPACT", answer(Form::Compact.number())),
+        ("HULL_EXPANDED", answer(Form::Expanded.number())),
         ("HULL_BAD_LENGTH", answer(MakeError::Length.answer())),
         ("HULL_BAD_TOTAL", answer(MakeError::Total.answer())),
-        ("HULL_BAD_RULE", answer(MakeError::Rule.answer())),
+        ("HULL_BAD_RULE", answer(MakeError::Rule(Form::Compact).answer())),
         ("HULL_SHORT_RESPONSE", answer(CommandError::ShortResponse.answer())),
     ] {
         let line = format!("#define {name} {value}u");

@@ -1,41 +1,25 @@
 //! SELECT that answers the template: which bytes, how long a response they
 //! need, and what stays.
 
-use card::{lent, Answer, Card, CommandError, State, Word, LONGEST_RESPONSE, OPEN_RULE};
+use card::{lent, Answer, CommandError, Kind, Rule, State, Word, LONGEST_RESPONSE};
 
-use crate::common::{fresh, noise, run, select, select_told, CREATE_DF, CREATE_EF};
+use crate::common::{create, fresh, fresh_of, told, with_c6};
+use crate::common::{noise, run, select, select_told, CREATE_DF, CREATE_EF};
 
-/// CREATE around data.
-fn create(data: &[u8]) -> Vec<u8> {
-    [&[0x00, 0xE0, 0x00, 0x00, data.len() as u8], data].concat()
-}
-
-/// A directory that answers the longest template: name and rule of 16 bytes.
-fn longest_directory() -> Vec<u8> {
+/// A directory that answers the longest template of its kind of card: a name
+/// of 16 bytes, and a compact rule of as many bytes as there may be.
+fn longest_directory(kind: Kind) -> Vec<u8> {
     let name = [0xA0; 16];
-    let rule = [0; 16];
+    let rule = vec![0; kind.longest_rule(card::Form::Compact).expect("a card")];
     let objects = [
         &[0x82, 2, 0x38, 0x21, 0x83, 2, 0x7F, 0x20, 0x84, 16][..],
         &name,
-        &[0x8A, 1, 0x05, 0x8C, 16],
+        &[0x8A, 1, 0x05, 0x8C, rule.len() as u8],
         &rule,
         &[0x81, 2, 0x00, 0x40],
     ];
     let objects = objects.concat();
     [&[0x62, objects.len() as u8], &objects[..]].concat()
-}
-
-/// The data of CREATE: the template with a C6 behind 81.
-fn with_c6(template: &[u8]) -> Vec<u8> {
-    let mut data = [template, &[0xC6, 1, 0x00]].concat();
-    data[1] += 3;
-    data
-}
-
-/// What SELECT with 04 gives.
-fn told(card: &mut Card, identifier: u16) -> (u16, Vec<u8>) {
-    let reply = card.command(&select_told(identifier), &State::EMPTY).expect("a sound card");
-    (reply.word.0, reply.data)
 }
 
 #[test]
@@ -49,7 +33,7 @@ fn a_file_tells_what_it_was_created_with() {
     assert_eq!((word, with_c6(&directory)), (0x9000, CREATE_DF[5..].to_vec()));
     let root = [
         &[0x62, 25, 0x82, 2, 0x38, 0x21, 0x83, 2, 0x3F, 0x00, 0x8A, 1, 0x05, 0x8C, 8][..],
-        &OPEN_RULE,
+        Rule::OPEN.bytes,
         &[0x81, 2, 0x01, 0xC0],
     ];
     assert_eq!(told(&mut card, 0x3F00), (0x9000, root.concat()));
@@ -73,11 +57,13 @@ fn records_and_warnings_come_with_the_template() {
 
 #[test]
 fn the_longest_template_is_as_long_as_told() {
-    let template = longest_directory();
-    assert_eq!(template.len(), LONGEST_RESPONSE);
-    let mut card = fresh();
-    assert_eq!(run(&mut card, &create(&with_c6(&template))), 0x9000);
-    assert_eq!(told(&mut card, 0x7F20), (0x9000, template));
+    for (kind, length) in [(Kind::VERSION_1, 53), (Kind::VERSION_2, LONGEST_RESPONSE)] {
+        let template = longest_directory(kind);
+        assert_eq!(template.len(), length);
+        let mut card = fresh_of(kind);
+        assert_eq!(run(&mut card, &create(&with_c6(&template))), 0x9000);
+        assert_eq!(told(&mut card, 0x7F20), (0x9000, template));
+    }
 }
 
 /// Every length from none to one more than is needed, on the longest template
@@ -85,7 +71,7 @@ fn the_longest_template_is_as_long_as_told() {
 /// enough writes the template, and the bytes past it stay.
 #[test]
 fn a_response_that_is_too_short_leaves_everything() {
-    let longest = longest_directory();
+    let longest = longest_directory(Kind::VERSION_2);
     let shortest = [
         0x62, 18, 0x82, 2, 0x41, 0x21, 0x83, 2, 0x6F, 0x07, 0x8A, 1, 0x05, 0x8C, 1, 0x00, 0x80, 2,
         0x00, 0x01,
@@ -93,7 +79,7 @@ fn a_response_that_is_too_short_leaves_everything() {
     for (identifier, data, template) in
         [(0x7F20, with_c6(&longest), &longest[..]), (0x6F07, shortest.to_vec(), &shortest)]
     {
-        let mut card = fresh();
+        let mut card = fresh_of(Kind::VERSION_2);
         assert_eq!(run(&mut card, &create(&data)), 0x9000);
         assert_eq!(run(&mut card, &select(0x3F00)), 0x9000);
         let before = card.into_image();

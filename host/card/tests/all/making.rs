@@ -1,0 +1,168 @@
+//! The maker: what it is told, the order in which it refuses, and what an error
+//! says.
+
+use card::{ffi, image_length, lent, Card, Form, Kind, MakeError, Rule};
+
+use crate::common::{fresh_of, noise, run, CREATE_DF};
+
+/// All rights, always.
+const OPEN: Rule = Rule::expanded(&[0x80, 0x01, 0x7F, 0x90, 0x00]);
+
+fn refused(slots: usize, kind: Kind, total: u32, rule: Rule) -> Option<MakeError> {
+    Card::make(slots, kind, total, rule).err()
+}
+
+#[test]
+fn the_maker_refuses_in_its_order() {
+    let (one, two, none) = (Kind::VERSION_1, Kind::VERSION_2, Kind::of_version(3));
+    let empty = Rule::compact(&[]);
+    for slots in [0, 1, 1024, usize::MAX] {
+        assert_eq!(refused(slots, none, 0, empty), Some(MakeError::Length), "{slots}");
+        assert_eq!(refused(slots, one, 1, Rule::OPEN), Some(MakeError::Length), "{slots}");
+    }
+    for version in [0, 3, 0x0101, 0x0200, u16::MAX] {
+        let kind = Kind::of_version(version);
+        assert_eq!(refused(2, kind, 0, empty), Some(MakeError::Version(version)));
+        assert_eq!(refused(2, kind, 64, Rule::OPEN), Some(MakeError::Version(version)));
+    }
+    for kind in Kind::ALL {
+        assert_eq!(refused(2, kind, 0, empty), Some(MakeError::Total));
+        assert_eq!(refused(2, kind, 65, OPEN), Some(MakeError::Total));
+        assert_eq!(refused(2, kind, 64, Rule::compact(&[0x80])), Some(MakeError::Rule(Form::Compact)));
+    }
+    assert_eq!(refused(2, one, 64, OPEN), Some(MakeError::Form(1, Form::Expanded)));
+    assert_eq!(refused(2, two, 64, OPEN), None);
+}
+
+#[test]
+fn a_rule_is_as_long_as_its_version_allows() {
+    for (kind, longest) in [(Kind::VERSION_1, 16), (Kind::VERSION_2, 30)] {
+        assert_eq!(kind.longest_rule(Form::Compact), Some(longest));
+        for length in 0..=40 {
+            let rule = vec![0; length];
+            let wanted = match (1..=longest).contains(&length) {
+                true => None,
+                false => Some(MakeError::RuleLength(longest)),
+            };
+            assert_eq!(refused(2, kind, 64, Rule::compact(&rule)), wanted, "{length} bytes");
+        }
+    }
+    // A group of 5 bytes and conditions of 2 after it.
+    for conditions in 0..=20 {
+        let rule = [&[0x80, 0x01, 0x7F][..], &[0x90, 0x00].repeat(conditions)].concat();
+        let wanted = match conditions {
+            0 => Some(MakeError::Rule(Form::Expanded)),
+            1..=13 => None,
+            _ => Some(MakeError::RuleLength(30)),
+        };
+        assert_eq!(refused(2, Kind::VERSION_2, 64, Rule::expanded(&rule)), wanted, "{rule:02X?}");
+    }
+    assert_eq!(Kind::of_version(3).longest_rule(Form::Compact), None);
+    assert_eq!(Kind::VERSION_1.longest_rule(Form::Expanded), None);
+}
+
+#[test]
+fn every_error_says_what_to_do() {
+    for (error, answer, advice) in [
+        (MakeError::Length, 2, "2 to 1,023 slots"),
+        (MakeError::Version(3), 2, "no card of version 3: choose 1 or 2"),
+        (MakeError::Total, 3, "64 bytes for each slot but the root"),
+        (MakeError::Form(1, Form::Expanded), 4, "version 1 takes no rule of tag AB"),
+        (MakeError::RuleLength(30), 4, "1 to 30 bytes"),
+        (MakeError::Rule(Form::Compact), 4, "one SC byte for each of its bits"),
+        (MakeError::Rule(Form::Expanded), 4, "four deep at most"),
+        (MakeError::Unknown(9), 9, "build both anew"),
+    ] {
+        assert_eq!(error.answer(), answer);
+        assert!(error.to_string().contains(advice), "{error}");
+    }
+}
+
+/// The library's own numbers: a kind or a form that is none, also one that
+/// differs from a known one only in its higher bits.
+#[test]
+fn unknown_numbers_are_refused() {
+    let made = |kind, form, rule: &[u8]| ffi::make(&mut [0; 144], kind, 64, form, rule);
+    for kind in [0, 3, 255, 0x0001_0001, 0x0100_0002, u32::MAX] {
+        assert_eq!(made(kind, 0, Rule::OPEN.bytes), 2, "{kind:X}");
+    }
+    for form in [2, 3, 0x0100, 0x0001_0000, u32::MAX] {
+        assert_eq!(made(2, form, Rule::OPEN.bytes), 4, "{form:X}");
+        assert_eq!(made(2, form, OPEN.bytes), 4, "{form:X}");
+    }
+    assert_eq!([made(1, 0, Rule::OPEN.bytes), made(2, 0, Rule::OPEN.bytes)], [0, 0]);
+    assert_eq!([made(1, 1, OPEN.bytes), made(2, 1, OPEN.bytes)], [4, 0]);
+    // Each form read as the other.
+    assert_eq!([made(2, 1, Rule::OPEN.bytes), made(2, 0, OPEN.bytes)], [4, 4]);
+}
+
+#[test]
+fn a_refused_buffer_is_left_alone() {
+    let mut short = vec![0xA5; image_length(2) - 1];
+    let given = lent::make(&mut short, Kind::VERSION_1, 64, Rule::OPEN);
+    assert_eq!(given, Err(MakeError::Length));
+    assert!(short.iter().all(|&byte| byte == 0xA5));
+    let mut whole = vec![0xA5; image_length(2)];
+    for (kind, total, rule) in [
+        (Kind::of_version(9), 64, Rule::OPEN),
+        (Kind::VERSION_2, 65, Rule::OPEN),
+        (Kind::VERSION_1, 64, OPEN),
+        (Kind::VERSION_2, 64, Rule::expanded(&[0x90, 0x00])),
+    ] {
+        assert!(lent::make(&mut whole, kind, total, rule).is_err(), "{kind:?} {rule:?}");
+        assert!(whole.iter().all(|&byte| byte == 0xA5), "{kind:?} {rule:?}");
+    }
+}
+
+/// Version and form stand where the documents say; every other byte is that of
+/// a card of version 1.
+#[test]
+fn an_image_tells_its_kind() {
+    for (kind, rule) in
+        [(Kind::VERSION_1, Rule::OPEN), (Kind::VERSION_2, Rule::OPEN), (Kind::VERSION_2, OPEN)]
+    {
+        let card = Card::make(2, kind, 64, rule).expect("a card");
+        assert_eq!(card.kind(), kind);
+        let mut wanted = vec![0; image_length(2)];
+        wanted[..12].copy_from_slice(b"UFT\x00\x00\x00\x02\x00\x00\xFF\xFF\x00");
+        wanted[4] = kind.version as u8;
+        let root = &mut wanted[16..];
+        let head = [1, 0x38, 0x05, rule.form.number() as u8, 0x3F, 0x00];
+        root[..6].copy_from_slice(&head);
+        (root[15], root[33]) = (64, rule.bytes.len() as u8);
+        root[34..34 + rule.bytes.len()].copy_from_slice(rule.bytes);
+        assert_eq!(card.image(), wanted, "{kind:?} {rule:?}");
+    }
+    let mut card = fresh_of(Kind::VERSION_2);
+    run(&mut card, CREATE_DF);
+    assert_eq!(card.kind(), Kind::VERSION_2, "no command changes it");
+    let short = Kind::of_version(0);
+    assert_eq!([&[][..], b"UFT", b"UFT\x00"].map(Kind::of_image), [short; 3]);
+    assert_eq!(Kind::of_image(b"UFT\x00\x02"), Kind::VERSION_2);
+    assert_eq!(Kind::default(), Kind::VERSION_1);
+}
+
+/// Any kind, form, total and rule: an answer, and a sound card if it is 0.
+#[test]
+fn no_bytes_make_the_maker_panic() {
+    let mut made = 0;
+    for seed in 0..4000 {
+        let mut noise = noise(seed);
+        let mut byte = || noise.next().unwrap_or_default();
+        let (kind, form) = (u32::from(byte() % 4), u32::from(byte() % 3));
+        let total = u32::from(byte());
+        let rule: Vec<u8> = (0..byte() % 34).map(|_| byte() % 0x14).collect();
+        let mut image = vec![0xA5; image_length(2 + usize::from(byte() % 4))];
+        match ffi::make(&mut image, kind, total, form, &rule) {
+            0 => {
+                assert!(lent::is_sound(&image), "{rule:02X?}");
+                made += 1;
+            }
+            answer => {
+                assert!((2..=4).contains(&answer), "{answer}");
+                assert!(image.iter().all(|&byte| byte == 0xA5), "{rule:02X?}");
+            }
+        }
+    }
+    assert!(made > 50, "{made} cards were made");
+}
