@@ -1,5 +1,5 @@
 //! The answers of the public calls: the table of 01, "Making and reporting";
-//! 02, Ticket 2 (answer 5).
+//! 02, Ticket 2 (answer 5) and Ticket 3 (versions and forms).
 
 /// The number that each public call answers with.
 pub type Answer = u8;
@@ -8,11 +8,12 @@ pub type Answer = u8;
 pub const DONE: Answer = 0;
 /// Command and report: the image is not sound; everything stays as it came.
 pub const UNSOUND: Answer = 1;
-/// Maker: the buffer's length is not 16 + 64 N with N from 2 to 1,023.
-pub const BAD_LENGTH: Answer = 2;
+/// Maker: the version is unknown, or the buffer's length is not 16 + 64 N with
+/// N from 2 to 1,023.
+pub const BAD_BUFFER: Answer = 2;
 /// Maker: the total is not from 1 to 64 (N - 1).
 pub const BAD_TOTAL: Answer = 3;
-/// Maker: the rule is not 1 to 16 bytes long, or not well formed.
+/// Maker: form and rule do not fit a record of the version.
 pub const BAD_RULE: Answer = 4;
 /// Command: the response buffer is shorter than the data that it should take;
 /// everything stays as it came.

@@ -1,19 +1,37 @@
-//! The one place for what will differ between cards: the level (how many
-//! tickets of document 02 have landed), the image version and the variant.
-//! 01, "Image": version 1, and header bytes 11 to 15 are zero.
+//! The one place for what differs between cards: the level (how many tickets
+//! of document 02 have landed), the image version and the variant. 01, "Image"
+//! (version 1, header bytes 11 to 15 zero); 02, Ticket 3 (version 2).
+
+use crate::rule::Form;
 
 /// How many tickets the model contains; names the vectors it is tested with.
-pub const LEVEL: u8 = 2;
-
-/// The form of a compact rule, as the vectors number the forms. The level
-/// knows no other: a rule of another form is malformed and fit for no record.
-pub const COMPACT_FORM: u8 = 0;
+pub const LEVEL: u8 = 3;
 
 /// The image version, header bytes 3 and 4.
 #[derive(Clone, Copy, PartialEq, Eq, Debug)]
 pub enum Version {
     /// Compact rules of up to 16 bytes, no bodies.
     One,
+    /// Rules of either form, of up to 30 bytes, no bodies.
+    Two,
+}
+
+impl Version {
+    /// All versions.
+    pub const ALL: [Version; 2] = [Version::One, Version::Two];
+
+    /// The number in the header, in the maker's call and in the vectors.
+    pub fn number(self) -> u16 {
+        match self {
+            Version::One => 1,
+            Version::Two => 2,
+        }
+    }
+
+    /// The version of a number.
+    pub fn from_number(number: u32) -> Option<Version> {
+        Version::ALL.into_iter().find(|version| u32::from(version.number()) == number)
+    }
 }
 
 /// Which directory pays for a file, header byte 11.
@@ -34,15 +52,17 @@ pub struct Edition {
 
 impl Edition {
     /// The card of 01.
-    pub const BASE: Edition = Edition { version: Version::One, variant: Variant::Static };
+    pub const BASE: Edition = Edition::of(Version::One);
+
+    /// A card of this version in which each directory pays.
+    pub const fn of(version: Version) -> Edition {
+        Edition { version, variant: Variant::Static }
+    }
 
     /// What header bytes 3, 4 and 11 say, or nothing if the model's level
     /// does not know them.
     pub fn from_header(version: u16, variant: u8) -> Option<Edition> {
-        let version = match version {
-            1 => Version::One,
-            _ => return None,
-        };
+        let version = Version::from_number(u32::from(version))?;
         let variant = match variant {
             0 => Variant::Static,
             _ => return None,
@@ -52,9 +72,7 @@ impl Edition {
 
     /// The number in header bytes 3 and 4.
     pub fn version_number(self) -> u16 {
-        match self.version {
-            Version::One => 1,
-        }
+        self.version.number()
     }
 
     /// The number in header byte 11.
@@ -64,11 +82,20 @@ impl Edition {
         }
     }
 
-    /// How many bytes a rule may have in a record; as many are set aside for
-    /// it from record byte 34 on.
+    /// How many bytes a rule may have in a record, of whichever form; as many
+    /// are set aside for it from record byte 34 on.
     pub fn longest_rule(self) -> usize {
         match self.version {
             Version::One => 16,
+            Version::Two => 30,
+        }
+    }
+
+    /// Whether rules of this form stand in its records.
+    pub fn takes(self, form: Form) -> bool {
+        match self.version {
+            Version::One => form == Form::Compact,
+            Version::Two => true,
         }
     }
 }

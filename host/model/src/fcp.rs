@@ -21,7 +21,7 @@ pub fn template(file: &Record) -> Vec<u8> {
         push_object(&mut objects, tags::NAME, &file.name);
     }
     push_object(&mut objects, tags::LIFE_CYCLE, &[file.life_cycle]);
-    push_object(&mut objects, tags::COMPACT_RULE, &file.rule);
+    push_object(&mut objects, tags::of_rule(file.form), &file.rule);
     let size_tag = if file.is_df() { tags::DF_TOTAL } else { tags::EF_SIZE };
     push_object(&mut objects, size_tag, &size(file).to_be_bytes());
     let mut out = Vec::new();

@@ -12,8 +12,10 @@
 //! | level, versions, variants | [`edition`] |
 //! | status words, answers | [`words`], [`answers`] |
 //! | image layout | [`card`], [`record`], [`bytes`] |
+//! | data objects | [`objects`] |
 //! | soundness | [`soundness`] |
-//! | descriptor, life cycle, rule | [`descriptor`], [`life_cycle`], [`rule`] |
+//! | descriptor, life cycle | [`descriptor`], [`life_cycle`] |
+//! | rules of each form | [`rule`], [`compact`], [`expanded`] |
 //! | security state | [`security`] |
 //! | maker, report, replay | [`maker`], [`mod@report`], [`mod@replay`] |
 //! | steps A to G of a command | [`mod@command`] |
@@ -39,13 +41,16 @@ pub mod bytes;
 pub mod card;
 pub mod command;
 pub mod commands;
+pub mod compact;
 pub mod descriptor;
 pub mod edition;
+pub mod expanded;
 pub mod fcp;
 pub mod ledger;
 pub mod life_cycle;
 pub mod lines;
 pub mod maker;
+pub mod objects;
 pub mod record;
 pub mod replay;
 pub mod report;

@@ -3,8 +3,8 @@
 //! hex, `-` for none; sets and channels are hex numbers, all others decimal.
 
 use crate::bytes::byte;
-use crate::edition::{Edition, COMPACT_FORM};
-use crate::rule::{self, Right};
+use crate::edition::{Edition, Version};
+use crate::rule::{self, Form, Right};
 use crate::security::State;
 use crate::{command, make, replay, report, Outcome};
 
@@ -15,8 +15,12 @@ pub enum Case {
     Make {
         /// The lent buffer.
         buffer: Vec<u8>,
+        /// The number of the image version.
+        version: u32,
         /// The total.
         total: u32,
+        /// The number of the rule's form.
+        form: u32,
         /// The root's rule.
         rule: Vec<u8>,
     },
@@ -46,7 +50,7 @@ pub enum Case {
     /// E: the seven decisions of one rule.
     Decide {
         /// The number of the rule's form.
-        form: u8,
+        form: u32,
         /// The rule, of any length.
         rule: Vec<u8>,
         /// The caller's state.
@@ -55,9 +59,9 @@ pub enum Case {
     /// W: whether a rule is fit for a record.
     Fit {
         /// The image version.
-        version: u16,
+        version: u32,
         /// The number of the rule's form.
-        form: u8,
+        form: u32,
         /// The rule, of any length.
         rule: Vec<u8>,
     },
@@ -79,9 +83,11 @@ impl Case {
     pub fn parse(line: &str) -> Option<Case> {
         let fields: Vec<&str> = line.split(' ').collect();
         match *fields.as_slice() {
-            ["M", buffer, total, rule, "1", "0", "0"] => Some(Case::Make {
+            ["M", buffer, total, rule, version, form, "0"] => Some(Case::Make {
                 buffer: from_hex(buffer)?,
+                version: version.parse().ok()?,
                 total: total.parse().ok()?,
+                form: form.parse().ok()?,
                 rule: from_hex(rule)?,
             }),
             ["C", image, command, messaging, external, user, channels, pool, response] => {
@@ -112,8 +118,8 @@ impl Case {
     /// The case as a line.
     pub fn line(&self) -> String {
         match self {
-            Case::Make { buffer, total, rule } => {
-                format!("M {} {total} {} 1 0 0", hex(buffer), hex(rule))
+            Case::Make { buffer, version, total, form, rule } => {
+                format!("M {} {total} {} {version} {form} 0", hex(buffer), hex(rule))
             }
             Case::Command { image, command, state, pool, response } => {
                 let (image, command) = (hex(image), hex(command));
@@ -133,9 +139,9 @@ impl Case {
     /// What the model gives, in the format of the vectors' results.
     pub fn result(&self) -> String {
         match self {
-            Case::Make { buffer, total, rule } => {
+            Case::Make { buffer, version, total, form, rule } => {
                 let mut buffer = buffer.clone();
-                let answer = make(&mut buffer, *total, rule);
+                let answer = make(&mut buffer, *version, *total, *form, rule);
                 format!("M {answer} {}", hex(&buffer))
             }
             Case::Command { image, command: bytes, state, pool, response } => {
@@ -172,19 +178,23 @@ fn fold_digits(result: &str) -> String {
     }
 }
 
-/// Seven digits, b7 first: 0 granted, 1 not; or `malformed`.
-fn decisions(form: u8, rule: &[u8], state: &State) -> String {
-    if form != COMPACT_FORM || rule::groups(rule).is_none() {
+/// Seven digits, b7 first: 0 granted, 1 not; or `malformed`, which a rule of
+/// an unknown form is too.
+fn decisions(form: u32, rule: &[u8], state: &State) -> String {
+    let well_formed = |form: &Form| rule::groups(*form, rule).is_some();
+    let Some(form) = Form::from_number(form).filter(well_formed) else {
         return "malformed".to_string();
-    }
-    let digit = |right| if rule::grants(rule, right, state) { '0' } else { '1' };
+    };
+    let digit = |right| if rule::decide(form, rule, right, state) { '0' } else { '1' };
     Right::ALL.into_iter().map(digit).collect()
 }
 
 /// Whether a rule of this form may stand in a record of this version.
-fn fit(version: u16, form: u8, rule: &[u8]) -> bool {
-    let edition = Edition::from_header(version, Edition::BASE.variant_number());
-    form == COMPACT_FORM && edition.is_some_and(|edition| rule::fit(edition, rule))
+fn fit(version: u32, form: u32, rule: &[u8]) -> bool {
+    match (Version::from_number(version), Form::from_number(form)) {
+        (Some(version), Some(form)) => rule::fit(Edition::of(version), form, rule),
+        _ => false,
+    }
 }
 
 fn state(messaging: &str, external: &str, user: &str, channels: &str) -> Option<State> {

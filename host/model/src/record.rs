@@ -1,15 +1,19 @@
-//! One record of the image: the table of 01, "Image". Decoding checks what
+//! One record of the image: the table of 01, "Image", and byte 3 by 02,
+//! Ticket 3. Decoding checks what
 //! the layout alone says (lengths, padding, zero bytes); [`crate::soundness`]
 //! checks what the fields mean.
 
 use crate::bytes::{all_zero, byte, number16, number32, part, push_padded, rest};
 use crate::edition::Edition;
+use crate::rule::{self, Form, Right};
+use crate::security::State;
 
 /// Bytes in a record.
 pub const RECORD_BYTES: usize = 64;
 /// Longest name.
 pub const LONGEST_NAME: usize = 16;
 
+const FORM_AT: usize = 3;
 const NAME_LENGTH_AT: usize = 16;
 const NAME_AT: usize = 17;
 const RULE_LENGTH_AT: usize = 33;
@@ -47,6 +51,8 @@ pub struct Record {
     pub size: u32,
     /// Name; empty for none.
     pub name: Vec<u8>,
+    /// How the rule is written.
+    pub form: Form,
     /// Access rule.
     pub rule: Vec<u8>,
 }
@@ -63,6 +69,7 @@ impl Record {
         record_length: 0,
         size: 0,
         name: Vec::new(),
+        form: Form::Compact,
         rule: Vec::new(),
     };
 
@@ -87,6 +94,11 @@ impl Record {
         charge(self.size)
     }
 
+    /// Whether the file's rule grants a right.
+    pub fn grants(&self, right: Right, state: &State) -> bool {
+        rule::decide(self.form, &self.rule, right, state)
+    }
+
     /// Reads 64 bytes; nothing if the layout is broken.
     pub fn decode(bytes: &[u8], edition: Edition) -> Option<Record> {
         let kind = match byte(bytes, 0) {
@@ -95,16 +107,14 @@ impl Record {
             2 => Kind::Ef,
             _ => return None,
         };
+        let form = Form::from_number(u32::from(byte(bytes, FORM_AT)))?;
         let name_length = usize::from(byte(bytes, NAME_LENGTH_AT));
         let rule_length = usize::from(byte(bytes, RULE_LENGTH_AT));
         let (name, name_padding) = padded(bytes, NAME_AT, LONGEST_NAME, name_length)?;
         let (rule, rule_padding) = padded(bytes, RULE_AT, edition.longest_rule(), rule_length)?;
         let last = rest(bytes, RULE_AT + edition.longest_rule());
-        let zeros_are_zero = byte(bytes, 3) == 0
-            && all_zero(name_padding)
-            && all_zero(rule_padding)
-            && all_zero(last);
-        if !zeros_are_zero {
+        let zeros_are_zero = all_zero(name_padding) && all_zero(rule_padding) && all_zero(last);
+        if !edition.takes(form) || !zeros_are_zero {
             return None;
         }
         Some(Record {
@@ -117,6 +127,7 @@ impl Record {
             record_length: number16(bytes, 10),
             size: number32(bytes, 12),
             name: name.to_vec(),
+            form,
             rule: rule.to_vec(),
         })
     }
@@ -128,7 +139,7 @@ impl Record {
             Kind::Df => 1,
             Kind::Ef => 2,
         };
-        let mut bytes = vec![kind, self.descriptor, self.life_cycle, 0];
+        let mut bytes = vec![kind, self.descriptor, self.life_cycle, self.form.number()];
         for number in [self.identifier, self.parent, self.level, self.record_length] {
             bytes.extend(number.to_be_bytes());
         }

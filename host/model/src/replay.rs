@@ -9,6 +9,7 @@ use crate::edition::Edition;
 use crate::fcp;
 use crate::maker::make;
 use crate::record::RECORD_BYTES;
+use crate::rule::Form;
 use crate::security::State;
 
 /// Longest input that is looked at.
@@ -41,7 +42,9 @@ fn fresh_image(input: &[u8]) -> Option<Vec<u8>> {
         return None;
     }
     let mut image = vec![0; HEADER_BYTES + RECORD_BYTES * slots];
-    let answer = make(&mut image, number32(header, 7), &ROOT_RULE);
+    let version = u32::from(Edition::BASE.version_number());
+    let form = u32::from(Form::Compact.number());
+    let answer = make(&mut image, version, number32(header, 7), form, &ROOT_RULE);
     (answer == DONE).then_some(image)
 }
 

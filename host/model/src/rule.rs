@@ -1,7 +1,10 @@
-//! Compact access rules: 01, "Descriptor and rules", second paragraph.
+//! Access rules, whatever their form: what they can allow, and how one
+//! decides. How each form is written stands in [`compact`] and [`expanded`];
+//! both are read into the same groups.
 
 use crate::edition::Edition;
 use crate::security::{condition_holds, State};
+use crate::{compact, expanded};
 
 /// What a rule can allow, with the number of its AM bit (b7 to b1).
 #[derive(Clone, Copy, PartialEq, Eq, Debug)]
@@ -33,52 +36,102 @@ impl Right {
         Right::CreateEf,
         Right::DeleteChild,
     ];
+
+    /// Its bit alone, as an AM byte has it.
+    pub fn bit(self) -> u8 {
+        1 << (self as u8 - 1)
+    }
 }
 
-/// One group: for each right that its AM byte names, the SC byte.
-#[derive(Clone, PartialEq, Eq, Debug, Default)]
+/// How a rule is written, record byte 3.
+#[derive(Clone, Copy, PartialEq, Eq, Debug)]
+pub enum Form {
+    /// AM bytes and SC bytes, tag 8C.
+    Compact,
+    /// Data objects, tag AB.
+    Expanded,
+}
+
+impl Form {
+    /// All forms.
+    pub const ALL: [Form; 2] = [Form::Compact, Form::Expanded];
+
+    /// The number in record byte 3, in the maker's call and in the vectors.
+    pub fn number(self) -> u8 {
+        match self {
+            Form::Compact => 0,
+            Form::Expanded => 1,
+        }
+    }
+
+    /// The form of a number.
+    pub fn from_number(number: u32) -> Option<Form> {
+        Form::ALL.into_iter().find(|form| u32::from(form.number()) == number)
+    }
+}
+
+/// What must hold before a right is granted.
+#[derive(Clone, PartialEq, Eq, Debug)]
+pub enum Condition {
+    /// Holds always.
+    Always,
+    /// Holds never.
+    Never,
+    /// An SC byte.
+    Byte(u8),
+    /// One of these must hold.
+    OneOf(Vec<Condition>),
+    /// All of these must hold.
+    AllOf(Vec<Condition>),
+}
+
+impl Condition {
+    /// Whether it holds under a state. Reading lets conditions nest only a
+    /// few deep, and so deep this goes.
+    pub fn holds(&self, state: &State) -> bool {
+        match self {
+            Condition::Always => true,
+            Condition::Never => false,
+            Condition::Byte(sc) => condition_holds(*sc, state),
+            Condition::OneOf(inside) => inside.iter().any(|one| one.holds(state)),
+            Condition::AllOf(inside) => inside.iter().all(|one| one.holds(state)),
+        }
+    }
+}
+
+/// Rights, and conditions of which one suffices for each of them.
+#[derive(Clone, PartialEq, Eq, Debug)]
 pub struct Group {
-    conditions: Vec<(Right, u8)>,
+    /// An AM byte, b8 clear: the rights by their bits.
+    pub rights: u8,
+    /// The conditions.
+    pub conditions: Vec<Condition>,
 }
 
 impl Group {
-    /// The SC byte for a right, if the group names that right.
-    pub fn condition(&self, right: Right) -> Option<u8> {
-        self.conditions.iter().find(|(named, _)| *named == right).map(|(_, sc)| *sc)
+    fn grants(&self, right: Right, state: &State) -> bool {
+        self.rights & right.bit() != 0 && self.conditions.iter().any(|one| one.holds(state))
     }
 }
 
-/// The groups of a rule, or nothing if it is malformed: an AM byte with b8
-/// set, or an SC byte missing at the end.
-pub fn groups(rule: &[u8]) -> Option<Vec<Group>> {
-    let mut bytes = rule.iter().copied();
-    let mut groups = Vec::new();
-    while let Some(am) = bytes.next() {
-        if am & 0x80 != 0 {
-            return None;
-        }
-        let mut group = Group::default();
-        for right in Right::ALL {
-            if am & (1 << (right as u8 - 1)) != 0 {
-                group.conditions.push((right, bytes.next()?));
-            }
-        }
-        groups.push(group);
+/// The groups of a rule of any length, or nothing if it is malformed.
+pub fn groups(form: Form, rule: &[u8]) -> Option<Vec<Group>> {
+    match form {
+        Form::Compact => compact::groups(rule),
+        Form::Expanded => expanded::groups(rule),
     }
-    Some(groups)
 }
 
-/// Whether the rule may stand in a record of this edition: 1 to 16 bytes,
-/// well formed.
-pub fn fit(edition: Edition, rule: &[u8]) -> bool {
-    (1..=edition.longest_rule()).contains(&rule.len()) && groups(rule).is_some()
+/// Whether a rule of this form may stand in a record of this edition: a form
+/// that the edition takes, not empty, not too long, well formed.
+pub fn fit(edition: Edition, form: Form, rule: &[u8]) -> bool {
+    edition.takes(form)
+        && (1..=edition.longest_rule()).contains(&rule.len())
+        && groups(form, rule).is_some()
 }
 
-/// Whether the rule grants the right: one group suffices; a right that no
-/// group names, and a malformed rule, are denied.
-pub fn grants(rule: &[u8], right: Right, state: &State) -> bool {
-    groups(rule)
-        .unwrap_or_default()
-        .iter()
-        .any(|group| group.condition(right).is_some_and(|sc| condition_holds(sc, state)))
+/// Whether the rule, of any length, grants the right: one group suffices; a
+/// right that no group names, and a malformed rule, are denied.
+pub fn decide(form: Form, rule: &[u8], right: Right, state: &State) -> bool {
+    groups(form, rule).unwrap_or_default().iter().any(|group| group.grants(right, state))
 }

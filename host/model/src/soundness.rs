@@ -51,7 +51,7 @@ fn fields_are_good(card: &Card, record: &Record) -> bool {
     };
     kind_agrees
         && life_cycle::known(record.life_cycle)
-        && rule::fit(card.edition, &record.rule)
+        && rule::fit(card.edition, record.form, &record.rule)
         && measures_fit(descriptor_class, record.size, record.record_length)
         && (record.is_df() || record.name.is_empty())
 }

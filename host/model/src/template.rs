@@ -1,15 +1,19 @@
-//! The data of CREATE, step H: 01, "CREATE", first paragraph. Every breach is
-//! 6A80, so reading gives the new file or nothing.
+//! The data of CREATE, step H: 01, "CREATE", first paragraph; 02, Ticket 3 (a
+//! rule in either form). Every breach is 6A80, so reading gives the new file or nothing.
 
-use crate::bytes::{number16, part, rest, value};
+use crate::bytes::{number16, value};
 use crate::card::RESERVED_IDENTIFIERS;
 use crate::descriptor::{class, measures_fit, Class};
 use crate::edition::Edition;
+use crate::life_cycle;
+use crate::objects::{self, Object, LONGEST_VALUE};
 use crate::record::LONGEST_NAME;
-use crate::{life_cycle, rule};
+use crate::rule::{self, Form};
 
 /// The tags of the objects that CREATE takes.
 pub mod tags {
+    use crate::rule::Form;
+
     /// The template around all objects.
     pub const TEMPLATE: u8 = 0x62;
     /// File descriptor.
@@ -22,6 +26,8 @@ pub mod tags {
     pub const LIFE_CYCLE: u8 = 0x8A;
     /// Compact rule.
     pub const COMPACT_RULE: u8 = 0x8C;
+    /// Expanded rule, in the place of a compact one.
+    pub const EXPANDED_RULE: u8 = 0xAB;
     /// Size of an EF's body.
     pub const EF_SIZE: u8 = 0x80;
     /// Total of a DF.
@@ -32,10 +38,15 @@ pub mod tags {
     pub const PROPRIETARY: u8 = 0x85;
     /// Proprietary template, not kept.
     pub const PROPRIETARY_TEMPLATE: u8 = 0xA5;
-}
 
-/// Largest length that one byte tells.
-const LONGEST_OBJECT: u8 = 0x7F;
+    /// The tag of a rule of this form.
+    pub fn of_rule(form: Form) -> u8 {
+        match form {
+            Form::Compact => COMPACT_RULE,
+            Form::Expanded => EXPANDED_RULE,
+        }
+    }
+}
 
 /// What CREATE's data ask for.
 #[derive(Clone, PartialEq, Eq, Debug)]
@@ -54,15 +65,10 @@ pub struct NewFile {
     pub size: u32,
     /// Name; empty for none.
     pub name: Vec<u8>,
+    /// How the rule is written.
+    pub form: Form,
     /// Access rule.
     pub rule: Vec<u8>,
-}
-
-/// One object of the template.
-#[derive(Clone, Copy)]
-struct Object<'a> {
-    tag: u8,
-    value: &'a [u8],
 }
 
 /// The objects not yet read, in order.
@@ -76,6 +82,13 @@ impl<'a> Objects<'a> {
     fn required(&mut self, tag: u8, lengths: std::ops::RangeInclusive<usize>) -> Option<&'a [u8]> {
         let object = self.left.next()?;
         (object.tag == tag && lengths.contains(&object.value.len())).then_some(object.value)
+    }
+
+    /// The next object, which must be a rule of some form.
+    fn rule(&mut self) -> Option<(Form, &'a [u8])> {
+        let object = self.left.next()?;
+        let form = Form::ALL.into_iter().find(|form| tags::of_rule(*form) == object.tag)?;
+        Some((form, object.value))
     }
 
     /// Whether the next object has one of these tags.
@@ -98,13 +111,13 @@ pub fn read(data: &[u8], edition: Edition) -> Option<NewFile> {
         &[]
     };
     let life_cycle = *objects.required(tags::LIFE_CYCLE, 1..=1)?.first()?;
-    let file_rule = objects.required(tags::COMPACT_RULE, 1..=edition.longest_rule())?;
+    let (form, file_rule) = objects.rule()?;
     let size_tag = if class == Class::Df { tags::DF_TOTAL } else { tags::EF_SIZE };
     let size = value(objects.required(size_tag, 2..=4)?)?;
     read_unkept(&mut objects, class)?;
     let good = !RESERVED_IDENTIFIERS.contains(&identifier)
         && life_cycle::creatable(life_cycle)
-        && rule::fit(edition, file_rule)
+        && rule::fit(edition, form, file_rule)
         && measures_fit(class, size, record_length);
     good.then(|| NewFile {
         class,
@@ -114,6 +127,7 @@ pub fn read(data: &[u8], edition: Edition) -> Option<NewFile> {
         record_length,
         size,
         name: name.to_vec(),
+        form,
         rule: file_rule.to_vec(),
     })
 }
@@ -122,7 +136,7 @@ pub fn read(data: &[u8], edition: Edition) -> Option<NewFile> {
 /// or A5, then nothing.
 fn read_unkept(objects: &mut Objects, class: Class) -> Option<()> {
     if class == Class::Df {
-        objects.required(tags::PIN_STATUS, 1..=usize::from(LONGEST_OBJECT))?;
+        objects.required(tags::PIN_STATUS, 1..=usize::from(LONGEST_VALUE))?;
     }
     if objects.next_is(&[tags::PROPRIETARY, tags::PROPRIETARY_TEMPLATE]) {
         objects.left.next();
@@ -147,28 +161,9 @@ fn record_length(class: Class, description: &[u8]) -> Option<u16> {
 
 /// 62 LL, then objects that fill LL and end the data.
 fn objects_of_template(data: &[u8]) -> Option<Objects<'_>> {
-    let (template, after) = first_object(data)?;
+    let (template, after) = objects::first(data)?;
     if template.tag != tags::TEMPLATE || !after.is_empty() {
         return None;
     }
-    let mut objects = Vec::new();
-    let mut left = template.value;
-    while !left.is_empty() {
-        let (object, after) = first_object(left)?;
-        objects.push(object);
-        left = after;
-    }
-    Some(Objects { left: objects.into_iter() })
-}
-
-/// Tag, length of one byte 00-7F, value; and what follows.
-fn first_object(bytes: &[u8]) -> Option<(Object<'_>, &[u8])> {
-    let tag = *bytes.first()?;
-    let length = *bytes.get(1)?;
-    if length > LONGEST_OBJECT {
-        return None;
-    }
-    let length = usize::from(length);
-    let value = part(bytes, 2, length)?;
-    Some((Object { tag, value }, rest(bytes, 2 + length)))
+    Some(Objects { left: objects::all(template.value)?.into_iter() })
 }

@@ -4,7 +4,7 @@
 use crate::card::{Card, ROOT};
 use crate::command::refuse_if;
 use crate::life_cycle;
-use crate::rule::{grants, Right};
+use crate::rule::Right;
 use crate::security::State;
 use crate::words::{
     Word, CONDITIONS_NOT_SATISFIED, NO_CURRENT_EF, SECURITY_NOT_SATISFIED, SUCCESS,
@@ -57,7 +57,7 @@ fn step_i_current_ef(card: &Card) -> Result<usize, Word> {
 }
 
 fn step_j_security(card: &Card, slot: usize, right: Right, state: &State) -> Result<(), Word> {
-    let granted = grants(&card.record(slot).rule, right, state);
+    let granted = card.record(slot).grants(right, state);
     refuse_if(!granted, SECURITY_NOT_SATISFIED)
 }
 

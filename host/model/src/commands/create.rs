@@ -4,7 +4,7 @@ use crate::card::{slot_number, Card};
 use crate::command::refuse_if;
 use crate::descriptor::Class;
 use crate::record::{charge, Kind, Record};
-use crate::rule::{grants, Right};
+use crate::rule::Right;
 use crate::security::State;
 use crate::template::{self, NewFile};
 use crate::words::{
@@ -32,8 +32,8 @@ fn step_j_security(card: &Card, new: &NewFile, state: &State) -> Result<(), Word
         Class::Df => Right::CreateDf,
         _ => Right::CreateEf,
     };
-    let rule = &card.record(card.current_df).rule;
-    refuse_if(!grants(rule, right, state), SECURITY_NOT_SATISFIED)
+    let granted = card.record(card.current_df).grants(right, state);
+    refuse_if(!granted, SECURITY_NOT_SATISFIED)
 }
 
 /// The current DF is deactivated or terminated, or one above is terminated.
@@ -82,6 +82,7 @@ fn record_of(card: &Card, new: NewFile) -> Record {
         record_length: new.record_length,
         size: new.size,
         name: new.name,
+        form: new.form,
         rule: new.rule,
     }
 }

@@ -4,7 +4,7 @@
 use crate::card::Card;
 use crate::command::refuse_if;
 use crate::record::Record;
-use crate::rule::{grants, Right};
+use crate::rule::Right;
 use crate::security::State;
 use crate::words::{Word, FILE_NOT_FOUND, SECURITY_NOT_SATISFIED, SUCCESS};
 
@@ -30,7 +30,7 @@ fn step_i_child(card: &Card, identifier: u16) -> Result<usize, Word> {
 
 /// The child's b7 or the current DF's b1.
 fn step_j_security(card: &Card, child: usize, state: &State) -> Result<(), Word> {
-    let by_child = grants(&card.record(child).rule, Right::DeleteSelf, state);
-    let by_directory = grants(&card.record(card.current_df).rule, Right::DeleteChild, state);
+    let by_child = card.record(child).grants(Right::DeleteSelf, state);
+    let by_directory = card.record(card.current_df).grants(Right::DeleteChild, state);
     refuse_if(!by_child && !by_directory, SECURITY_NOT_SATISFIED)
 }

@@ -22,16 +22,27 @@ pub fn bytes(text: &str) -> Vec<u8> {
     from_hex(&text.replace(' ', "")).expect("a hex string in the test itself")
 }
 
-/// A fresh card.
+/// A fresh card of version 1.
 pub fn fresh(slots: usize, total: u32, rule: &str) -> Vec<u8> {
+    made(1, slots, total, 0, rule)
+}
+
+/// A fresh card.
+pub fn made(version: u32, slots: usize, total: u32, form: u32, rule: &str) -> Vec<u8> {
     let mut image = vec![0xA5; 16 + 64 * slots];
-    assert_eq!(make(&mut image, total, &bytes(rule)), 0, "the maker's answer");
+    let answer = make(&mut image, version, total, form, &bytes(rule));
+    assert_eq!(answer, 0, "the maker's answer");
     image
 }
 
 /// A fresh card of so many slots with the largest total and an open rule.
 pub fn roomy(slots: usize) -> Vec<u8> {
     fresh(slots, 64 * (slots as u32 - 1), OPEN)
+}
+
+/// The same of version 2.
+pub fn roomy_two(slots: usize) -> Vec<u8> {
+    made(2, slots, 64 * (slots as u32 - 1), 0, OPEN)
 }
 
 /// Runs one command under a state and gives its word and its data; the image
@@ -87,6 +98,29 @@ pub fn create_named(identifier: &str, name: &str, total: u32) -> String {
 pub fn create_ef(identifier: &str, size: u32, rule: &str) -> String {
     let rule_length = bytes(rule).len();
     create(&format!("82024121 8302{identifier} 8A0105 8C{rule_length:02X}{rule} 8004{size:08X}"))
+}
+
+/// A CREATE of a small DF with this rule object.
+pub fn create_df_ruled(identifier: &str, rule: &str) -> String {
+    create(&format!("82027821 8302{identifier} 8A0105 {rule} 81020100 C60100"))
+}
+
+/// A CREATE of a small EF with this rule object.
+pub fn create_ef_ruled(identifier: &str, rule: &str) -> String {
+    create(&format!("82024121 8302{identifier} 8A0105 {rule} 80020009"))
+}
+
+/// An expanded rule of so many bytes, 5 or more, that allows everything: an
+/// AM_DO and 90s, one 9E among them where the number is even.
+pub fn expanded_of(length: usize) -> String {
+    let byte = if length % 2 == 0 { "9E0100" } else { "" };
+    let always = (length - 3 - byte.len() / 2) / 2;
+    format!("80017F{byte}{}", "9000".repeat(always))
+}
+
+/// A data object.
+pub fn object(tag: u8, value: &str) -> String {
+    format!("{tag:02X}{:02X}{value}", value.replace(' ', "").len() / 2)
 }
 
 /// A CREATE of a small DF, open to everything, with this life-cycle byte.

@@ -5,6 +5,7 @@
 
 mod common;
 mod create_data;
+mod expanded;
 mod fcp;
 mod ledger;
 mod life_cycle;
@@ -12,6 +13,8 @@ mod no_panic;
 mod order;
 mod readings;
 mod scope;
+mod sorts;
 mod soundness;
 mod stored;
 mod vectors;
+mod version_two;

@@ -2,9 +2,9 @@
 //! ones included, at every public function, and images with one byte changed.
 
 use crate::common::*;
-use model::edition::Edition;
+use model::edition::{Edition, Version};
 use model::lines::{from_hex, hex, results_agree, Case};
-use model::rule::Right;
+use model::rule::{Form, Right};
 use model::security::condition_holds;
 use model::{bytes as numbers, *};
 
@@ -82,18 +82,26 @@ fn select_with_templates(image: &[u8], random: &mut Random) {
     }
 }
 
+fn every_edition_and_form() -> impl Iterator<Item = (Edition, Form)> {
+    let editions = Version::ALL.map(Edition::of).into_iter();
+    editions.flat_map(|edition| Form::ALL.map(|form| (edition, form)))
+}
+
 /// Calls everything that takes any bytes.
 fn call_with_bytes(bytes: &[u8], random: &mut Random) {
     let state = random.state();
     let _ = replay(bytes);
-    let _ = rule::groups(bytes);
-    let _ = rule::fit(Edition::BASE, bytes);
-    let _ = Right::ALL.map(|right| rule::grants(bytes, right, &state));
-    let _ = template::read(bytes, Edition::BASE);
-    let _ = ledger::announced(bytes);
-    if let Some(record) = Record::decode(bytes, Edition::BASE) {
-        let _ = fcp::template(&record);
+    for (edition, form) in every_edition_and_form() {
+        let _ = rule::groups(form, bytes);
+        let _ = rule::fit(edition, form, bytes);
+        let _ = Right::ALL.map(|right| rule::decide(form, bytes, right, &state));
+        let _ = template::read(bytes, edition);
+        if let Some(record) = Record::decode(bytes, edition) {
+            let _ = fcp::template(&record);
+        }
     }
+    let _ = objects::all(bytes);
+    let _ = ledger::announced(bytes);
     let unsound = Record { rule: bytes.to_vec(), size: u32::MAX, ..Record::FREE };
     let _ = fcp::template(&unsound);
     for at in [0, bytes.len(), random.below(70), usize::MAX] {
@@ -110,7 +118,8 @@ fn call_with_bytes(bytes: &[u8], random: &mut Random) {
     let text = String::from_utf8_lossy(bytes).into_owned();
     let _ = (from_hex(&text), Case::parse(&text), results_agree(&text, "E 2"));
     let mut buffer = bytes.to_vec();
-    assert!(make(&mut buffer, random.next() as u32, bytes) <= 4);
+    let [version, form] = [random.next() as u32 % 5, random.next() as u32 % 4];
+    assert!(make(&mut buffer, version, random.next() as u32, form, bytes) <= 4);
 }
 
 #[test]
@@ -148,7 +157,7 @@ fn a_good_header_before_random_records() {
     let mut random = Random(3);
     for _ in 0..2000 {
         let slots = 2 + random.below(5);
-        let mut image = roomy(slots);
+        let mut image = if random.below(2) == 0 { roomy(slots) } else { roomy_two(slots) };
         for slot in 1..slots {
             let record = &mut image[16 + 64 * slot..80 + 64 * slot];
             record[0] = 1 + random.below(2) as u8;
@@ -157,6 +166,7 @@ fn a_good_header_before_random_records() {
             for (at, limit) in [(5, 4), (7, slots + 1), (9, 4), (11, 3), (15, 9)] {
                 record[at] = random.below(limit) as u8;
             }
+            record[3] = random.below(2) as u8;
             record[33] = 1;
         }
         image[8] = random.below(slots + 1) as u8;

@@ -1,7 +1,8 @@
 //! The readings that a case can show: A1 to A33 of the base, A36 of Ticket 1,
 //! which docs/DECISIONS.md has in words. Those on soundness are in
 //! soundness.rs, on CREATE's data in create_data.rs, on the order in order.rs,
-//! on replay in scope.rs, on Ticket 2 (A35, A37 to A41) in fcp.rs.
+//! on replay in scope.rs, on Ticket 2 (A35, A37 to A41) in fcp.rs, on Ticket 3
+//! (A42 to A50) in expanded.rs and version_two.rs.
 
 use crate::common::*;
 use model::edition::Edition;
@@ -270,7 +271,7 @@ fn a36_the_root_of_any_version_may_hold_06_and_07() {
 fn the_maker_checks_2_then_3_then_4() {
     let answer = |length: usize, total: u32, rule: &str| {
         let mut buffer = vec![0x5A; length];
-        let answer = make(&mut buffer, total, &bytes(rule));
+        let answer = make(&mut buffer, 1, total, 0, &bytes(rule));
         assert_eq!(answer != 0, buffer.iter().all(|&b| b == 0x5A), "left as it came");
         answer
     };

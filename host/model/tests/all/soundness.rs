@@ -63,8 +63,9 @@ fn stays_sound(position: usize, new: &str) {
 fn header() {
     unsound(0, "56");
     unsound(2, "53");
-    unsound(3, "0002");
-    unsound(3, "0000");
+    for version in ["0000", "0003", "0101", "0102", "0100", "FFFF"] {
+        unsound(3, version);
+    }
     unsound(5, "000F");
     unsound(5, "0011");
     for position in 11..16 {

@@ -1,0 +1,181 @@
+//! What a line of the vectors shows, and which lines are stored: the shortest
+//! of each sort.
+
+use std::collections::BTreeMap;
+
+use model::lines::from_hex;
+use model::objects;
+use model::soundness::sound_card;
+use model::vectors::case_lines;
+use model::Card;
+
+/// How many cases are stored, or a few more.
+pub const STORED_CASES: usize = 300;
+const LONGEST_STORED_LINE: usize = 2000;
+/// For the first case of a sort: every sort is stored but a BIG input.
+const LONGEST_FIRST_LINE: usize = 12_000;
+
+/// The bytes 06 and 07 that a command met: of the file that it selects or
+/// would change; for CREATE "in" a directory, and "of" a new file. Only where
+/// the word is one that life cycles can give; 6985 has other reasons too.
+fn met_with_b2(instruction: &str, case: &str, result: &str) -> String {
+    let card_in = |line: &str, field: usize| {
+        let image = line.split(' ').nth(field).and_then(from_hex)?;
+        sound_card(&image)
+    };
+    let (Some(before), Some(after)) = (card_in(case, 1), card_in(result, 3)) else {
+        return String::new();
+    };
+    let directory = |card: &Card| card.record(card.current_df).life_cycle;
+    let file = |card: &Card| card.record(card.current_ef.unwrap_or(card.current_df)).life_cycle;
+    let met = match (instruction, result.split(' ').nth(2).unwrap_or("")) {
+        ("A4", "9000" | "6283") => vec![("", file(&after))],
+        ("E0", "9000") => vec![(" in", directory(&before)), (" of", file(&after))],
+        ("E0", "6985") => vec![(" in", directory(&before))],
+        ("E6", "9000" | "6985") => vec![("", directory(&before))],
+        ("44" | "04" | "E8", "9000" | "6985") => vec![("", file(&before))],
+        _ => vec![],
+    };
+    let with_b2 = met.into_iter().filter(|(_, byte)| [0x06, 0x07].contains(byte));
+    with_b2.map(|(how, byte)| format!("{how} {byte:02X}")).collect()
+}
+
+/// What a SELECT shows of Ticket 2: which file a template describes, whether
+/// a buffer that was too short was there at all, which length was wrong.
+fn met_with_fcp(case: &str, result: &str) -> String {
+    let case: Vec<&str> = case.split(' ').collect();
+    let result: Vec<&str> = result.split(' ').collect();
+    let (&[_, _, command, .., lent], &[_, answer, word, _, _, response, data, ..]) =
+        (case.as_slice(), result.as_slice())
+    else {
+        return String::new();
+    };
+    let response = from_hex(response).unwrap_or_default();
+    match (answer, word, data) {
+        ("5", _, _) => format!(" {}", if lent == "-" { "none" } else { "short" }),
+        (_, "6700", _) => format!(" {} bytes", command.len() / 2),
+        (_, _, "0") => String::new(),
+        _ => {
+            let kind = match (response.get(3), response.get(10), response.get(4)) {
+                (Some(4), _, _) => "records",
+                (_, Some(0x84), _) => "named DF",
+                (_, _, Some(byte)) if byte & 0x38 == 0x38 => "DF",
+                _ => "EF",
+            };
+            format!(" {kind}{}", rule_object(response.get(2..).unwrap_or(&[])))
+        }
+    }
+}
+
+/// Of a rule's object what Ticket 3 brought: AB, and more than 16 bytes.
+fn rule_object(template: &[u8]) -> String {
+    let mut left = template;
+    while let Some((object, after)) = objects::first(left) {
+        let long = if object.value.len() > 16 { " long" } else { "" };
+        match object.tag {
+            0x8C => return long.to_string(),
+            0xAB => return format!(" AB{long}"),
+            _ => left = after,
+        }
+    }
+    String::new()
+}
+
+/// What a command on version 2 met, or sent, of Ticket 3: the rule in CREATE's
+/// data; else the form of the rule that lets it pass or refuses it.
+fn met_with_rules(instruction: &str, case: &str, result: &str) -> String {
+    let fields: Vec<&str> = case.split(' ').collect();
+    let (&[_, image, command, ..], Some(word)) = (fields.as_slice(), result.split(' ').nth(2))
+    else {
+        return String::new();
+    };
+    let command = from_hex(command).unwrap_or_default();
+    let card = from_hex(image).and_then(|image| sound_card(&image));
+    let asked = card.map(|card| {
+        let target = match instruction {
+            "44" | "04" | "E8" => card.current_ef.unwrap_or(card.current_df),
+            _ => card.current_df,
+        };
+        (card.edition.version_number(), card.record(target).form.number())
+    });
+    match (instruction, word, asked) {
+        ("A4", ..) | (_, _, None) => String::new(),
+        ("E0", "6A80" | "9000", Some((version, _))) => {
+            format!(" v{version}{}", rule_object(command.get(7..).unwrap_or(&[])))
+        }
+        (_, "6982" | "9000", Some((_, 1))) => " by AB".to_string(),
+        _ => String::new(),
+    }
+}
+
+/// What a line shows, so that one of each sort is stored: the kind, the
+/// result's head, versions and forms, and of a command its instruction and
+/// what it met of 06 and 07 and of expanded or longer rules; of a SELECT also
+/// P2 and what it shows of templates.
+pub fn sort_of(line: &str) -> String {
+    let (case, result) = line.split_once(" > ").unwrap_or((line, ""));
+    let kind: String = case.chars().take(1).collect();
+    let head: Vec<&str> = result.split(' ').skip(1).take(2).collect();
+    match kind.as_str() {
+        "C" => {
+            let command = case.split(' ').nth(2).unwrap_or("");
+            let instruction = command.get(2..4).unwrap_or("");
+            let p2 = command.get(6..8).filter(|_| instruction == "A4");
+            let p2 = p2.map(|p2| format!(" {p2}")).unwrap_or_default();
+            let fcp = if p2.is_empty() { String::new() } else { met_with_fcp(case, result) };
+            let b2 = met_with_b2(instruction, case, result);
+            let rules = met_with_rules(instruction, case, result);
+            format!("C {instruction}{p2} {}{fcp}{b2}{rules}", head.join(" "))
+        }
+        "Y" => format!("Y {:.8}", head.first().unwrap_or(&"")),
+        "E" => format!("E {} {}", case.get(2..3).unwrap_or(""), decided(result)),
+        _ => format!("{kind}{} {}", versions(case), head.first().unwrap_or(&"")),
+    }
+}
+
+/// Whether a rule is malformed, grants something, or nothing.
+fn decided(result: &str) -> &str {
+    match result {
+        "E malformed" => "malformed",
+        _ if result.contains('0') => "granted",
+        _ => "denied",
+    }
+}
+
+/// The version of a report's image; the version and the form of M and W.
+fn versions(case: &str) -> String {
+    let fields: Vec<&str> = case.split(' ').collect();
+    match *fields.as_slice() {
+        ["R", image] => format!(" {}", image.get(9..10).unwrap_or("")),
+        ["M", _, _, _, version, form, _] => format!(" {version} {form}"),
+        ["W", version, form, _] => format!(" {version} {form}"),
+        _ => String::new(),
+    }
+}
+
+/// Chooses the shortest lines of each sort, sort by sort, until there are
+/// enough.
+pub fn choose(text: &str) -> Vec<&str> {
+    let mut sorts: BTreeMap<String, Vec<&str>> = BTreeMap::new();
+    for line in case_lines(text) {
+        sorts.entry(sort_of(line)).or_default().push(line);
+    }
+    for lines in sorts.values_mut() {
+        lines.sort_by_key(|line| (line.len(), *line));
+        lines.dedup();
+    }
+    let mut chosen = Vec::new();
+    for round in 0.. {
+        let mut found = false;
+        for lines in sorts.values() {
+            let longest = if round == 0 { LONGEST_FIRST_LINE } else { LONGEST_STORED_LINE };
+            let line = lines.get(round).filter(|line| line.len() <= longest);
+            found |= line.is_some();
+            chosen.extend(line);
+        }
+        if !found || chosen.len() >= STORED_CASES {
+            break;
+        }
+    }
+    chosen
+}
