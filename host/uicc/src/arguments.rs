@@ -3,8 +3,9 @@
 use std::ffi::OsString;
 use std::path::{Path, PathBuf};
 
-use card::{largest_total, State, OPEN_RULE};
+use card::{largest_total, Kind, Rule, State};
 
+use crate::rule::{self, Written};
 use crate::{hex, Failure};
 
 pub const HELP: &str = "\
@@ -21,6 +22,8 @@ uicc: a test UICC's files, on the proved card
         first lines say on which
   uicc new IMAGE [card] [--force]
         writes the image of a fresh card; --force replaces a file
+  uicc rule RULE
+        explains an access rule, or says where and why it is malformed
 
 A SCRIPT has one command a line, in hex; blanks do not matter, and # begins a
 comment. The whole script is read before its first command is played.
@@ -29,9 +32,16 @@ It is saved as a whole or not at all, with its owner, group and mode.
 After -- nothing is an option.
 
 card, for a fresh one:
+  --version N       1, or 2, which takes expanded rules and longer ones (1)
   --slots N         slots for files, the root among them, 2 to 1023 (64)
   --total BYTES     the root's total, at most 64 for each slot but the root's (that)
-  --rule HEX        the root's access rule (7F00000000000000, all allowed)
+  --rule RULE       the root's access rule (7F00000000000000, all allowed)
+
+A RULE is hex: a compact rule (tag 8C, 1 to 16 bytes, on version 2 to 30) or an
+expanded one (tag AB, version 2, 1 to 30 bytes), with tag and length or without.
+Its first byte tells which: 8C and AB begin an object; 80 begins an expanded
+rule without tag and length, and a byte below 80 a compact one, since b8 of its
+AM byte is clear.
 
 state, the conditions that hold while the script is played:
   --messaging HEX   environments with secure messaging, 16 bits (FFFF)
@@ -39,15 +49,16 @@ state, the conditions that hold while the script is played:
   --user HEX        environments with user authentication (FFFF)
   --channels HEX    open channels, bits 1 to 3 (00)
 
-Exit status: 0 done, also when the card refused commands; 1 a file, an image or
-a script is wrong, or the output could not be written, and nothing was saved;
-2 the command line is wrong; 3 the card WAS saved, but the output could not be
-written: do not play the script again; 4 export: the script is printed, but it
-does not make all of the card again, and standard error says what is lost.
+Exit status: 0 done, also when the card refused commands; 1 a file, an image, a
+script or the rule of uicc rule is wrong, or the output could not be written,
+and nothing was saved; 2 the command line is wrong; 3 the card WAS saved, but
+the output could not be written: do not play the script again; 4 export: the
+script is printed, but it does not make all of the card again, and standard
+error says what is lost.
 ";
 
 /// What can be done.
-const VERBS: &str = "run, show, export or new";
+const VERBS: &str = "run, show, export, new or rule";
 const DEFAULT_SLOTS: usize = 64;
 /// The name that means standard input.
 pub const STANDARD_INPUT: &str = "-";
@@ -55,17 +66,27 @@ pub const STANDARD_INPUT: &str = "-";
 /// A fresh card that is wished for.
 #[derive(Debug, PartialEq, Eq)]
 pub struct Fresh {
+    pub kind: Kind,
     pub slots: usize,
     pub total: u32,
-    pub rule: Vec<u8>,
+    pub rule: Written,
 }
 
 impl Fresh {
     /// The card in a few words.
     pub fn describe(&self) -> String {
-        let Fresh { slots, total, rule } = self;
-        let rule = hex::row(rule);
-        format!("fresh card of {slots} slots, root total {total}, root rule {rule}")
+        let Fresh { kind, slots, total, rule } = self;
+        let (version, rule) = (kind.version, rule.row());
+        format!(
+            "fresh card of version {version}, {slots} slots, root total {total}, root rule {rule}"
+        )
+    }
+
+    /// The options that ask for it.
+    pub fn options(&self) -> String {
+        let Fresh { kind, slots, total, rule } = self;
+        let (version, rule) = (kind.version, rule.row());
+        format!("--version {version} --slots {slots} --total {total} --rule {rule}")
     }
 }
 
@@ -77,6 +98,7 @@ pub enum Wish {
     Show { image: PathBuf },
     Export { image: PathBuf },
     New { image: PathBuf, fresh: Fresh, replace: bool },
+    Rule { rule: Vec<u8> },
 }
 
 /// The options as they are written, none twice.
@@ -117,6 +139,7 @@ fn wish(arguments: &[OsString]) -> Result<Wish, String> {
             let image = image(options.only_file("an IMAGE")?)?;
             Ok(Wish::New { image, fresh: options.fresh()?, replace: options.force })
         }
+        Some("rule") => Ok(Wish::Rule { rule: Options::read(rest, &[])?.all_hex()? }),
         _ => Err(format!("{} is nothing to do: {VERBS}", verb.to_string_lossy())),
     }
 }
@@ -134,10 +157,11 @@ fn image(name: PathBuf) -> Result<PathBuf, String> {
     Ok(name)
 }
 
-const CARD_OPTIONS: [&str; 3] = ["--slots", "--total", "--rule"];
-const NEW_OPTIONS: [&str; 4] = ["--slots", "--total", "--rule", "--force"];
-const RUN_OPTIONS: [&str; 8] = [
+const CARD_OPTIONS: [&str; 4] = ["--version", "--slots", "--total", "--rule"];
+const NEW_OPTIONS: [&str; 5] = ["--version", "--slots", "--total", "--rule", "--force"];
+const RUN_OPTIONS: [&str; 9] = [
     "--image",
+    "--version",
     "--slots",
     "--total",
     "--rule",
@@ -179,6 +203,17 @@ impl Options {
         }
     }
 
+    /// The bytes of all words that are no options; blanks between them do not
+    /// matter.
+    fn all_hex(&self) -> Result<Vec<u8>, String> {
+        if self.files.is_empty() {
+            return Err("give a RULE in hex".to_string());
+        }
+        let words: Vec<_> = self.files.iter().map(|word| word.to_string_lossy()).collect();
+        let text = words.join(" ");
+        hex::bytes(&text).map_err(|wrong| format!("{text}: sign {}: {}", wrong.column, wrong.what))
+    }
+
     fn first_of(&self, names: &[&str]) -> Option<&str> {
         self.given.iter().map(|(name, _)| name.as_str()).find(|name| names.contains(name))
     }
@@ -202,13 +237,16 @@ impl Options {
     }
 
     fn fresh(&mut self) -> Result<Fresh, String> {
+        let version = |text: &str| text.parse().ok().map(Kind::of_version);
+        let kind = self.value("--version", "a number", version, Kind::default())?;
         let number = |text: &str| text.parse().ok();
         let slots = self.value("--slots", "a number", number, DEFAULT_SLOTS)?;
         let total = |text: &str| text.parse().ok();
         let total = self.value("--total", "a number of bytes", total, largest_total(slots))?;
         let rule = |text: &str| hex::bytes(text).ok();
-        let rule = self.value("--rule", "a row of hex bytes", rule, OPEN_RULE.to_vec())?;
-        Ok(Fresh { slots, total, rule })
+        let rule = self.value("--rule", "a row of hex bytes", rule, Rule::OPEN.bytes.to_vec())?;
+        let rule = rule::read(&rule).map_err(|wrong| format!("--rule: {wrong}"))?;
+        Ok(Fresh { kind, slots, total, rule })
     }
 
     fn state(&mut self) -> Result<State, String> {

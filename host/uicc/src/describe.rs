@@ -1,6 +1,7 @@
 //! Words: the name of a command with the file that it names, kinds of files,
 //! life cycles.
 
+use card::Form;
 use model::descriptor::{class, Class, Structure};
 use model::ledger::announced;
 
@@ -34,6 +35,23 @@ pub fn command(bytes: &[u8]) -> String {
     match named {
         Some(identifier) => format!("{name} {identifier:04X}"),
         None => name.to_string(),
+    }
+}
+
+/// How a rule is written.
+pub fn form(form: Form) -> &'static str {
+    match form {
+        Form::Compact => "compact rule (8C)",
+        Form::Expanded => "expanded rule (AB)",
+    }
+}
+
+/// So many bytes.
+pub fn bytes(many: usize) -> String {
+    match many {
+        0 => "no byte".to_string(),
+        1 => "1 byte".to_string(),
+        _ => format!("{many} bytes"),
     }
 }
 

@@ -49,8 +49,7 @@ pub fn export(card: &Card) -> Result<Export, String> {
 
 /// What a reader must know first.
 fn head(fresh: &Fresh, lost: usize) -> String {
-    let Fresh { slots, total, rule } = fresh;
-    let rule = hex::row(rule);
+    let options = fresh.options();
     let told = match lost {
         0 => "all of the card is made again.".to_string(),
         1 => "NOT ALL of the card is made again:\n# one line below begins with LOST.".to_string(),
@@ -58,7 +57,7 @@ fn head(fresh: &Fresh, lost: usize) -> String {
     };
     format!(
         "# The files of a card, made again on a fresh one of the same size:\n\
-         #     uicc new NEW.card --slots {slots} --total {total} --rule {rule}\n\
+         #     uicc new NEW.card {options}\n\
          #     uicc run THIS.apdu --image NEW.card\n\
          # Tried on such a card: no command is refused, and {told}\n\
          # No card keeps the C6 of a directory; C60100 stands for it.\n\n"

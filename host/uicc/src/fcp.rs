@@ -1,6 +1,7 @@
 //! A file's template (FCP) as SELECT answers it: for people, and as the data of
 //! a CREATE that makes the file again.
 
+use card::{Form, Rule};
 use model::descriptor::{class, Class};
 use model::template::tags;
 
@@ -24,7 +25,7 @@ pub struct Template<'a> {
     /// Empty where the file has none.
     pub name: &'a [u8],
     pub life_cycle: u8,
-    pub rule: &'a [u8],
+    pub rule: Rule<'a>,
     /// A file's size, a directory's total.
     pub size: u32,
 }
@@ -39,13 +40,14 @@ impl<'a> Template<'a> {
         let value = |tag| objects.iter().find(|(other, _)| *other == tag).map(|(_, value)| *value);
         let (descriptor, after) = value(tags::DESCRIPTOR)?.split_first()?;
         let [life_cycle] = value(tags::LIFE_CYCLE)? else { return None };
+        let rule = |form: Form| value(form.tag()).map(|bytes| Rule { form, bytes });
         Some(Template {
             descriptor: *descriptor,
             record_length: number(after.get(1..)?),
             identifier: u16::from_be_bytes(value(tags::IDENTIFIER)?.try_into().ok()?),
             name: value(tags::NAME).unwrap_or_default(),
             life_cycle: *life_cycle,
-            rule: value(tags::COMPACT_RULE)?,
+            rule: Form::ALL.into_iter().find_map(rule)?,
             size: number(value(tags::EF_SIZE).or(value(tags::DF_TOTAL))?),
             objects,
         })
@@ -96,8 +98,9 @@ impl<'a> Template<'a> {
         if !self.name.is_empty() {
             values.push(("name", hex::row(self.name)));
         }
-        let rule = rule::words(self.rule, owner).unwrap_or_else(|| "malformed".to_string());
-        values.push(("rule", rule));
+        let rule = rule::words(self.rule, owner).map(|parts| parts.join("; "));
+        let rule = rule.unwrap_or_else(|_| "malformed".to_string());
+        values.push((title(self.rule.form), rule));
         values
     }
 
@@ -115,7 +118,20 @@ impl<'a> Template<'a> {
 pub fn told(data: &[u8]) -> String {
     let mut values = vec![("data", hex::row(data))];
     values.extend(Template::read(data).iter().flat_map(Template::values));
-    values.into_iter().map(|(title, value)| format!("        {title:<10}  {value}\n")).collect()
+    values.into_iter().map(|(title, value)| line(title, &value)).collect()
+}
+
+/// A line below a command's.
+pub fn line(title: &str, value: &str) -> String {
+    format!("        {title:<10}  {value}\n")
+}
+
+/// The title of a rule's line.
+pub fn title(form: Form) -> &'static str {
+    match form {
+        Form::Compact => "rule (8C)",
+        Form::Expanded => "rule (AB)",
+    }
 }
 
 /// The objects that fill these bytes; nothing if they do not.
@@ -165,7 +181,7 @@ mod tests {
              \x20       structure   linear fixed, 2 records of 10 bytes\n\
              \x20       size        20 bytes\n\
              \x20       life cycle  activated (07)\n\
-             \x20       rule        DELETE, TERMINATE, ACTIVATE, DEACTIVATE, WRITE: never; \
+             \x20       rule (8C)   DELETE, TERMINATE, ACTIVATE, DEACTIVATE, WRITE: never; \
              UPDATE: user authentication 3; READ: always\n"
         );
         let directory = told(DIRECTORY);

@@ -1,9 +1,11 @@
 //! A program for people: plays scripts of commands on the proved card (`run`),
-//! makes card images (`new`), shows what is on them (`show`), and writes the
-//! script that makes the files of one again (`export`).
+//! makes card images (`new`), shows what is on them (`show`), writes the script
+//! that makes the files of one again (`export`), and explains access rules
+//! (`rule`).
 //!
-//! The proved card decides everything. Only `show` and `export`, once the proved
-//! card has found the image sound, read its records by the model.
+//! The proved card decides everything, also whether it takes a rule. Only `show`
+//! and `export`, once the proved card has found the image sound, read its
+//! records by the model.
 
 #![forbid(unsafe_code)]
 
@@ -13,6 +15,7 @@ mod describe;
 mod export;
 mod fcp;
 mod hex;
+mod hint;
 mod play;
 mod rule;
 mod script;
@@ -100,18 +103,24 @@ fn carry_out(wish: Wish) -> Result<Done, Failure> {
             let text = format!("{}: {}\n", image.display(), fresh.describe());
             Ok(Done::saved(text, &image))
         }
+        Wish::Rule { rule } => rule::explain(&rule).map(Done::told).map_err(Failure::Refused),
     }
 }
 
 /// The card that is wished for; what is wrong is told by the option's name.
 fn fresh_card(fresh: &Fresh) -> Result<Card, Failure> {
-    let Fresh { slots, total, rule } = fresh;
-    Card::make(*slots, *total, rule).map_err(|error| {
+    let Fresh { kind, slots, total, rule } = fresh;
+    Card::make(*slots, *kind, *total, rule.rule()).map_err(|error| {
         Failure::Usage(match error {
             MakeError::Length => format!("--slots {slots}: {error}"),
+            MakeError::Version(version) => format!("--version {version}: {error}"),
             MakeError::Total => {
                 let largest = largest_total(*slots);
                 format!("--total {total}: with {slots} slots the root's total is 1 to {largest}")
+            }
+            MakeError::Rule(_) => {
+                let where_and_why = rule.malformed().unwrap_or_else(|| error.to_string());
+                format!("--rule: the root's access rule is malformed: {where_and_why}")
             }
             _ => format!("--rule: {error}"),
         })

@@ -2,11 +2,14 @@
 
 use std::path::Path;
 
-use card::{Card, Reply, State};
+use card::{Card, Reply, State, Word};
 
 use crate::arguments::Fresh;
 use crate::script::Step;
-use crate::{describe, fcp, store, Done};
+use crate::{describe, fcp, hint, store, Done};
+
+/// What only a CREATE is answered.
+const WRONG_DATA: Word = Word(0x6A80);
 
 /// Plays on a fresh card, which is not kept.
 pub fn on_fresh(card: &Card, fresh: &Fresh, steps: &[Step], state: &State) -> Result<Done, String> {
@@ -30,8 +33,8 @@ pub fn on_image(image: &Path, steps: &[Step], state: &State) -> Result<Done, Str
     Ok(Done::saved(format!("{name}\n{told}{name} saved\n"), image))
 }
 
-/// A line for each command, below it what a template says, and at the end the
-/// current directory.
+/// A line for each command, below it what a template says or what is wrong with
+/// a rule, and at the end the current directory.
 fn play(card: &mut Card, steps: &[Step], state: &State) -> Result<String, String> {
     let mut told = String::new();
     for Step { line, command } in steps {
@@ -42,6 +45,10 @@ fn play(card: &mut Card, steps: &[Step], state: &State) -> Result<String, String
         told += &format!("{line:>4}  {name:<20}  {word}  {}\n", word.meaning());
         if !data.is_empty() {
             told += &fcp::told(&data);
+        }
+        if word == WRONG_DATA {
+            let hint = hint::of_rule(command, card.kind());
+            told += &hint.map_or_else(String::new, |(form, why)| fcp::line(fcp::title(form), &why));
         }
     }
     let report = card.report().map_err(|error| error.to_string())?;

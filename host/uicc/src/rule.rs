@@ -1,180 +1,106 @@
-//! Access rules in words: which right needs what.
+//! Access rules for people: read from hex, told in words, and what is wrong
+//! with one that is malformed.
 //!
-//! A compact rule has groups, each an AM byte and an SC byte for each of its
-//! bits; the groups are alternatives. Here it is turned round: for each right
-//! what suffices for it, and rights that need the same stand together. A right
-//! that no group names has nothing that suffices.
+//! Both forms are groups, which are alternatives: an AM byte names rights, and
+//! conditions follow. In a compact rule each right has an SC byte of its own;
+//! in an expanded one each condition serves for all rights of its group.
 
-use model::rule::{groups, Right};
+mod compact;
+mod expanded;
+mod explain;
+mod need;
+mod words;
+mod written;
 
-/// What a rule belongs to: b3 to b1 of the AM byte mean something else in a
-/// directory and in a file with a body.
-#[derive(Clone, Copy, PartialEq, Eq, Debug)]
-pub enum Owner {
-    Directory,
-    File,
+pub use explain::explain;
+pub use words::{words, Owner};
+pub use written::{object, read, Written};
+
+use card::{Form, Rule};
+use model::Record;
+
+/// An AM byte with what it asks for.
+#[derive(Clone, PartialEq, Eq, Debug)]
+pub struct Group {
+    /// Its place in the rule, from 0.
+    pub at: usize,
+    pub rights: u8,
+    pub grants: Vec<Grant>,
 }
 
-/// The rights by their bits, b7 to b1, the order of `Right::ALL`.
-const IN_DIRECTORY: [&str; 7] =
-    ["DELETE", "TERMINATE", "ACTIVATE", "DEACTIVATE", "CREATE DF", "CREATE EF", "DELETE CHILD"];
-const IN_FILE: [&str; 7] =
-    ["DELETE", "TERMINATE", "ACTIVATE", "DEACTIVATE", "WRITE", "UPDATE", "READ"];
-
-/// The whole rule: all seven rights, each with what it needs. Nothing for a
-/// malformed rule.
-pub fn words(rule: &[u8], owner: Owner) -> Option<String> {
-    let groups = groups(rule)?;
-    let names = match owner {
-        Owner::Directory => IN_DIRECTORY,
-        Owner::File => IN_FILE,
-    };
-    let mut parts: Vec<(String, Vec<&str>)> = Vec::new();
-    for (right, name) in Right::ALL.into_iter().zip(names) {
-        let conditions = groups.iter().filter_map(|group| group.condition(right));
-        let need = need(conditions);
-        match parts.iter_mut().find(|(other, _)| *other == need) {
-            Some((_, rights)) => rights.push(name),
-            None => parts.push((need, vec![name])),
-        }
-    }
-    let part = |(need, rights): &(String, Vec<&str>)| format!("{}: {need}", rights.join(", "));
-    Some(parts.iter().map(part).collect::<Vec<_>>().join("; "))
+/// A condition and the rights that it suffices for, as bits of an AM byte.
+#[derive(Clone, PartialEq, Eq, Debug)]
+pub struct Grant {
+    pub rights: u8,
+    pub condition: Condition,
 }
 
-/// What suffices, where each of these SC bytes does.
-fn need(conditions: impl Iterator<Item = u8>) -> String {
-    let mut ways: Vec<String> = Vec::new();
-    for condition in conditions {
-        if condition == 0x00 {
-            return "always".to_string();
-        }
-        for way in self::ways(condition) {
-            if !ways.contains(&way) {
-                ways.push(way);
-            }
-        }
-    }
-    match ways.as_slice() {
-        [] => "never".to_string(),
-        [way] => way.clone(),
-        _ => {
-            let bracketed = |way: &String| match way.contains(" and ") {
-                true => format!("({way})"),
-                false => way.clone(),
-            };
-            ways.iter().map(bracketed).collect::<Vec<_>>().join(" or ")
-        }
-    }
+/// A condition at its place.
+#[derive(Clone, PartialEq, Eq, Debug)]
+pub struct Condition {
+    pub at: usize,
+    pub sort: Sort,
 }
 
-/// The ways to satisfy one SC byte but 00; none where nothing does: FF, no
-/// condition named, or environment 15.
-fn ways(condition: u8) -> Vec<String> {
-    let environment = condition & 0x0F;
-    if condition == 0xFF || environment == 15 {
-        return Vec::new();
-    }
-    let kinds = [
-        (0x40, "secure messaging"),
-        (0x20, "external authentication"),
-        (0x10, "user authentication"),
-    ];
-    let named = kinds.iter().filter(|(bit, _)| condition & bit != 0);
-    let named: Vec<_> = named.map(|(_, kind)| format!("{kind} {environment}")).collect();
-    let all_are_asked = condition & 0x80 != 0;
-    match all_are_asked && !named.is_empty() {
-        true => vec![named.join(" and ")],
-        false => named,
-    }
+#[derive(Clone, PartialEq, Eq, Debug)]
+pub enum Sort {
+    Always,
+    Never,
+    /// An SC byte.
+    Byte(u8),
+    OneOf(Vec<Condition>),
+    AllOf(Vec<Condition>),
 }
 
-#[cfg(test)]
-mod tests {
-    use model::security::condition_holds;
-    use model::State;
+/// Why a rule is malformed, and where: the place in the rule, from 0, of the
+/// byte or object that is wrong, and of the object around it with its tag.
+#[derive(Clone, PartialEq, Eq, Debug)]
+pub struct Malformed {
+    at: usize,
+    around: Option<(usize, u8)>,
+    why: String,
+}
 
-    use super::*;
-
-    #[test]
-    fn a_rule_tells_every_right() {
-        for (rule, owner, told) in [
-            (
-                &[0x01, 0x00][..],
-                Owner::File,
-                "DELETE, TERMINATE, ACTIVATE, DEACTIVATE, WRITE, UPDATE: never; READ: always",
-            ),
-            (
-                &[0x7F, 0, 0, 0, 0, 0, 0, 0],
-                Owner::Directory,
-                "DELETE, TERMINATE, ACTIVATE, DEACTIVATE, CREATE DF, CREATE EF, \
-                 DELETE CHILD: always",
-            ),
-            (
-                &[0x43, 0xFF, 0x13, 0x00],
-                Owner::File,
-                "DELETE, TERMINATE, ACTIVATE, DEACTIVATE, WRITE: never; \
-                 UPDATE: user authentication 3; READ: always",
-            ),
-            // Three groups: what one of them refuses, another may grant.
-            (
-                &[0x06, 0x00, 0xFF, 0x02, 0xB2, 0x02, 0x11],
-                Owner::Directory,
-                "DELETE, TERMINATE, ACTIVATE, DEACTIVATE, DELETE CHILD: never; CREATE DF: always; \
-                 CREATE EF: (external authentication 2 and user authentication 2) \
-                 or user authentication 1",
-            ),
-            (
-                &[0x00],
-                Owner::Directory,
-                "DELETE, TERMINATE, ACTIVATE, DEACTIVATE, CREATE DF, CREATE EF, \
-                 DELETE CHILD: never",
-            ),
-        ] {
-            assert_eq!(words(rule, owner).as_deref(), Some(told), "{rule:02X?}");
-        }
-        for malformed in [&[0x80][..], &[0x01], &[0x03, 0x00]] {
-            assert_eq!(words(malformed, Owner::File), None, "{malformed:02X?}");
-        }
+impl Malformed {
+    fn new(at: usize, why: impl Into<String>) -> Malformed {
+        Malformed { at, around: None, why: why.into() }
     }
 
-    /// Whether words hold in a state, read as a person reads them.
-    fn holds(words: &str, state: &State) -> bool {
-        let one = |word: &str| {
-            let (kind, environment) = word.rsplit_once(' ').expect("a kind and a number");
-            let set = match kind {
-                "secure messaging" => state.messaging,
-                "external authentication" => state.external,
-                "user authentication" => state.user,
-                _ => panic!("{kind}"),
-            };
-            set >> environment.parse::<u16>().expect("a number") & 1 == 1
+    /// The same inside an object, unless it is told of one further in.
+    fn inside(self, at: usize, tag: u8) -> Malformed {
+        Malformed { around: self.around.or(Some((at, tag))), ..self }
+    }
+
+    /// The same for people, where a rule of so many bytes stands behind
+    /// `before` others. Places count from 1.
+    pub fn tell(&self, before: usize, length: usize) -> String {
+        let place = |at: usize| before + at + 1;
+        let around = match self.around {
+            Some((at, tag)) => format!(" (in object {tag:02X} of byte {})", place(at)),
+            None => String::new(),
         };
-        let all = |way: &str| way.trim_matches(['(', ')']).split(" and ").all(one);
-        match words {
-            "always" => true,
-            "never" => false,
-            _ => words.split(" or ").any(all),
-        }
+        format!("byte {} of {}{around}: {}", place(self.at), before + length, self.why)
     }
+}
 
-    /// Every pair of SC bytes, as two groups, in every state of their
-    /// environments.
-    #[test]
-    fn the_words_hold_when_the_conditions_do() {
-        for first in 0..=0xFF {
-            for second in [first, 0x00, 0x11, 0x32, 0xB2, 0xF3, 0xFF, first ^ 0x81] {
-                let words = need([first, second].into_iter());
-                for sets in 0..0o100_u16 {
-                    let spread = |at: u16| {
-                        (sets >> at & 1) << (first & 15) | (sets >> (at + 3) & 1) << (second & 15)
-                    };
-                    let (messaging, external, user) = (spread(0), spread(1), spread(2));
-                    let state = State { messaging, external, user, channels: 0 };
-                    let held = condition_holds(first, &state) || condition_holds(second, &state);
-                    assert_eq!(holds(&words, &state), held, "{first:02X} {second:02X}: {words}");
-                }
-            }
-        }
+/// The rule of a record.
+pub fn of_record(record: &Record) -> Rule<'_> {
+    let form = match record.form {
+        model::rule::Form::Compact => Form::Compact,
+        model::rule::Form::Expanded => Form::Expanded,
+    };
+    Rule { form, bytes: &record.rule }
+}
+
+/// The groups of a rule of any length, if it is well formed.
+pub fn groups(rule: Rule) -> Result<Vec<Group>, Malformed> {
+    match rule.form {
+        Form::Compact => compact::groups(rule.bytes),
+        Form::Expanded => expanded::groups(rule.bytes),
     }
+}
+
+/// The bits of an AM byte, b7 first.
+pub fn bits(rights: u8) -> impl Iterator<Item = u8> {
+    (0..7).rev().map(|place| 1 << place).filter(move |bit| rights & bit != 0)
 }

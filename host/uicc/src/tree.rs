@@ -1,8 +1,11 @@
 //! The tree of files on a card, for people.
 
-use card::Card;
-use model::Card as Decoded;
+use std::collections::HashMap;
 
+use card::{Card, Rule};
+use model::{Card as Decoded, Record};
+
+use crate::rule::{self, Owner};
 use crate::{bar, describe, hex};
 
 /// Deeper levels are no longer drawn further to the right; they are numbered.
@@ -17,27 +20,63 @@ struct Row {
     slot: usize,
 }
 
-/// The whole tree with a line about the card above it.
+/// The whole tree with a line about the card above it, and its rules below.
 pub fn show(card: &Card) -> Result<String, String> {
     let decoded = Decoded::decode(card.image()).ok_or("the image cannot be read")?;
     let rows = rows(&decoded);
-    let (slots, used) = (decoded.records.len(), rows.len());
+    let (slots, used, version) = (decoded.records.len(), rows.len(), card.kind().version);
     let width = rows.iter().map(|row| row.place.len()).max().unwrap_or(0).max(NARROWEST);
-    let mut told = format!("{slots} slots: {used} used, {} free\n\n", slots - used);
-    told += &line(width, ["file", "kind", "life cycle", "size", "room"]);
+    let mut told =
+        format!("card of version {version}, {slots} slots: {used} used, {} free\n\n", slots - used);
+    told += &line(width, ["file", "kind", "life cycle", "size", "rule", "room"]);
+    let mut rules = Rules::default();
     for Row { place, slot } in &rows {
         let record = decoded.record(*slot);
         let kind = describe::kind(record.descriptor);
         let life_cycle = describe::life_cycle(record.life_cycle);
         let (size, notes) = (record.size.to_string(), notes(&decoded, *slot));
-        told += &line(width, [place, kind, &life_cycle, &size, &notes]);
+        let rule = rules.number(record).to_string();
+        told += &line(width, [place, kind, &life_cycle, &size, &rule, &notes]);
     }
-    Ok(told)
+    Ok(told + &rules.told())
 }
 
-fn line(width: usize, [place, kind, life_cycle, size, notes]: [&str; 5]) -> String {
-    let text = format!("{place:width$}  {kind:12}  {life_cycle:16}  {size:>8}  {notes}");
+fn line(width: usize, [place, kind, life_cycle, size, rule, notes]: [&str; 6]) -> String {
+    let text = format!("{place:width$}  {kind:12}  {life_cycle:16}  {size:>8}  {rule:>4}  {notes}");
     format!("{}\n", text.trim_end())
+}
+
+/// The rules of a card, each once. A directory's and a file's are two, since
+/// they are read differently.
+#[derive(Default)]
+struct Rules<'a> {
+    rules: Vec<(Owner, Rule<'a>)>,
+    numbers: HashMap<(Owner, Rule<'a>), usize>,
+}
+
+impl<'a> Rules<'a> {
+    /// The number of a file's rule, from 1.
+    fn number(&mut self, record: &'a Record) -> usize {
+        let owner = if record.is_df() { Owner::Directory } else { Owner::File };
+        let rule = (owner, rule::of_record(record));
+        *self.numbers.entry(rule).or_insert_with(|| {
+            self.rules.push(rule);
+            self.rules.len()
+        })
+    }
+
+    /// What each of them allows.
+    fn told(&self) -> String {
+        let mut told = String::new();
+        for (number, (owner, rule)) in (1..).zip(&self.rules) {
+            let (object, owner_named) = (rule::object(*rule), owner.plural());
+            told += &format!("\nrule {number}, of {owner_named}: {object}\n");
+            let parts =
+                rule::words(*rule, *owner).unwrap_or_else(|_| vec!["malformed".to_string()]);
+            parts.iter().for_each(|part| told += &format!("      {part}\n"));
+        }
+        told
+    }
 }
 
 /// The children of each slot, in their slots' order.

@@ -28,7 +28,10 @@ fn the_maker_refuses_in_its_order() {
     for kind in Kind::ALL {
         assert_eq!(refused(2, kind, 0, empty), Some(MakeError::Total));
         assert_eq!(refused(2, kind, 65, OPEN), Some(MakeError::Total));
-        assert_eq!(refused(2, kind, 64, Rule::compact(&[0x80])), Some(MakeError::Rule(Form::Compact)));
+        assert_eq!(
+            refused(2, kind, 64, Rule::compact(&[0x80])),
+            Some(MakeError::Rule(Form::Compact))
+        );
     }
     assert_eq!(refused(2, one, 64, OPEN), Some(MakeError::Form(1, Form::Expanded)));
     assert_eq!(refused(2, two, 64, OPEN), None);

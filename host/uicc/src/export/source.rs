@@ -1,11 +1,12 @@
 //! The card whose files are made again: its tree, and each file's template.
 
-use card::{lent, Card, State, LONGEST_RESPONSE};
+use card::{lent, Card, Kind, State, LONGEST_RESPONSE};
 use model::life_cycle::ACTIVATED;
 use model::{Card as Decoded, Record};
 
 use crate::arguments::Fresh;
 use crate::fcp::Template;
+use crate::rule::{self, Written};
 use crate::tree;
 
 /// The slot of the root.
@@ -13,21 +14,25 @@ pub const ROOT: usize = 0;
 
 /// A card that is read. Slots are its own.
 pub struct Source {
+    kind: Kind,
     card: Decoded,
     children: Vec<Vec<usize>>,
 }
 
 impl Source {
     pub fn new(card: &Card) -> Result<Source, String> {
+        let kind = card.kind();
         let card = Decoded::decode(card.image()).ok_or("the image cannot be read")?;
         let children = tree::children(&card);
-        Ok(Source { card, children })
+        Ok(Source { kind, card, children })
     }
 
     /// The fresh card on which the files can be made again.
     pub fn fresh(&self) -> Fresh {
-        let Record { size: total, rule, .. } = self.record(ROOT).clone();
-        Fresh { slots: self.card.records.len(), total, rule }
+        let root = self.record(ROOT);
+        let rule = rule::of_record(root);
+        let rule = Written::bare(rule.form, rule.bytes.to_vec());
+        Fresh { kind: self.kind, slots: self.card.records.len(), total: root.size, rule }
     }
 
     pub fn record(&self, slot: usize) -> &Record {

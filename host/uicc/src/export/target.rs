@@ -22,7 +22,7 @@ pub struct Target<'a> {
 
 impl<'a> Target<'a> {
     pub fn new(source: &'a Source, fresh: &Fresh) -> Result<Target<'a>, String> {
-        let card = Card::make(fresh.slots, fresh.total, &fresh.rule);
+        let card = Card::make(fresh.slots, fresh.kind, fresh.total, fresh.rule.rule());
         let card = card.map_err(|error| error.to_string())?;
         let (at, there) = (vec![ROOT], vec![ROOT]);
         Ok(Target { source, card, at, file: None, there, lines: String::new() })
