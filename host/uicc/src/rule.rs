@@ -104,3 +104,6 @@ pub fn groups(rule: Rule) -> Result<Vec<Group>, Malformed> {
 pub fn bits(rights: u8) -> impl Iterator<Item = u8> {
     (0..7).rev().map(|place| 1 << place).filter(move |bit| rights & bit != 0)
 }
+
+#[cfg(test)]
+mod tests;

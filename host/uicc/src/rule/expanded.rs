@@ -133,13 +133,13 @@ fn inside(template: &Object, depth: usize) -> Result<Vec<Condition>, Malformed> 
     while let Some(object) = reader.next().map_err(here)? {
         conditions.push(condition(&object, depth).map_err(here)?);
     }
-    match conditions.len() {
-        many @ (0 | 1) => {
-            let why = format!("object {tag:02X} holds {many} conditions: at least 2 are wanted");
-            Err(Malformed::new(at, why))
-        }
-        _ => Ok(conditions),
-    }
+    let few = match conditions.len() {
+        0 => "no",
+        1 => "one",
+        _ => return Ok(conditions),
+    };
+    let why = format!("object {tag:02X} holds {few} condition: at least two are wanted");
+    Err(Malformed::new(at, why))
 }
 
 fn wrong_length(object: &Object, wanted: usize) -> Malformed {

@@ -5,7 +5,7 @@ use std::collections::BTreeMap;
 
 use model::life_cycle::{is_deactivated, is_terminated, ACTIVATED, DEACTIVATED, TERMINATED};
 use model::maker::ROOT_DESCRIPTOR;
-use model::rule::{grants, Right};
+use model::rule::{decide, Right};
 use model::{Card, Record, State};
 
 /// The identifiers on the way from the root to a file.
@@ -44,10 +44,14 @@ fn bytes(card: &Card, record: &Record) -> Vec<u8> {
     bytes
 }
 
+fn grants(record: &Record, right: Right) -> bool {
+    decide(record.form, &record.rule, right, &State::FULL)
+}
+
 /// Whether a file can be created in its directory.
 fn is_granted(card: &Card, slot: usize) -> bool {
     let right = if card.record(slot).is_df() { Right::CreateDf } else { Right::CreateEf };
-    slot == 0 || grants(&card.record(card.parent(slot)).rule, right, &State::FULL)
+    slot == 0 || grants(card.record(card.parent(slot)), right)
 }
 
 /// Whether a file and all directories above it can be created.
@@ -58,7 +62,7 @@ fn is_made(card: &Card, slot: usize) -> bool {
 /// The life cycle that a file can be brought to.
 fn life_cycle(card: &Card, slot: usize) -> u8 {
     let record = card.record(slot);
-    let may = |right| grants(&record.rule, right, &State::FULL);
+    let may = |right| grants(record, right);
     let own = record.life_cycle;
     let by_command = slot == 0 || card.children(slot).next().is_some();
     match own {

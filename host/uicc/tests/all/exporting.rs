@@ -216,5 +216,6 @@ fn a_fresh_card_needs_no_command() {
     folder.done(&["new", "card", "--slots", "2", "--total", "9", "--rule", "00"]);
     let script = folder.done(&["export", "card"]);
     assert_eq!(parts(&script), (Vec::new(), Vec::new()), "{script}");
-    assert!(script.contains("uicc new NEW.card --slots 2 --total 9 --rule 00\n"), "{script}");
+    let made = "uicc new NEW.card --version 1 --slots 2 --total 9 --rule 00\n";
+    assert!(script.contains(made), "{script}");
 }

@@ -56,7 +56,7 @@ fn three_commands() -> String {
 fn an_image_is_made_played_on_and_shown() {
     let folder = Folder::new("image");
     let out = folder.done(&["new", "card", "--slots", "8", "--total", "448"]);
-    assert!(out.starts_with("card: fresh card of 8 slots, root total 448"), "{out}");
+    assert!(out.starts_with("card: fresh card of version 1, 8 slots, root total 448"), "{out}");
     assert_eq!(folder.read("card").len(), 16 + 64 * 8);
     folder.write("script", three_commands());
     let out = folder.done(&["run", "script", "--image", "card"]);
@@ -64,9 +64,9 @@ fn an_image_is_made_played_on_and_shown() {
     assert_eq!(folder.names(), ["card", "script"], "no temporary file is left");
     let out = folder.done(&["show", "card"]);
     let lines: Vec<_> = out.lines().collect();
-    assert_eq!(lines[0], "8 slots: 3 used, 5 free");
+    assert_eq!(lines[0], "card of version 1, 8 slots: 3 used, 5 free");
     assert!(lines[3].starts_with("3F00 "), "{out}");
-    assert!(lines[3].contains("448  [##############......] 128 left"), "{out}");
+    assert!(lines[3].contains("448     1  [##############......] 128 left"), "{out}");
     assert!(lines[4].starts_with("`- 7F10 "), "{out}");
     assert!(lines[4].contains("183 left  <- current directory"), "{out}");
     assert!(lines[5].starts_with("   `- 6F07 "), "{out}");

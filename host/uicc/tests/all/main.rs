@@ -10,6 +10,7 @@ mod folder;
 mod images;
 mod killed;
 mod making_again;
+mod rules;
 mod saving;
 mod scripts;
 mod sharing;

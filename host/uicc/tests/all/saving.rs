@@ -135,7 +135,11 @@ fn a_pipe_is_shown() {
     let folder = with_card("pipe", 0o644);
     for line in ["cat card | $UICC show /dev/stdin", "$UICC show /dev/fd/0 <card"] {
         let ran = folder.shell(line);
-        assert!(ran.status == 0 && ran.out.starts_with("64 slots"), "{line}: {}", ran.err);
+        assert!(
+            ran.status == 0 && ran.out.starts_with("card of version 1, 64 slots"),
+            "{line}: {}",
+            ran.err
+        );
     }
     let ran = folder.shell("cat card | $UICC export /dev/stdin");
     assert!(ran.status == 0 && ran.out.contains("--slots 64"), "{}", ran.err);

@@ -20,7 +20,7 @@ fn a_script_without_commands_is_played() {
     let folder = Folder::new("empty");
     folder.write("empty", "# nothing\n\n");
     let out = folder.done(&["run", "empty"]);
-    assert!(out.contains("fresh card of 64 slots, root total 4032"), "{out}");
+    assert!(out.contains("fresh card of version 1, 64 slots, root total 4032"), "{out}");
     assert!(out.contains("current directory: total 4032, room 4032, 0 files"), "{out}");
 }
 

@@ -26,7 +26,7 @@ const TOLD: &str = "\
         total       128 bytes, announced for the files in it
         life cycle  activated (05)
         name        A000000087
-        rule        DELETE, TERMINATE, CREATE DF, DELETE CHILD: never; \
+        rule (8C)   DELETE, TERMINATE, CREATE DF, DELETE CHILD: never; \
 ACTIVATE: external authentication 2 and user authentication 2; DEACTIVATE: always; \
 CREATE EF: user authentication 1
    4  DEACTIVATE FILE       9000  done
@@ -36,7 +36,7 @@ CREATE EF: user authentication 1
         kind        directory, descriptor 38
         total       4032 bytes, announced for the files in it
         life cycle  activated (05)
-        rule        DELETE, TERMINATE, ACTIVATE, DEACTIVATE, CREATE DF, CREATE EF, \
+        rule (8C)   DELETE, TERMINATE, ACTIVATE, DEACTIVATE, CREATE DF, CREATE EF, \
 DELETE CHILD: always
    6  SELECT 7F20           6283  selected; the file is deactivated
         data        621D8202382183027F208405A0000000878A01048C0518B200021181020080
@@ -45,7 +45,7 @@ DELETE CHILD: always
         total       128 bytes, announced for the files in it
         life cycle  deactivated (04)
         name        A000000087
-        rule        DELETE, TERMINATE, CREATE DF, DELETE CHILD: never; \
+        rule (8C)   DELETE, TERMINATE, CREATE DF, DELETE CHILD: never; \
 ACTIVATE: external authentication 2 and user authentication 2; DEACTIVATE: always; \
 CREATE EF: user authentication 1
    7  SELECT 6F3A           9000  done
@@ -55,7 +55,7 @@ CREATE EF: user authentication 1
         structure   cyclic, 1 record of 10 bytes
         size        10 bytes
         life cycle  initialisation (03)
-        rule        DELETE, TERMINATE, ACTIVATE, DEACTIVATE, WRITE: never; \
+        rule (8C)   DELETE, TERMINATE, ACTIVATE, DEACTIVATE, WRITE: never; \
 UPDATE: user authentication 3; READ: always
    8  SELECT 6F3A           9000  done
    9  SELECT 6F3A           6700  wrong length

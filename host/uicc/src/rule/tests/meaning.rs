@@ -1,0 +1,172 @@
+//! The words say what the model decides.
+
+use model::rule::{decide, groups as model_groups, Form as ModelForm, Right};
+use model::State;
+
+use super::super::need::Need;
+use super::super::words::ALL_RIGHTS;
+use super::super::*;
+use super::random::Noise;
+
+fn model_form(form: Form) -> ModelForm {
+    match form {
+        Form::Compact => ModelForm::Compact,
+        Form::Expanded => ModelForm::Expanded,
+    }
+}
+
+/// Whether words hold in a state, read as a person reads them: brackets first,
+/// and no bracket is left out where "and" and "or" would meet.
+struct Reading<'a> {
+    left: &'a str,
+    state: &'a State,
+}
+
+impl Reading<'_> {
+    fn of(words: &str, state: &State) -> bool {
+        match words {
+            "always" => return true,
+            "never" => return false,
+            _ => {}
+        }
+        let mut reading = Reading { left: words, state };
+        let held = reading.list();
+        assert_eq!(reading.left, "", "{words}");
+        held
+    }
+
+    fn list(&mut self) -> bool {
+        let mut held = self.one();
+        let mut joined_by = None;
+        while let Some(word) =
+            [" or ", " and "].into_iter().find(|word| self.left.starts_with(word))
+        {
+            assert!(joined_by.replace(word).is_none_or(|other| other == word), "{}", self.left);
+            self.left = &self.left[word.len()..];
+            let other = self.one();
+            held = if word == " or " { held || other } else { held && other };
+        }
+        held
+    }
+
+    fn one(&mut self) -> bool {
+        if let Some(inside) = self.left.strip_prefix('(') {
+            self.left = inside;
+            let held = self.list();
+            self.left = self.left.strip_prefix(')').expect("a closing bracket");
+            return held;
+        }
+        let kinds = [
+            ("secure messaging ", self.state.messaging),
+            ("external authentication ", self.state.external),
+            ("user authentication ", self.state.user),
+        ];
+        let found = kinds.into_iter().find(|(kind, _)| self.left.starts_with(kind));
+        let (kind, set) = found.unwrap_or_else(|| panic!("{}", self.left));
+        let rest = &self.left[kind.len()..];
+        let digits = rest.find(|sign: char| !sign.is_ascii_digit()).unwrap_or(rest.len());
+        let environment: u16 = rest[..digits].parse().expect("a number");
+        self.left = &rest[digits..];
+        set >> environment & 1 == 1
+    }
+}
+
+/// The words for each right, b7 first.
+fn needs(rule: Rule) -> Vec<String> {
+    let parts = words(rule, Owner::Directory).expect("a good rule");
+    let need = |name: &str| {
+        let part = parts.iter().map(|part| part.split_once(": ").expect("rights and a need"));
+        let mut found = part.filter(|(rights, _)| rights.split(", ").any(|right| right == name));
+        let need = found.next().expect("every right is told").1.to_string();
+        assert!(found.next().is_none(), "{name} is told twice");
+        need
+    };
+    Owner::Directory.names(ALL_RIGHTS).into_iter().map(need).collect()
+}
+
+fn agree(rule: Rule, noise: &mut Noise) {
+    let needs = needs(rule);
+    let state = |noise: &mut Noise| {
+        let mut set = || noise.below(1 << 16) as u16 & noise.below(1 << 16) as u16;
+        State { messaging: set(), external: set(), user: set(), channels: 0 }
+    };
+    for state in [State::EMPTY, State::FULL, state(noise), state(noise), state(noise)] {
+        for (right, need) in Right::ALL.into_iter().zip(&needs) {
+            let decided = decide(model_form(rule.form), rule.bytes, right, &state);
+            assert_eq!(Reading::of(need, &state), decided, "{rule:02X?} {right:?}: {need}");
+        }
+    }
+}
+
+#[test]
+fn the_words_hold_when_the_rule_grants() {
+    let mut noise = Noise::new(1);
+    for _ in 0..3000 {
+        agree(Rule::compact(&noise.compact()), &mut noise);
+        agree(Rule::expanded(&noise.expanded()), &mut noise);
+    }
+}
+
+/// Every SC byte, in every state of its environment.
+#[test]
+fn the_words_of_every_condition_byte_hold() {
+    for byte in 0..=0xFF {
+        let words = Need::of_byte(byte).words();
+        for sets in 0..8_u16 {
+            let spread = |at: u16| (sets >> at & 1) << (byte & 15);
+            let (messaging, external, user) = (spread(0), spread(1), spread(2));
+            let state = State { messaging, external, user, channels: 0 };
+            let held = model::security::condition_holds(byte, &state);
+            assert_eq!(Reading::of(&words, &state), held, "{byte:02X}: {words}");
+        }
+    }
+}
+
+/// A compact rule and its expanded writing, an object 80 and a 9E for each SC
+/// byte, are told in the same words.
+#[test]
+fn both_forms_are_told_alike() {
+    let mut noise = Noise::new(2);
+    for _ in 0..1000 {
+        let compact = noise.compact();
+        let groups = groups(Rule::compact(&compact)).expect("a good rule");
+        let mut expanded = Vec::new();
+        for grant in groups.iter().flat_map(|group| &group.grants) {
+            let Sort::Byte(byte) = grant.condition.sort else { panic!("no SC byte") };
+            expanded.extend([0x80, 0x01, grant.rights, 0x9E, 0x01, byte]);
+        }
+        let told = |rule| words(rule, Owner::File).expect("a good rule");
+        assert_eq!(
+            told(Rule::compact(&compact)),
+            told(Rule::expanded(&expanded)),
+            "{compact:02X?}"
+        );
+    }
+}
+
+/// Good rules, bent ones and bytes without a pattern: malformed here is what is
+/// malformed there.
+#[test]
+fn the_model_calls_the_same_rules_malformed() {
+    let mut noise = Noise::new(3);
+    let mut counts = [0; 2];
+    for number in 0..40_000 {
+        let form = Form::ALL[number % 2];
+        let mut bytes = match form {
+            Form::Compact => noise.compact(),
+            Form::Expanded => noise.expanded(),
+        };
+        for _ in 0..noise.below(4) {
+            bytes = noise.bent(bytes);
+        }
+        if number % 16 < 2 {
+            bytes = (0..noise.below(12)).map(|_| noise.byte()).collect();
+        }
+        let good = model_groups(model_form(form), &bytes).is_some();
+        let given = groups(Rule { form, bytes: &bytes });
+        // An empty expanded rule fits no card; whether it is malformed is open.
+        assert!(bytes.is_empty() || given.is_ok() == good, "{form:?} {bytes:02X?}: {given:?}");
+        counts[usize::from(good)] += 1;
+    }
+    assert!(counts.iter().all(|&count| count > 8_000), "{counts:?}");
+}
