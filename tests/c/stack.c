@@ -18,16 +18,32 @@ static uint8_t image[HULL_IMAGE_BYTES(SLOTS)];
 static uint8_t *stack;
 static size_t most;
 static ucontext_t here, there;
-static const uint8_t rule[] = {0x7F, 0, 0, 0, 0, 0, 0, 0};
+
+/* What the maker is told, and what every DF has: all rights, always. The expanded rule is as long and as deep as it can be,
+ * and has to be judged to its end. */
+struct card {
+    uint32_t kind, form;
+    uint8_t tag, rule_length, rule[HULL_RULE_MOST];
+};
+static const struct card cards[] = {
+    {HULL_VERSION_1, HULL_COMPACT, 0x8C, 8, {0x7F}},
+    {HULL_VERSION_2, HULL_EXPANDED, 0xAB, 30,
+     {0x80, 0x01, 0x7F, 0xA0, 0x19, 0x97, 0x00, 0x97, 0x00, 0xAF, 0x13, 0x90, 0x00, 0xA0, 0x0F, 0x97, 0x00, 0xAF, 0x0B,
+      0x90, 0x00, 0x90, 0x00, 0x90, 0x00, 0x90, 0x00, 0x9E, 0x01, 0x00}},
+};
+static const struct card *made;
 
 static const uint8_t *bytes;
 static size_t length;
 static uint8_t response[HULL_RESPONSE_MOST];
-static size_t response_length = sizeof response;
+static size_t response_length;
 static uint32_t numbers[HULL_COMMAND_NUMBERS];
 static uint32_t given;
 
-static void make(void) { given = hull_make(image, sizeof image, 64 * (SLOTS - 1), rule, sizeof rule); }
+static void make(void)
+{
+    given = hull_make(image, sizeof image, made->kind, 64 * (SLOTS - 1), made->form, made->rule, made->rule_length);
+}
 static void command(void)
 {
     given = hull_command(image, sizeof image, bytes, length, response, response_length, 0, 0, 0, 0, numbers);
@@ -70,43 +86,49 @@ static uint32_t play(const uint8_t *one, size_t size)
     return run(command);
 }
 
-int main(void)
+/* The CREATE of a DF in the current one, with a name and the card's rule. */
+static size_t df(uint8_t *to, size_t level)
 {
-    /* a DF that takes files, with a name, and an EF */
-    uint8_t df[] = {0x00, 0xE0, 0x00, 0x00, 0x1E, 0x62, 0x1C, 0x82, 0x02, 0x78, 0x21, 0x83, 0x02, 0x7F, 0x00, 0x84, 0x02,
-                    0xA0, 0x00, 0x8A, 0x01, 0x05, 0x8C, 0x03, 0x06, 0x00, 0x00, 0x81, 0x03, 0x00, 0x00, 0x00, 0xC6, 0x01,
-                    0x00};
+    uint32_t total = (uint32_t)(64 * (SLOTS - 2 - level));
+    const uint8_t head[] = {0x00, 0xE0, 0x00, 0x00, 0x00, 0x62, 0x00, 0x82, 0x02, 0x78, 0x21, 0x83, 0x02,
+                            (uint8_t)(0x70 + level / 256), (uint8_t)level, 0x84, 0x02, (uint8_t)(0xA0 + level / 256),
+                            (uint8_t)level, 0x8A, 0x01, 0x05, made->tag, made->rule_length};
+    const uint8_t tail[] = {0x81, 0x03, (uint8_t)(total >> 16), (uint8_t)(total >> 8), (uint8_t)total, 0xC6, 0x01, 0x00};
+    size_t end = sizeof head + made->rule_length;
+    memcpy(to, head, sizeof head);
+    memcpy(to + sizeof head, made->rule, made->rule_length);
+    memcpy(to + end, tail, sizeof tail);
+    end += sizeof tail;
+    to[4] = (uint8_t)(end - 5), to[6] = (uint8_t)(end - 7);
+    return end;
+}
+
+/* Every call, on a card as deep as it can be. */
+static void calls(void)
+{
     const uint8_t ef[] = {0x00, 0xE0, 0x00, 0x00, 0x15, 0x62, 0x13, 0x82, 0x02, 0x41, 0x21, 0x83, 0x02, 0x6F, 0x07, 0x8A,
                           0x01, 0x05, 0x8C, 0x02, 0x01, 0x00, 0x80, 0x02, 0x00, 0x09};
     const uint8_t root[] = {0x00, 0xA4, 0x00, 0x0C, 0x02, 0x3F, 0x00}, erase[] = {0x00, 0xE4, 0x00, 0x00, 0x02, 0x70, 0x00};
     const uint8_t told[] = {0x00, 0xA4, 0x00, 0x04, 0x02, 0x3F, 0x00, 0x00};
-    uint8_t bare[] = {0x00, 0x00, 0x00, 0x00};
-    const uint8_t instructions[] = {0x04, 0x44, 0xE8, 0xE6, 0xB0, 0xFE};
-    size_t page = (size_t)sysconf(_SC_PAGESIZE), size = (HULL_STACK_BYTES + page - 1) / page * page, level, i;
-    uint8_t *memory = mmap(NULL, size + page, PROT_READ | PROT_WRITE, MAP_PRIVATE | MAP_ANONYMOUS, -1, 0);
-    if (memory == MAP_FAILED || mprotect(memory, page, PROT_NONE) != 0) return 2;
-    stack = memory + page + size - HULL_STACK_BYTES;
+    const uint8_t instructions[] = {0x04, 0x44, 0xE8, 0xE6};
+    uint8_t bare[] = {0x00, 0x00, 0x00, 0x00}, directory[80];
+    size_t level, i;
 
+    response_length = sizeof response;
     must("make", run(make), HULL_DONE);
-    for (level = 0; level < 900; level++) {
-        uint32_t total = (uint32_t)(64 * (SLOTS - 2 - level));
-        df[13] = (uint8_t)(0x70 + level / 256), df[14] = (uint8_t)level;
-        df[17] = (uint8_t)(0xA0 + level / 256), df[18] = (uint8_t)level;
-        df[29] = (uint8_t)(total >> 16), df[30] = (uint8_t)(total >> 8), df[31] = (uint8_t)total;
-        must("CREATE of a DF", play(df, sizeof df), 0x9000);
-    }
+    for (level = 0; level < 900; level++) must("CREATE of a DF", play(directory, df(directory, level)), 0x9000);
     must("CREATE of an EF", play(ef, sizeof ef), 0x9000);
     must("report", run(report), HULL_DONE);
     must("sound", run(sound), 1);
     must("an empty command", play(NULL, 0), 0x6700);
-    for (i = 0; i + 2 < sizeof instructions; i++) {
+    for (i = 0; i < sizeof instructions; i++) {
         bare[1] = instructions[i];
         play(bare, sizeof bare);
     }
     must("SELECT", play(root, sizeof root), 0x9000);
     must("SELECT with the template", play(told, sizeof told), 0x9000);
-    must("the root's template", numbers[0], 27);
-    response_length = 26;
+    must("the root's template", numbers[0], 19u + made->rule_length);
+    response_length = numbers[0] - 1;
     must("SELECT with a short response", play(told, sizeof told), (uint32_t)HULL_SHORT_RESPONSE << 16);
     must("DELETE", play(erase, sizeof erase), 0x9000);
     bare[1] = 0xB0;
@@ -115,6 +137,16 @@ int main(void)
     must("TERMINATE CARD USAGE", play(bare, sizeof bare), 0x9000);
     image[15] = 1;
     must("a damaged image", play(root, sizeof root), (uint32_t)HULL_NOT_SOUND << 16);
+}
+
+int main(void)
+{
+    size_t page = (size_t)sysconf(_SC_PAGESIZE), size = (HULL_STACK_BYTES + page - 1) / page * page;
+    uint8_t *memory = mmap(NULL, size + page, PROT_READ | PROT_WRITE, MAP_PRIVATE | MAP_ANONYMOUS, -1, 0);
+    if (memory == MAP_FAILED || mprotect(memory, page, PROT_NONE) != 0) return 2;
+    stack = memory + page + size - HULL_STACK_BYTES;
+
+    for (made = cards; made < cards + sizeof cards / sizeof *cards; made++) calls();
     printf("stack: the calls took at most %zu of the %u bytes that the header tells\n", most, (unsigned)HULL_STACK_BYTES);
     return most > HULL_STACK_BYTES / 2 ? 0 : 1;
 }

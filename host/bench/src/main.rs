@@ -1,7 +1,9 @@
 //! Measures how long the proved card takes for each kind of command, on cards
 //! of several sizes and shapes, beside the model on the same work and one copy
 //! of the image; and how many times as long SELECT takes with the template as
-//! without.
+//! without. The first cards are of version 1, so that their lines compare with
+//! earlier ones; cards of version 2 with rules of both forms follow, and below
+//! each card its slowest command beside what is wanted (docs/SPEED.md).
 //!
 //!     cargo run --release -p bench [-- --milliseconds M] [--shape WORD]
 //!
@@ -11,6 +13,8 @@
 #![forbid(unsafe_code)]
 
 mod clock;
+mod shapes;
+mod slowest;
 mod table;
 mod work;
 
@@ -20,8 +24,9 @@ use std::process::ExitCode;
 use std::time::Duration;
 
 use card::{lent, Answer, CommandError, LONGEST_RESPONSE};
-use cases::worst::{self, Worst};
 use clock::{measure, measure_copy, Times};
+use shapes::{shapes, Shape};
+use slowest::Slowest;
 use work::{Call, Task};
 
 const SIZES: [usize; 4] = [16, 128, 256, 1023];
@@ -63,15 +68,20 @@ fn measure_all(budget: Duration, shape: &str) -> io::Result<()> {
         if !title.contains(shape) {
             continue;
         }
-        let images = SIZES.map(|slots| shapes(slots).swap_remove(number).image);
+        let measured = SIZES.map(|slots| shapes(slots).swap_remove(number));
+        let images = measured.each_ref().map(|shape| &shape.image);
         writeln!(out, "\n{title}\n{}", table::columns(&SIZES))?;
+        let mut slowest = Slowest::default();
         for task in Task::ALL {
-            let cells = images.each_ref().map(|image| cell(task, image, budget));
+            let cells = images.map(|image| cell(task, image, budget));
             writeln!(out, "{}", table::row(task.title(), &SIZES, &cells, &copies))?;
+            slowest.see(task, &cells, &copies);
         }
+        let [.., Shape { wanted, .. }] = &measured;
+        writeln!(out, "{}", slowest.told(SIZES[3], *wanted))?;
         writeln!(out, "{}", table::ratio_head(&SIZES))?;
         for (what, without, with) in Task::TEMPLATES {
-            let ratios = images.each_ref().map(|image| ratio(without, with, image, budget));
+            let ratios = images.map(|image| ratio(without, with, image, budget));
             writeln!(out, "{}", table::ratio_row(what, &ratios))?;
         }
     }
@@ -91,15 +101,8 @@ fn read(arguments: &[OsString]) -> Option<(Duration, String)> {
     Some((Duration::from_millis(milliseconds), shape))
 }
 
-/// The cards of a size that are measured.
-fn shapes(slots: usize) -> Vec<Worst> {
-    let mut shapes = worst::cards_of(slots);
-    shapes.extend(worst::slow_of(slots));
-    shapes
-}
-
 fn titles() -> Vec<&'static str> {
-    shapes(16).into_iter().map(|worst| worst.title).collect()
+    shapes(16).into_iter().map(|shape| shape.title).collect()
 }
 
 /// Measures a task on a card, by the proved card and by the model.

@@ -2,6 +2,7 @@
 //! that the command has its effect wherever the card's shape allows it.
 
 use cases::actions::{bare, delete, select};
+use cases::rules::Rule;
 use cases::template::FileData;
 use model::{Card, Record};
 
@@ -147,6 +148,7 @@ fn last_file_again(card: &mut Card, descriptor: u8) -> Vec<u8> {
     if file.is_df() && !last.name.is_empty() {
         file.name = Some(last.name);
     }
+    file.rule = Rule { form: last.form, bytes: last.rule };
     file.command()
 }
 
@@ -162,7 +164,7 @@ fn on_last_file(card: &mut Card, life_cycle: u8, ins: u8) -> Call {
 #[cfg(test)]
 mod tests {
     use super::*;
-    use crate::shapes;
+    use crate::shapes::shapes;
 
     /// The two SELECTs that are compared start alike and select the same file.
     #[test]
@@ -186,7 +188,8 @@ mod tests {
     #[test]
     fn the_commands_do_what_their_titles_say() {
         for worst in shapes(64) {
-            let has_ef = worst.title.contains("identifier") || worst.title.contains("files");
+            let has_ef = ["identifier", "files", "version 2"].map(|part| worst.title.contains(part));
+            let has_ef = has_ef.contains(&true);
             for task in Task::ALL {
                 let (mut image, call) = task.prepared(&worst.image);
                 assert!(card::lent::is_sound(&image), "{}, {task:?}", worst.title);
