@@ -126,15 +126,15 @@ fn many_expanded_groups() -> Vec<u8> {
     [[0x80, 0x01, 0x7F, 0x97, 0x00].repeat(5), vec![0x80, 0x01, 0x7F, 0x90, 0x00]].concat()
 }
 
-/// Templates four deep, each to be judged to its end: of A0 only the last
-/// condition holds, of AF all do.
+/// Templates four deep, most objects in the innermost, each to be judged to its
+/// end: of A0 only the last condition holds, of AF all do.
 fn four_deep() -> Vec<u8> {
     let template = |tag: u8, inside: Vec<u8>| [vec![tag, inside.len() as u8], inside].concat();
     let (always, never) = ([0x90, 0x00], [0x97, 0x00]);
-    let fourth = template(0xAF, [always.repeat(4), vec![0x9E, 0x01, 0x00]].concat());
+    let fourth = template(0xAF, [always.repeat(5), vec![0x9E, 0x01, 0x00]].concat());
     let third = template(0xA0, [never.to_vec(), fourth].concat());
     let second = template(0xAF, [always.to_vec(), third].concat());
-    let first = template(0xA0, [never.repeat(2), second].concat());
+    let first = template(0xA0, [never.to_vec(), second].concat());
     [vec![0x80, 0x01, 0x7F], first].concat()
 }
 
@@ -165,7 +165,7 @@ mod tests {
         let rule = four_deep();
         let denied = |rule: &[u8]| !decide(Form::Expanded, rule, Right::CreateEf, &State::FULL);
         let places = (3..rule.len()).filter(|&place| rule[place] == 0x90).collect::<Vec<_>>();
-        assert_eq!(places.len(), 5);
+        assert_eq!(places.len(), 6);
         for place in places {
             let mut bent = rule.clone();
             bent[place] = 0x97;

@@ -188,7 +188,8 @@ mod tests {
     #[test]
     fn the_commands_do_what_their_titles_say() {
         for worst in shapes(64) {
-            let has_ef = ["identifier", "files", "version 2"].map(|part| worst.title.contains(part));
+            let has_ef =
+                ["identifier", "files", "version 2"].map(|part| worst.title.contains(part));
             let has_ef = has_ef.contains(&true);
             for task in Task::ALL {
                 let (mut image, call) = task.prepared(&worst.image);

@@ -7,7 +7,9 @@ use cases::images::sound_card;
 use cases::random::Random;
 use cases::themes::Theme;
 use cases::worst;
+use model::edition::Version;
 use model::life_cycle::{is_deactivated, is_terminated};
+use model::rule::Form;
 use model::Card;
 
 use crate::cards::{current, foretold, tree};
@@ -46,6 +48,7 @@ fn compare(folder: &Folder, old: &Card, what: &str) -> usize {
     let foretold = foretold(old);
     let (export, new) = again(folder);
     let lost = foretold.lost;
+    assert_eq!(new.edition, old.edition, "{what}: a card keeps its version");
     assert_eq!(tree(&new), foretold.tree, "{what}:\n{}", export.out);
     assert_eq!(current(&new), foretold.current, "{what}:\n{}", export.out);
     assert_eq!(export.status, if lost > 0 { NOT_ALL } else { 0 }, "{what}");
@@ -76,8 +79,13 @@ fn the_examples_card_is_made_again_byte_by_byte() {
 
 /// The card that a history leaves.
 fn played(history: &History) -> Card {
-    let History { slots, total, rule, .. } = history;
-    let mut card = card::Card::make(*slots, *total, rule).expect("a card");
+    let History { edition, slots, total, rule, .. } = history;
+    let kind = card::Kind::of_version(edition.version_number());
+    let root_rule = match rule.form {
+        Form::Compact => card::Rule::compact(&rule.bytes),
+        Form::Expanded => card::Rule::expanded(&rule.bytes),
+    };
+    let mut card = card::Card::make(*slots, kind, *total, root_rule).expect("a card");
     for step in &history.steps {
         let model::State { messaging, external, user, channels } = step.state;
         let state = card::State { messaging, external, user, channels };
@@ -91,13 +99,15 @@ fn played(history: &History) -> Card {
 #[test]
 fn nothing_is_lost_of_what_commands_made() {
     let folder = Folder::new("again-histories");
-    let (mut files, mut closed) = (0, 0);
+    let (mut files, mut closed, mut expanded) = (0, 0, 0);
     for number in 0..HISTORIES {
         let mut random = Random::for_case(3, number);
         let theme = random.pick(Theme::ALL);
         let old = played(&history_of(&mut random, theme, 24, 60));
         assert_eq!(compare(&folder, &old, &format!("history {number}")), 0, "history {number}");
         files += old.used_slots().count() - 1;
+        let is_expanded = |slot: &usize| old.record(*slot).form == Form::Expanded;
+        expanded += old.used_slots().filter(is_expanded).count();
         let is_closed = |slot: &usize| {
             let life_cycle = old.record(*slot).life_cycle;
             is_deactivated(life_cycle) || is_terminated(life_cycle)
@@ -106,6 +116,7 @@ fn nothing_is_lost_of_what_commands_made() {
         closed += old.used_slots().filter(is_closed).filter(has_files).count();
     }
     assert!(files > 600, "{files} files");
+    assert!(expanded > 100, "{expanded} files with expanded rules");
     assert!(closed > 30, "{closed} directories with files were deactivated or terminated");
 }
 
@@ -114,14 +125,16 @@ fn nothing_is_lost_of_what_commands_made() {
 #[test]
 fn cards_at_random_are_made_again_as_foretold() {
     let folder = Folder::new("again-random");
-    let mut whole = 0;
+    let (mut whole, mut second) = (0, 0);
     for number in 0..CARDS {
         let old = sound_card(&mut Random::for_case(2, number));
+        second += u64::from(old.edition.version == Version::Two);
         let lost = compare(&folder, &old, &format!("card {number}"));
         whole += u64::from(lost == 0 && old.used_slots().count() > 1);
     }
     assert!(whole > CARDS / 20, "{whole} cards with files were made again as a whole");
     assert!(whole < CARDS, "nothing was lost");
+    assert!(second > CARDS / 5 && second < CARDS, "{second} cards of version 2");
 }
 
 /// Cards that are as full and as named as they can be, and the deepest card.
