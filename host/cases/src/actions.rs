@@ -122,7 +122,7 @@ pub fn command_for(
         Action::TerminateDf => Some(bare(0xE6)),
         Action::TerminateCard => Some(bare(0xFE)),
         Action::NearMiss => Some(raw::near_miss(random, card)),
-        Action::CreateBroken => Some(create_command(&breach::any(random))),
+        Action::CreateBroken => Some(create_command(&breach::any(random, card.edition))),
         _ => Some(creations::data_for(action, random, card, remembered)?.command()),
     }
 }

@@ -8,9 +8,10 @@
 
 use std::convert::Infallible;
 
+use model::edition::Edition;
 use model::lines::Case as Line;
 use model::record::RECORD_BYTES;
-use model::rule::{grants, Right};
+use model::rule::{self, Right};
 use model::soundness::sound_card;
 use model::words::{Word, SUCCESS};
 use model::{life_cycle, Card, State};
@@ -20,14 +21,14 @@ use crate::images;
 use crate::random::Random;
 use crate::target::Target;
 use crate::template::create_command;
-use crate::{life_cycles, rules};
+use crate::{editions, life_cycles, rules};
 
 /// A card of more slots is large, and only so many of its files are made again
 /// one by one, so that it takes no longer than many small ones.
 const LARGE_CARD: usize = 160;
 const MOST_FILES_OF_A_LARGE_CARD: usize = 12;
 /// Long enough for every template.
-const RESPONSE: [u8; 64] = [0x5A; 64];
+const RESPONSE: [u8; 72] = [0x5A; 72];
 
 /// Files of a card to be made again.
 #[derive(Clone, PartialEq, Eq, Debug)]
@@ -118,7 +119,8 @@ impl Again {
             let holds_files = card.children(slot).next().is_some();
             if holds_files && !takes_files(&card, slot) {
                 record.life_cycle = life_cycles::of_an_activated_file(random);
-                record.rule = rules::open();
+                let rule = rules::some_open(random, card.edition);
+                (record.form, record.rule) = (rule.form, rule.bytes);
             } else if life_cycle::is_terminated(record.life_cycle) {
                 record.life_cycle = life_cycles::of_a_new_file(random);
             }
@@ -183,7 +185,8 @@ impl Again {
         }
         let file = card.record(slot);
         let template = own.command(call, &select_fcp(file.identifier))?.data;
-        let target = Target::for_file(random, file);
+        let edition = another_edition(random, card, slot);
+        let target = Target::for_file(random, edition, file);
         let mut other = Session { image: call(&target.make())?.image, state: target.state };
         for command in &target.commands {
             other.command(call, command)?;
@@ -196,6 +199,17 @@ impl Again {
             word,
             directory: target.directory,
         })
+    }
+}
+
+/// The edition of the card on which a file is made again: that of its own, as
+/// the ticket says, and at times another for which its rule is fit as well.
+fn another_edition(random: &mut Random, card: &Card, slot: usize) -> Edition {
+    let (other, file) = (editions::any(random), card.record(slot));
+    if random.chance(20) && rule::fit(other, file.form, &file.rule) {
+        other
+    } else {
+        card.edition
     }
 }
 
@@ -237,7 +251,7 @@ impl Session {
 /// and its rule grants it.
 pub(crate) fn takes_files(card: &Card, df: usize) -> bool {
     let record = card.record(df);
-    let granted = |right| grants(&record.rule, right, &State::FULL);
+    let granted = |right| record.grants(right, &State::FULL);
     let activated = life_cycle::class(record.life_cycle) == Some(life_cycle::Class::Activated);
     activated && granted(Right::CreateDf) && granted(Right::CreateEf)
 }
@@ -251,9 +265,9 @@ pub(crate) fn record_of(image: &[u8], slot: usize) -> Vec<u8> {
 /// What the model leaves for a line: of the maker, or of a command.
 pub fn by_model(line: &Line) -> Left {
     match line {
-        Line::Make { buffer, total, rule } => {
+        Line::Make { buffer, version, total, form, rule } => {
             let mut image = buffer.clone();
-            model::make(&mut image, *total, rule);
+            model::make(&mut image, *version, *total, *form, rule);
             Left { word: 0, image, data: Vec::new() }
         }
         Line::Command { image, command, state, response, .. } => {

@@ -1,18 +1,25 @@
 //! CREATE's data with one breach each (01, "CREATE": "Any breach of this
-//! paragraph's data rules ... are 6A80").
+//! paragraph's data rules ... are 6A80"; 02, Ticket 3).
+
+use model::edition::Edition;
 
 use crate::random::Random;
 use crate::template::{good, record_lengths, template, FileData, Object};
 use crate::{life_cycles, rules};
 
-/// Good data or data with one breach; sometimes only bytes.
-pub fn any(random: &mut Random) -> Vec<u8> {
-    let data = good(random);
-    match random.below(10) {
-        0..=2 => template(&data.objects()),
-        3..=5 => of_a_value(random, data),
-        6 | 7 => of_the_list(random, &data),
+/// Good data for a card of this edition, or data with one breach; sometimes
+/// only bytes.
+pub fn any(random: &mut Random, edition: Edition) -> Vec<u8> {
+    let mut data = good(random, edition);
+    match random.below(12) {
+        0..=3 => template(&data.objects()),
+        4 | 5 => of_a_value(random, data),
+        6 | 7 => of_the_list(random, &data, edition),
         8 => of_a_length(random, &data),
+        9 | 10 => {
+            data.rule = rules::broken(random, edition);
+            template(&data.objects())
+        }
         _ => {
             let length = random.range(1, 40) as usize;
             let mut bytes = random.bytes(length);
@@ -24,14 +31,13 @@ pub fn any(random: &mut Random) -> Vec<u8> {
 
 /// Every object in its place, one value wrong.
 fn of_a_value(random: &mut Random, mut data: FileData) -> Vec<u8> {
-    match random.below(8) {
+    match random.below(7) {
         0 => data.size = 0,
         1 => data.identifier = random.pick([0x3FFF, 0x7FFF, 0xFFFF]),
         2 => data.life_cycle = life_cycles::of_no_new_file(random),
-        3 => data.rule = rules::broken(random),
-        4 => data.name = Some(vec![0xA0; random.pick([0, 17, 18])]),
-        5 => data.descriptor = random.pick([0x79, 0x21, 0xB8, 0xC1, 0x40, 0x43, 0x51, 0x00, 0xFF]),
-        6 => of_the_records(random, &mut data),
+        3 => data.name = Some(vec![0xA0; random.pick([0, 17, 18])]),
+        4 => data.descriptor = random.pick([0x79, 0x21, 0xB8, 0xC1, 0x40, 0x43, 0x51, 0x00, 0xFF]),
+        5 => of_the_records(random, &mut data),
         _ => {
             let mut objects = data.objects();
             let place = random.below(objects.len());
@@ -74,11 +80,11 @@ fn wrong_value_length(random: &mut Random, object: &mut Object) {
 }
 
 /// Objects left out, doubled, exchanged, added or with another tag.
-fn of_the_list(random: &mut Random, data: &FileData) -> Vec<u8> {
+fn of_the_list(random: &mut Random, data: &FileData, edition: Edition) -> Vec<u8> {
     let mut objects = data.objects();
     let place = random.below(objects.len());
     let other = random.below(objects.len());
-    match random.below(6) {
+    match random.below(7) {
         0 => {
             objects.remove(place);
         }
@@ -93,9 +99,18 @@ fn of_the_list(random: &mut Random, data: &FileData) -> Vec<u8> {
             let length = random.below(4);
             objects.insert(other, (added, random.bytes(length)));
         }
+        5 => two_rules(random, &mut objects, edition),
         _ => objects.extend([(0x85, Vec::new()), (0xA5, Vec::new())]),
     }
     template(&objects)
+}
+
+/// A second rule beside the first, each good by itself, of either form.
+fn two_rules(random: &mut Random, objects: &mut Vec<Object>, edition: Edition) {
+    let is_rule = |object: &Object| [0x8C, 0xAB].contains(&object.0);
+    let place = objects.iter().position(is_rule).unwrap_or(0);
+    let other = rules::well_formed(random, edition).object();
+    objects.insert(place + random.below(2), other);
 }
 
 /// Lengths that do not meet, in 62 or in an object, and trailing bytes.

@@ -1,9 +1,11 @@
 //! The cases that are made, and their lines in the format of the vectors.
 
+use model::edition::{Edition, Version};
 use model::lines::Case as Line;
-use model::{command, make, Outcome, State};
+use model::{command, Outcome, State};
 
-use crate::again::Again;
+use crate::again::{by_model, Again};
+use crate::rules::{self, Rule};
 use crate::template::create_command;
 
 /// One command of a history with the lent response buffer and the caller's
@@ -21,28 +23,34 @@ pub struct Step {
 /// A fresh card and the commands it is given, one after the other.
 #[derive(Clone, PartialEq, Eq, Debug)]
 pub struct History {
+    /// Version and variant of the card.
+    pub edition: Edition,
     /// Slots of the card.
     pub slots: usize,
     /// The root's total.
     pub total: u32,
-    /// The root's rule.
-    pub rule: Vec<u8>,
+    /// The root's rule, fit for a record of the edition.
+    pub rule: Rule,
     /// The commands.
     pub steps: Vec<Step>,
 }
 
 impl History {
-    /// The lent buffer before the maker's call.
-    pub fn buffer(&self) -> Vec<u8> {
-        vec![0; 16 + 64 * self.slots]
+    /// The maker's call.
+    pub fn make(&self) -> Line {
+        Line::Make {
+            buffer: vec![0; 16 + 64 * self.slots],
+            version: u32::from(self.edition.version_number()),
+            total: self.total,
+            form: self.rule.form_number(),
+            rule: self.rule.bytes.clone(),
+        }
     }
 
     /// The fresh card by the model. Every generated history asks for one
     /// that the maker grants.
     pub fn fresh_image(&self) -> Vec<u8> {
-        let mut image = self.buffer();
-        make(&mut image, self.total, &self.rule);
-        image
+        by_model(&self.make()).image
     }
 
     /// Runs the history by the model; `see` gets, for each step, the image
@@ -83,8 +91,12 @@ pub enum Case {
     Make {
         /// The lent buffer.
         buffer: Vec<u8>,
+        /// The number of the image version, known or not.
+        version: u32,
         /// The total.
         total: u32,
+        /// The number of the rule's form, known or not.
+        form: u32,
         /// The root's rule.
         rule: Vec<u8>,
     },
@@ -96,13 +108,15 @@ pub enum Case {
     /// CREATE's data, good or broken, at most 255 bytes. The line shows it on
     /// a fresh card with much room.
     Template {
+        /// Version and variant of the card.
+        edition: Edition,
         /// What follows Lc.
         data: Vec<u8>,
     },
     /// A rule of any length under a state.
     Rule {
-        /// The rule.
-        rule: Vec<u8>,
+        /// The rule, with its form.
+        rule: Rule,
         /// The state.
         state: State,
     },
@@ -126,11 +140,15 @@ impl Case {
                 vec![Line::command(image, command, response, *state)]
             }
             Case::Report { image } => vec![Line::Report { image: image.clone() }],
-            Case::Make { buffer, total, rule } => {
-                vec![Line::Make { buffer: buffer.clone(), total: *total, rule: rule.clone() }]
-            }
+            Case::Make { buffer, version, total, form, rule } => vec![Line::Make {
+                buffer: buffer.clone(),
+                version: *version,
+                total: *total,
+                form: *form,
+                rule: rule.clone(),
+            }],
             Case::Replay { input } => vec![Line::Replay { input: input.clone() }],
-            Case::Template { data } => vec![template_line(data)],
+            Case::Template { edition, data } => vec![template_line(*edition, data)],
             Case::Rule { rule, state } => rule_lines(rule, *state),
             Case::Again(again) => again.lines(),
         }
@@ -138,26 +156,28 @@ impl Case {
 }
 
 fn history_lines(history: &History) -> Vec<Line> {
-    let mut lines = vec![Line::Make {
-        buffer: history.buffer(),
-        total: history.total,
-        rule: history.rule.clone(),
-    }];
+    let mut lines = vec![history.make()];
     history.play(|before, step, _, _| {
         lines.push(Line::command(before, &step.command, &step.response, step.state));
     });
     lines
 }
 
-fn template_line(data: &[u8]) -> Line {
+fn template_line(edition: Edition, data: &[u8]) -> Line {
     let (slots, total) = TEMPLATE_CARD;
-    let rule = crate::rules::open();
-    let card = History { slots, total, rule, steps: Vec::new() };
+    let card = History { edition, slots, total, rule: rules::open(), steps: Vec::new() };
     Line::command(&card.fresh_image(), &create_command(data), &TEMPLATE_BUFFER, State::FULL)
 }
 
-fn rule_lines(rule: &[u8], state: State) -> Vec<Line> {
-    let fit = Line::Fit { version: 1, form: 0, rule: rule.to_vec() };
+/// Whether the rule is fit for a record of each version, and what it decides.
+fn rule_lines(rule: &Rule, state: State) -> Vec<Line> {
+    let form = rule.form_number();
+    let fit = |version: Version| {
+        let version = u32::from(version.number());
+        Line::Fit { version, form, rule: rule.bytes.clone() }
+    };
+    let mut lines: Vec<_> = Version::ALL.into_iter().map(fit).collect();
     let state = State { channels: 0, ..state };
-    vec![fit, Line::Decide { form: 0, rule: rule.to_vec(), state }]
+    lines.push(Line::Decide { form, rule: rule.bytes.clone(), state });
+    lines
 }

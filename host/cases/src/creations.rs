@@ -1,6 +1,7 @@
 //! The data of the CREATE actions, with sizes taken from the room of the card
 //! at hand: fitting, exactly at the room, one above, and beyond 32 bits.
 
+use model::rule::Form;
 use model::Card;
 
 use crate::actions::Action;
@@ -56,8 +57,10 @@ pub fn data_for(
         }
         _ => by_field(action, random, card, &place)?,
     };
-    if action != Action::CreateRuled && random.chance(8) {
-        data.rule = rules::mostly_open(random);
+    // Expanded rules come as often as compact ones where there are any.
+    let other = if card.edition.takes(Form::Expanded) { 80 } else { 8 };
+    if action != Action::CreateRuled && random.chance(other) {
+        data.rule = rules::mostly_open(random, card.edition);
     }
     Some(data)
 }
@@ -117,7 +120,7 @@ fn by_field(action: Action, random: &mut Random, card: &Card, place: &Place) -> 
         Action::CreateRuled => {
             let size = random.range(1, place.most?.min(300));
             let mut data = either(random, identifier, size);
-            data.rule = rules::many_groups(random);
+            data.rule = rules::many_groups(random, card.edition);
             Some(data)
         }
         Action::CreateInState => {

@@ -1,10 +1,11 @@
 //! Images damaged in one field: for each field of header and record the
-//! values just beyond what soundness allows (01, "Image").
+//! values just beyond what soundness allows (01, "Image"; 02, Ticket 3).
 
-use model::Card;
+use model::edition::Edition;
+use model::{rule, Card};
 
-use crate::life_cycles;
 use crate::random::Random;
+use crate::{life_cycles, rules};
 
 /// The field that was damaged.
 #[derive(Clone, Copy, PartialEq, Eq, PartialOrd, Ord, Debug)]
@@ -71,7 +72,7 @@ pub fn damaged(random: &mut Random, card: &Card, field: Field) -> Vec<u8> {
     match field {
         Field::BufferLength => resize(random, &mut image),
         Field::Mark => set(&mut image, random.range(0, 2) as usize, &[random.byte() | 0x80]),
-        Field::Version => set16(&mut image, 3, random.pick([0, 2, 3, 0x0100, 0xFFFF])),
+        Field::Version => set16(&mut image, 3, wrong_version(random, card)),
         Field::SlotCount => {
             let slots = card.records.len() as u16;
             let count = random.pick([0, 1, slots - 1, slots + 1, 1024, 0xFFFF]);
@@ -103,7 +104,7 @@ fn record(random: &mut Random, card: &Card, field: Field, slot: usize, image: &m
             set(image, at(slot, 1), &[byte]);
         }
         Field::LifeCycle => set(image, at(slot, 2), &[life_cycles::of_no_record(random)]),
-        Field::ByteThree => set(image, at(slot, 3), &[random.byte() | 1]),
+        Field::ByteThree => set(image, at(slot, 3), &[wrong_form(random, card, slot)]),
         Field::Identifier => set16(image, at(slot, 4), bad_identifier(random, card, slot)),
         Field::Parent => {
             let slots = card.records.len() as u16;
@@ -122,12 +123,39 @@ fn record(random: &mut Random, card: &Card, field: Field, slot: usize, image: &m
         }
         Field::Size => set(image, at(slot, 12), &bad_size(random, card, slot).to_be_bytes()),
         Field::Name | Field::NamePadding => name(random, card, field, slot, image),
-        Field::Rule | Field::RulePadding => rule(random, card, field, slot, image),
-        _ => {
-            let offset = random.range(50, 63) as usize;
-            set(image, at(slot, offset), &[random.byte() | 1]);
-        }
+        Field::Rule | Field::RulePadding => rule_bytes(random, card, field, slot, image),
+        _ => tail(random, card, slot, image),
     }
+}
+
+/// A version that no card has; more seldom an older one than the card's, which
+/// a card with newer rules cannot have.
+fn wrong_version(random: &mut Random, card: &Card) -> u16 {
+    let older = Edition::BASE.version_number();
+    let newer_rules = card.used_slots().any(|slot| {
+        let record = card.record(slot);
+        !rule::fit(Edition::BASE, record.form, &record.rule)
+    });
+    if newer_rules && random.chance(50) {
+        older
+    } else {
+        random.pick([0, 3, 4, 0x0100, 0x0101, 0x0102, 0x0200, 0xFFFF])
+    }
+}
+
+/// A form that the record's rule does not have: unknown, or the other one.
+fn wrong_form(random: &mut Random, card: &Card, slot: usize) -> u8 {
+    let other = 1 - card.record(slot).form.number();
+    random.pick([other, other, 2, 3, 0x80, 0x81, 0xFF])
+}
+
+/// The last bytes of a record: zero on version 1; where the rule reaches so far
+/// one of its bytes, an AM_DO's or AM byte's b8 being wrong there, else padding.
+fn tail(random: &mut Random, card: &Card, slot: usize, image: &mut [u8]) {
+    let offset = random.range(50, 63) as usize;
+    let in_rule = offset < 34 + card.record(slot).rule.len();
+    let wrong = if in_rule { random.pick([0xC0, 0xFF]) } else { random.byte() | 1 };
+    set(image, at(slot, offset), &[wrong]);
 }
 
 /// A current DF that is none, a current EF that is not its child EF.
@@ -198,17 +226,29 @@ fn name(random: &mut Random, card: &Card, field: Field, slot: usize, image: &mut
     }
 }
 
-/// A length of 0 or beyond 16, a malformed rule, padding that is not zero.
-fn rule(random: &mut Random, card: &Card, field: Field, slot: usize, image: &mut [u8]) {
-    let length = card.record(slot).rule.len();
-    if field == Field::RulePadding && length < 16 {
-        let offset = random.range(34 + length as u32, 49) as usize;
+/// A length of 0 or beyond what the version takes, a malformed rule, padding
+/// that is not zero.
+fn rule_bytes(random: &mut Random, card: &Card, field: Field, slot: usize, image: &mut [u8]) {
+    let (record, longest) = (card.record(slot), card.edition.longest_rule());
+    let length = record.rule.len();
+    if field == Field::RulePadding && length < longest {
+        let offset = random.range(34 + length as u32, 33 + longest as u32) as usize;
         set(image, at(slot, offset), &[random.byte() | 1]);
-    } else if random.chance(50) {
-        set(image, at(slot, 33), &[random.pick([0, 17, 0xFF])]);
+    } else if random.chance(40) {
+        let beyond = longest as u8 + 1;
+        set(image, at(slot, 33), &[random.pick([0, beyond, beyond.max(30), 31, 0xFF])]);
     } else {
-        let first = image[at(slot, 34)];
-        set(image, at(slot, 34), &[first | 0x80]);
+        let wrong = rules::broken(random, card.edition);
+        if wrong.form == record.form && wrong.bytes.len() <= longest {
+            let mut bytes = vec![wrong.bytes.len() as u8];
+            bytes.extend(wrong.bytes);
+            bytes.resize(1 + longest, 0);
+            set(image, at(slot, 33), &bytes);
+        } else {
+            // An AM byte with b8, or no AM_DO at the start.
+            let first = image[at(slot, 34)];
+            set(image, at(slot, 34), &[first ^ 0x80]);
+        }
     }
 }
 

@@ -2,6 +2,7 @@
 //! Ticket 2): neither above it nor beside it, so that they do not matter, also
 //! where they have its identifier, or nearly its name.
 
+use model::edition::Edition;
 use model::record::LONGEST_NAME;
 use model::Record;
 
@@ -27,6 +28,7 @@ impl Other {
     /// again, it often is.
     pub fn any(
         random: &mut Random,
+        edition: Edition,
         again: &Record,
         (number, same): (u16, bool),
         names: &mut Vec<Vec<u8>>,
@@ -48,7 +50,7 @@ impl Other {
             file.life_cycle = random.pick([0x01, 0x03, 0x05, 0x07]);
         } else if !terminated {
             file.life_cycle = life_cycles::of_a_new_file(random);
-            file.rule = rules::well_formed(random);
+            file.rule = rules::well_formed(random, edition);
         }
         Other { file, inside, terminated }
     }

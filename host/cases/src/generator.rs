@@ -7,7 +7,7 @@ use crate::case::Case;
 use crate::damage::{damaged, Field};
 use crate::history::{fitting_command, history};
 use crate::random::Random;
-use crate::{breach, images, makers, raw, responses, rules, states, streams, worst};
+use crate::{breach, editions, images, makers, raw, responses, rules, states, streams, worst};
 
 /// What a case is made for.
 #[derive(Clone, Copy, PartialEq, Eq, PartialOrd, Ord, Debug)]
@@ -52,10 +52,10 @@ impl Kind {
         (Kind::DamagedReport, 40),
         (Kind::RawCommand, 70),
         (Kind::NearMiss, 110),
-        (Kind::Template, 120),
+        (Kind::Template, 180),
         (Kind::Make, 30),
         (Kind::Replay, 30),
-        (Kind::Rule, 45),
+        (Kind::Rule, 75),
         (Kind::Worst, 5),
         (Kind::FilesAgain, 15),
         (Kind::TreeAgain, 10),
@@ -148,11 +148,11 @@ pub fn make_case(random: &mut Random, kind: Kind) -> Case {
             let (command, state) = (raw::near_miss(random, &card), states::mostly_full(random));
             one_command(random, card.encode(), command, state)
         }
-        Kind::Template => Case::Template { data: breach::any(random) },
-        Kind::Make => {
-            let (buffer, total, rule) = makers::call(random);
-            Case::Make { buffer, total, rule }
+        Kind::Template => {
+            let edition = editions::any(random);
+            Case::Template { edition, data: breach::any(random, edition) }
         }
+        Kind::Make => makers::call(random),
         Kind::Replay => Case::Replay { input: streams::input(random) },
         Kind::Rule => Case::Rule { rule: rules::any(random), state: states::any(random) },
         Kind::Worst => worst_case(random),
@@ -183,7 +183,8 @@ fn one_command(random: &mut Random, image: Vec<u8>, command: Vec<u8>, state: Sta
 }
 
 fn worst_case(random: &mut Random) -> Case {
-    let cards = worst::cards();
+    let mut cards = worst::cards();
+    cards.extend(worst::ruled_of(worst::MOST_SLOTS));
     let image = random.choose(&cards).map(|worst| worst.image.clone()).unwrap_or_default();
     match Card::decode(&image) {
         Some(card) if random.chance(75) => fitting(random, &card, image),

@@ -1,6 +1,7 @@
 //! Histories on fresh cards that mostly succeed. The model runs along, so
 //! that each command fits the card as it is by then.
 
+use model::edition::Edition;
 use model::soundness::sound_card;
 use model::{command, words, Card, State};
 
@@ -9,7 +10,7 @@ use crate::case::{History, Step};
 use crate::images::slot_count;
 use crate::random::Random;
 use crate::themes::Theme;
-use crate::{responses, rules, states};
+use crate::{editions, responses, rules, states};
 
 /// How often another action is tried where the card gives no occasion.
 const TRIES: usize = 6;
@@ -23,14 +24,14 @@ struct Writer {
 }
 
 impl Writer {
-    fn new(random: &mut Random, slots: usize, theme: Theme) -> Writer {
+    fn new(random: &mut Random, edition: Edition, slots: usize, theme: Theme) -> Writer {
         let most = 64 * (slots as u32 - 1);
         let total = if random.chance(70) { most } else { random.range(1, most) };
         let rule = match theme {
-            Theme::Rules => rules::well_formed(random),
-            _ => rules::mostly_open(random),
+            Theme::Rules => rules::well_formed(random, edition),
+            _ => rules::mostly_open(random, edition),
         };
-        let history = History { slots, total, rule, steps: Vec::new() };
+        let history = History { edition, slots, total, rule, steps: Vec::new() };
         let image = history.fresh_image();
         Writer { history, image, deleted: None }
     }
@@ -75,10 +76,22 @@ pub fn history(random: &mut Random) -> History {
     history_of(random, theme, slots, steps)
 }
 
-/// A history of a theme on a card of so many slots; one in eight ends with
-/// the termination of the card and a few commands after it.
+/// A history of a theme on a card of so many slots, of any edition.
 pub fn history_of(random: &mut Random, theme: Theme, slots: usize, steps: usize) -> History {
-    let mut writer = Writer::new(random, slots.max(2), theme);
+    let edition = editions::any(random);
+    history_on(random, edition, theme, slots, steps)
+}
+
+/// The same on a card of this edition; one in eight ends with the termination
+/// of the card and a few commands after it.
+pub fn history_on(
+    random: &mut Random,
+    edition: Edition,
+    theme: Theme,
+    slots: usize,
+    steps: usize,
+) -> History {
+    let mut writer = Writer::new(random, edition, slots.max(2), theme);
     for _ in 0..steps {
         writer.step(random, theme);
     }

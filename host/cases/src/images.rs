@@ -6,8 +6,9 @@ use model::{Card, Kind, Record};
 
 use crate::choices::free_identifier;
 use crate::random::Random;
+use crate::rules::{self, Rule};
 use crate::template::record_lengths;
-use crate::{life_cycles, rules};
+use crate::{editions, life_cycles};
 
 /// How many slots a card has: mostly few, seldom the most.
 pub fn slot_count(random: &mut Random) -> usize {
@@ -32,7 +33,7 @@ pub fn sound_card(random: &mut Random) -> Card {
     sound_card_of(random, slots)
 }
 
-/// A sound card of so many slots, at least 2.
+/// A sound card of so many slots, at least 2, of any edition.
 pub fn sound_card_of(random: &mut Random, slots: usize) -> Card {
     let mut card = empty_card(random, slots);
     let files = random.below(slots);
@@ -60,12 +61,10 @@ fn fill(random: &mut Random, card: &mut Card, files: usize) {
 fn empty_card(random: &mut Random, slots: usize) -> Card {
     let most = 64 * (slots as u32 - 1);
     let total = if random.chance(75) { most } else { random.range(1, most) };
-    let mut card = Card {
-        edition: Edition::BASE,
-        current_df: 0,
-        current_ef: None,
-        records: vec![Record::FREE; slots],
-    };
+    let edition = editions::any(random);
+    let mut card =
+        Card { edition, current_df: 0, current_ef: None, records: vec![Record::FREE; slots] };
+    let rule = rules::mostly_open(random, edition);
     let root = Record {
         kind: Kind::Df,
         descriptor: random.pick([0x38, 0x38, 0x78]),
@@ -73,7 +72,8 @@ fn empty_card(random: &mut Random, slots: usize) -> Card {
         identifier: 0x3F00,
         size: total,
         name: name(random, &card, 10),
-        rule: rules::mostly_open(random),
+        form: rule.form,
+        rule: rule.bytes,
         ..Record::FREE
     };
     card.put(0, root);
@@ -99,7 +99,7 @@ pub fn add_file(random: &mut Random, card: &mut Card) -> Option<()> {
     let record = if random.chance(40) {
         directory(random, card, size.max(most / 3).max(1))
     } else {
-        elementary(random, size)
+        elementary(random, card, size)
     };
     let placed = Record {
         identifier: free_identifier(random, card, df),
@@ -112,40 +112,44 @@ pub fn add_file(random: &mut Random, card: &mut Card) -> Option<()> {
 }
 
 fn directory(random: &mut Random, card: &Card, total: u32) -> Record {
+    let rule = some_rule(random, card.edition);
     Record {
         kind: Kind::Df,
         descriptor: random.pick([0x38, 0x78]),
         life_cycle: life_cycles::of_a_record(random, 10),
         size: total,
         name: name(random, card, 40),
-        rule: some_rule(random),
+        form: rule.form,
+        rule: rule.bytes,
         ..Record::FREE
     }
 }
 
-fn elementary(random: &mut Random, size: u32) -> Record {
+fn elementary(random: &mut Random, card: &Card, size: u32) -> Record {
     let lengths = record_lengths(size);
     let length = random.choose(&lengths).copied().filter(|_| size % 3 != 1);
     let descriptor = match length {
         None => random.pick([0x01, 0x09, 0x41, 0x49]),
         Some(_) => random.pick([0x02, 0x06, 0x0A, 0x0E, 0x42, 0x46, 0x4A, 0x4E]),
     };
+    let rule = some_rule(random, card.edition);
     Record {
         kind: Kind::Ef,
         descriptor,
         life_cycle: life_cycles::of_a_record(random, 10),
         record_length: length.unwrap_or(0),
         size,
-        rule: some_rule(random),
+        form: rule.form,
+        rule: rule.bytes,
         ..Record::FREE
     }
 }
 
-fn some_rule(random: &mut Random) -> Vec<u8> {
+fn some_rule(random: &mut Random, edition: Edition) -> Rule {
     if random.chance(60) {
-        rules::mostly_open(random)
+        rules::mostly_open(random, edition)
     } else {
-        rules::well_formed(random)
+        rules::well_formed(random, edition)
     }
 }
 

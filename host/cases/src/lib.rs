@@ -27,7 +27,8 @@
 //! | raw commands and near-misses | [`raw`] |
 //! | every near-miss in turn | [`near`] |
 //! | CREATE's data, good and broken | [`template`], [`breach`] |
-//! | rules, life-cycle bytes, states | [`rules`], [`life_cycles`], [`states`] |
+//! | versions, life-cycle bytes, states | [`editions`], [`life_cycles`], [`states`] |
+//! | rules of both forms, and what can be wrong with them | [`rules`], [`compact`], [`expanded`], [`flaws`] |
 //! | maker's calls, replay's streams | [`makers`], [`streams`] |
 //! | response buffers | [`responses`] |
 //! | files made again by their templates | [`again`], [`target`], [`elsewhere`], [`regrown`], [`sorts`] |
@@ -41,9 +42,13 @@ pub mod again;
 pub mod breach;
 pub mod case;
 pub mod choices;
+pub mod compact;
 pub mod creations;
 pub mod damage;
+pub mod editions;
 pub mod elsewhere;
+pub mod expanded;
+pub mod flaws;
 pub mod generator;
 pub mod history;
 pub mod images;
@@ -67,3 +72,4 @@ pub use again::Again;
 pub use case::{Case, History, Step};
 pub use generator::{Generator, Kind, Made};
 pub use random::Random;
+pub use rules::Rule;

@@ -1,12 +1,13 @@
 //! Calls of the maker on both sides of each of its checks (01, "Making and
-//! reporting").
+//! reporting"; 02, Ticket 3).
 
+use crate::case::Case;
 use crate::images::slot_count;
 use crate::random::Random;
-use crate::rules;
+use crate::{editions, rules};
 
-/// A buffer, a total and a root rule.
-pub fn call(random: &mut Random) -> (Vec<u8>, u32, Vec<u8>) {
+/// A call with any version, length, total, form and rule.
+pub fn call(random: &mut Random) -> Case {
     let slots = slot_count(random);
     let most = 64 * (slots as u32 - 1);
     let good_length = 16 + 64 * slots;
@@ -17,13 +18,22 @@ pub fn call(random: &mut Random) -> (Vec<u8>, u32, Vec<u8>) {
         2..=4 => random.range(1, most),
         _ => most,
     };
+    let edition = editions::any(random);
     let rule = match random.below(10) {
-        0 => rules::broken(random),
+        0 => rules::broken(random, edition),
         1 => rules::any(random),
-        2..=5 => rules::open(),
-        _ => rules::well_formed(random),
+        2..=5 => rules::some_open(random, edition),
+        _ => rules::well_formed(random, edition),
     };
-    (contents(random, length), total, rule)
+    let version = u32::from(edition.version_number());
+    let form = rule.form_number();
+    Case::Make {
+        buffer: contents(random, length),
+        version: if random.chance(90) { version } else { editions::unknown(random) },
+        total,
+        form: if random.chance(90) { form } else { editions::any_form(random) },
+        rule: rule.bytes,
+    }
 }
 
 fn wrong_length(random: &mut Random, good: usize) -> usize {

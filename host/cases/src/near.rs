@@ -1,11 +1,14 @@
 //! Every near-miss, not at random: each instruction's good command with every
-//! other class, instruction, parameter, Lc, Le and length (01, steps A to G).
+//! other class, instruction, parameter, Lc, Le and length (01, steps A to G);
+//! and a CREATE with an expanded rule, with every other byte in it (02, Ticket
+//! 3).
 
+use model::edition::{Edition, Version};
 use model::{Card, State};
 
 use crate::actions::{bare, delete, select, select_fcp};
 use crate::case::{Case, History, Step};
-use crate::rules;
+use crate::rules::{self, Rule};
 use crate::template::FileData;
 
 /// How many bytes too many are tried.
@@ -25,13 +28,33 @@ pub fn good_commands() -> Vec<Vec<u8>> {
     commands
 }
 
+/// An expanded rule with every tag, two templates in a third, and two groups.
+const EXPANDED: [u8; 28] = [
+    0x80, 0x01, 0x70, 0x97, 0x00, 0xAF, 0x10, 0xA0, 0x05, 0x9E, 0x01, 0x11, 0x90, 0x00, 0xA0, 0x07,
+    0x97, 0x00, 0x9E, 0x01, 0x00, 0x97, 0x00, 0x80, 0x01, 0x08, 0x90, 0x00,
+];
+
 /// The image on which they are tried: a DF in the root is current, with an
 /// EF in it.
 pub fn card() -> Vec<u8> {
+    card_of(Edition::BASE)
+}
+
+/// The same of version 2.
+pub fn card_of_version_two() -> Vec<u8> {
+    card_of(Edition::of(Version::Two))
+}
+
+fn card_of(edition: Edition) -> Vec<u8> {
     let directory = FileData::plain(0x78, 0x7F10, 256);
     let commands = [directory.command(), FileData::plain(0x41, 0x6F07, 9).command()];
-    let history =
-        History { slots: 8, total: 448, rule: rules::open(), steps: commands.map(step).into() };
+    let history = History {
+        edition,
+        slots: 8,
+        total: 448,
+        rule: rules::open(),
+        steps: commands.map(step).into(),
+    };
     let mut image = history.fresh_image();
     history.play(|_, _, _, after| image = after.to_vec());
     debug_assert!(Card::decode(&image).is_some());
@@ -71,14 +94,44 @@ pub fn near_misses_of(good: &[u8]) -> Vec<Vec<u8>> {
     found
 }
 
-/// All near-misses of all instructions, as cases.
+/// A CREATE with an expanded rule, for [`card_of_version_two`].
+pub fn create_expanded() -> Vec<u8> {
+    let rule = Rule::expanded(EXPANDED.to_vec());
+    FileData { rule, ..FileData::plain(0x41, 0x6F08, 9) }.command()
+}
+
+/// The same with each byte of the rule's object, tag and length among them,
+/// replaced by every other.
+pub fn near_misses_of_the_rule() -> Vec<Vec<u8>> {
+    let good = create_expanded();
+    let object = Rule::expanded(EXPANDED.to_vec()).object();
+    let head = [object.0, object.1.len() as u8];
+    let start = good.windows(2).position(|two| two == head).unwrap_or(0);
+    let places = start..start + head.len() + object.1.len();
+    let replaced = places.flat_map(|place| {
+        let others = (0..=255).filter(|byte| good.get(place) != Some(byte));
+        let command = |byte| {
+            let mut command = good.clone();
+            command[place] = byte;
+            command
+        };
+        others.map(command).collect::<Vec<_>>()
+    });
+    replaced.collect()
+}
+
+/// All near-misses of all instructions, and of the expanded rule, as cases.
 pub fn every_near_miss() -> impl Iterator<Item = Case> {
-    let image = card();
-    let commands = good_commands().into_iter().flat_map(|good| near_misses_of(&good));
-    commands.map(move |command| Case::OneCommand {
-        image: image.clone(),
+    let one_command = |image: &[u8], command| Case::OneCommand {
+        image: image.to_vec(),
         command,
         response: RESPONSE.to_vec(),
         state: State::FULL,
-    })
+    };
+    let (image, image_two) = (card(), card_of_version_two());
+    let commands = good_commands().into_iter().flat_map(|good| near_misses_of(&good));
+    let of_the_rule = near_misses_of_the_rule().into_iter();
+    commands
+        .map(move |command| one_command(&image, command))
+        .chain(of_the_rule.map(move |command| one_command(&image_two, command)))
 }

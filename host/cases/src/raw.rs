@@ -44,7 +44,7 @@ pub fn near_miss(random: &mut Random, card: &Card) -> Vec<u8> {
         1 => select_fcp(identifier),
         2 => return near_miss_of_p2(random, identifier),
         3 => delete(identifier),
-        4 | 5 => good(random).command(),
+        4 | 5 => good(random, card.edition).command(),
         _ => bare(random.pick([0x44, 0x04, 0xE8, 0xE6, 0xFE])),
     };
     spoil(random, &mut command);

@@ -19,7 +19,7 @@ pub(crate) fn play<E>(again: &Again, card: &Card, call: Call<E>) -> Result<Playe
         let (terminated, passed) = (terminated.len(), passed.len());
         return Ok(Played { remade: Vec::new(), terminated, passed });
     }
-    let target = Target::of_measures(card.records.len(), card.record(0).size);
+    let target = Target::of_measures(card.edition, card.records.len(), card.record(0).size);
     let image = call(&target.make())?.image;
     let mut tree = Tree {
         card,

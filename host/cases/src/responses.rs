@@ -11,7 +11,7 @@ pub const MOST_BYTES: usize = 256;
 /// A response buffer for a command on an image.
 pub fn lent(random: &mut Random, image: &[u8], command: &[u8]) -> Vec<u8> {
     let length = match data_of(image, command) {
-        0 => random.pick([0, 0, 1, 26, 27, 64, MOST_BYTES]),
+        0 => random.pick([0, 0, 1, 26, 27, 67, MOST_BYTES]),
         data => length_for(random, data),
     };
     random.bytes(length)

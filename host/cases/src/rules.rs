@@ -1,133 +1,142 @@
-//! Access rules: open, with many groups, well formed at random, broken
-//! (01, "Descriptor and rules").
+//! Access rules of both forms, as a card's version takes them (01, "Descriptor
+//! and rules"; 02, Ticket 3): open, well formed at random, broken.
 
+use model::edition::Edition;
+use model::rule::Form;
+use model::template::tags;
+
+use crate::flaws::{flawed, Flaw};
 use crate::random::Random;
+use crate::template::Object;
+use crate::{compact, expanded};
 
-/// Longest rule that a record takes.
-pub const LONGEST: usize = 16;
+/// The longest rule that any version takes.
+const LONGEST: usize = 30;
 
-/// Everything always.
-pub fn open() -> Vec<u8> {
-    vec![0x7F, 0, 0, 0, 0, 0, 0, 0]
+/// A rule with its form. Nothing says that it is well formed.
+#[derive(Clone, PartialEq, Eq, Debug)]
+pub struct Rule {
+    /// How it is written.
+    pub form: Form,
+    /// Its bytes.
+    pub bytes: Vec<u8>,
+}
+
+impl Rule {
+    /// A compact rule.
+    pub fn compact(bytes: Vec<u8>) -> Rule {
+        Rule { form: Form::Compact, bytes }
+    }
+
+    /// An expanded rule.
+    pub fn expanded(bytes: Vec<u8>) -> Rule {
+        Rule { form: Form::Expanded, bytes }
+    }
+
+    /// The object in which CREATE's data have it.
+    pub fn object(&self) -> Object {
+        (tags::of_rule(self.form), self.bytes.clone())
+    }
+
+    /// The number of its form, as the maker is told it.
+    pub fn form_number(&self) -> u32 {
+        u32::from(self.form.number())
+    }
+}
+
+/// Everything always, on every version.
+pub fn open() -> Rule {
+    Rule::compact(compact::open())
 }
 
 /// DEACTIVATE and CREATE always, and nothing else ever.
-pub fn for_the_way() -> Vec<u8> {
-    vec![0x0E, 0, 0, 0]
+pub fn for_the_way() -> Rule {
+    Rule::compact(compact::for_the_way())
+}
+
+/// Everything always, in any writing that the edition takes.
+pub fn some_open(random: &mut Random, edition: Edition) -> Rule {
+    if edition.takes(Form::Expanded) && random.chance(50) {
+        Rule::expanded(expanded::open(random, edition.longest_rule()))
+    } else {
+        open()
+    }
 }
 
 /// Mostly open; else well formed at random.
-pub fn mostly_open(random: &mut Random) -> Vec<u8> {
+pub fn mostly_open(random: &mut Random, edition: Edition) -> Rule {
     if random.chance(85) {
-        open()
+        some_open(random, edition)
     } else {
-        well_formed(random)
+        well_formed(random, edition)
     }
 }
 
-/// A well-formed rule of 1 to 16 bytes.
-pub fn well_formed(random: &mut Random) -> Vec<u8> {
-    match random.below(6) {
-        0 => open(),
-        1 => many_groups(random),
-        2 => vec![0x7F; 1].into_iter().chain((0..7).map(|_| condition(random))).collect(),
-        3 => vec![0; random.range(1, 16) as usize],
-        _ => {
-            let longest = random.range(1, 16) as usize;
-            groups(random, longest)
-        }
+/// A rule that is fit for a record of the edition.
+pub fn well_formed(random: &mut Random, edition: Edition) -> Rule {
+    let longest = edition.longest_rule();
+    if edition.takes(Form::Expanded) && random.chance(60) {
+        Rule::expanded(expanded::well_formed(random, longest))
+    } else {
+        Rule::compact(compact::well_formed(random, longest))
     }
 }
 
-/// Many groups of one or two bits, most of them refusing, so that a later one
-/// decides.
-pub fn many_groups(random: &mut Random) -> Vec<u8> {
-    let bit = 1u8 << random.below(7);
-    let mut rule = Vec::new();
-    while rule.len() + 3 <= LONGEST {
-        if random.chance(70) {
-            rule.extend([bit, random.pick([0xFF, 0xFF, 0x80, 0x1F, 0x11])]);
-        } else {
-            let other = 1u8 << random.below(7);
-            rule.push(bit | other);
-            rule.extend((0..(bit | other).count_ones()).map(|_| condition(random)));
-        }
+/// A rule of many groups, so that a later one decides.
+pub fn many_groups(random: &mut Random, edition: Edition) -> Rule {
+    let longest = edition.longest_rule();
+    if edition.takes(Form::Expanded) && random.chance(70) {
+        Rule::expanded(expanded::well_formed(random, longest))
+    } else {
+        Rule::compact(compact::many_groups(random, longest))
     }
-    if random.chance(60) && rule.len() + 2 <= LONGEST {
-        rule.extend([bit, 0]);
-    }
-    rule
 }
 
-/// Groups at random, filling at most `longest` bytes, at least one.
-fn groups(random: &mut Random, longest: usize) -> Vec<u8> {
-    let mut rule = Vec::new();
-    loop {
-        let am = random.byte() & random.byte() & 0x7F;
-        let bytes = 1 + am.count_ones() as usize;
-        if rule.len() + bytes > longest {
-            break;
-        }
-        rule.push(am);
-        rule.extend((1..bytes).map(|_| condition(random)));
+/// A compact rule, at times in its expanded writing where the edition takes
+/// that and it is not too long.
+pub fn respelled(random: &mut Random, edition: Edition, rule: Vec<u8>) -> Rule {
+    let writing = expanded::writing_of(&rule);
+    let fits = model::rule::fit(edition, Form::Expanded, &writing);
+    if fits && random.chance(50) {
+        Rule::expanded(writing)
+    } else {
+        Rule::compact(rule)
     }
-    if rule.is_empty() {
-        rule.push(0);
-    }
-    rule
 }
 
-/// An SC byte; the ones named in W1 to W4 come often.
-pub fn condition(random: &mut Random) -> u8 {
+/// A rule that no record of the edition takes: malformed, of a wrong length, or
+/// of a form that is not its own.
+pub fn broken(random: &mut Random, edition: Edition) -> Rule {
+    let longest = edition.longest_rule();
+    if !edition.takes(Form::Expanded) {
+        return match random.below(10) {
+            0..=4 => Rule::compact(compact::broken(random, longest)),
+            5..=8 => Rule::expanded(expanded::well_formed(random, LONGEST)),
+            _ => Rule::compact(vec![0; random.range(longest as u32 + 1, LONGEST as u32) as usize]),
+        };
+    }
     match random.below(10) {
-        0..=3 => 0x00,
-        4 => 0xFF,
-        5 => random.pick([0x11, 0xB2, 0x32, 0x80, 0x1F, 0x90, 0x10, 0x70, 0xF0, 0xFE]),
-        6 => 0x10 | (random.byte() & 0x0F),
-        _ => random.byte(),
+        0..=6 => {
+            let flaw = random.pick(Flaw::ALL);
+            Rule::expanded(flawed(random, flaw, longest))
+        }
+        7 | 8 => Rule::compact(compact::broken(random, longest)),
+        _ => Rule::compact(expanded::well_formed(random, longest)),
     }
 }
 
-/// A rule that no record takes: malformed or of a wrong length.
-pub fn broken(random: &mut Random) -> Vec<u8> {
-    let mut rule = well_formed(random);
-    match random.below(6) {
-        0 => Vec::new(),
-        1 => {
-            rule[0] |= 0x80;
-            rule
-        }
-        2 => vec![0; random.range(17, 20) as usize],
-        3 => {
-            let mut rule = open();
-            rule.truncate(random.range(1, 7) as usize);
-            rule
-        }
-        4 => {
-            let mut rule = open();
-            rule.push(0x80 | random.byte());
-            rule
-        }
-        _ => {
-            rule.truncate(LONGEST - 1);
-            rule.push(0xFF);
-            rule
-        }
-    }
-}
-
-/// A rule of any sort and length, also the empty one.
-pub fn any(random: &mut Random) -> Vec<u8> {
+/// A rule of any form, sort and length, also the empty one.
+pub fn any(random: &mut Random) -> Rule {
+    let edition = crate::editions::any(random);
+    let longest = random.range(17, 60) as usize;
     match random.below(10) {
-        0..=5 => well_formed(random),
-        6 | 7 => broken(random),
+        0..=4 => well_formed(random, edition),
+        5..=7 => broken(random, edition),
         8 => {
             let length = random.below(20);
-            random.bytes(length)
+            Rule { form: random.pick(Form::ALL), bytes: random.bytes(length) }
         }
-        _ => {
-            let longest = random.range(17, 40) as usize;
-            groups(random, longest)
-        }
+        _ if random.chance(50) => Rule::compact(compact::groups(random, longest)),
+        _ => Rule::expanded(expanded::well_formed(random, longest)),
     }
 }

@@ -6,12 +6,15 @@ use std::collections::BTreeMap;
 use crate::again::{Played, Remade};
 
 /// Every sort of file that a template can tell of.
-pub const TOLD: [&str; 11] = [
+pub const TOLD: [&str; 14] = [
     "DF",
     "EF",
     "with a name",
     "with records",
-    "with the longest rule",
+    "with a compact rule of 16 bytes",
+    "with a compact rule of more bytes",
+    "with an expanded rule",
+    "with a rule of 30 bytes",
     "life cycle 01",
     "life cycle 03",
     "life cycle 04",
@@ -66,13 +69,18 @@ fn sorts_of(file: &Remade) -> Vec<String> {
     let part = |at: usize, length: usize| file.old.get(at..at + length).unwrap_or_default();
     let size = part(12, 4).iter().fold(0, |size, &byte| size << 8 | u32::from(byte));
     let life_cycle = part(2, 1).iter().map(|byte| format!("life cycle {byte:02X}"));
+    let compact = part(3, 1) == [0];
+    let rule_bytes = part(33, 1).first().copied().unwrap_or(0);
     let others = [
         (true, ALL),
         (part(0, 1) == [1], "DF"),
         (part(0, 1) == [2], "EF"),
         (part(16, 1) != [0], "with a name"),
         (part(10, 2) != [0, 0], "with records"),
-        (part(33, 1) == [16], "with the longest rule"),
+        (compact && rule_bytes == 16, "with a compact rule of 16 bytes"),
+        (compact && rule_bytes > 16, "with a compact rule of more bytes"),
+        (!compact, "with an expanded rule"),
+        (rule_bytes == 30, "with a rule of 30 bytes"),
         (size >= 0x4000, LARGE),
         (size == 65_344, LARGEST),
         (file.new.get(6..10) != file.old.get(6..10), MOVED),

@@ -1,6 +1,8 @@
 //! Standard inputs for replay (01, "Both sides of each line", "Replay").
 
-use crate::history::history_of;
+use model::edition::Edition;
+
+use crate::history::history_on;
 use crate::random::Random;
 use crate::raw::raw;
 use crate::themes::Theme;
@@ -36,7 +38,7 @@ fn whole(random: &mut Random) -> Vec<u8> {
     let theme = random.pick(Theme::ALL);
     let slots = random.pick([2, 3, 8, 8, 12, 20, 40]);
     let steps = random.below(25);
-    let history = history_of(random, theme, slots, steps);
+    let history = history_on(random, Edition::BASE, theme, slots, steps);
     let mut stream = header(slots as u16, history.total);
     for step in history.steps {
         let command = if random.chance(5) { raw(random) } else { step.command };

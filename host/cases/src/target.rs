@@ -2,6 +2,7 @@
 //! directories one in another, in the innermost of which the file finds room
 //! and its right, and with other files elsewhere.
 
+use model::edition::Edition;
 use model::lines::Case as Line;
 use model::record::charge;
 use model::{Record, State};
@@ -9,7 +10,7 @@ use model::{Record, State};
 use crate::actions::select;
 use crate::elsewhere::{self, Other};
 use crate::random::Random;
-use crate::rules;
+use crate::rules::{self, Rule};
 use crate::template::FileData;
 
 /// Most directories one in another, and most files elsewhere.
@@ -24,12 +25,14 @@ const DEACTIVATE: [u8; 4] = [0x00, 0x04, 0x00, 0x00];
 /// A card to be made, and what is done on it before the file is made.
 #[derive(Clone, PartialEq, Eq, Debug)]
 pub struct Target {
+    /// Version and variant of the card.
+    pub edition: Edition,
     /// Slots of the card.
     pub slots: usize,
     /// The root's total.
     pub total: u32,
     /// The root's rule.
-    pub rule: Vec<u8>,
+    pub rule: Rule,
     /// The commands that make directories and other files.
     pub commands: Vec<Vec<u8>>,
     /// Slot and level of the directory that is current then, in which the file
@@ -40,13 +43,13 @@ pub struct Target {
 }
 
 impl Target {
-    /// A card for a file, which costs at most the largest total.
-    pub fn for_file(random: &mut Random, file: &Record) -> Target {
+    /// A card of this edition for a file, which costs at most the largest total.
+    pub fn for_file(random: &mut Random, edition: Edition, file: &Record) -> Target {
         let cost = u32::try_from(charge(file.size)).unwrap_or(LARGEST_TOTAL).min(LARGEST_TOTAL);
         let depth = random.range(0, DEEPEST).min((LARGEST_TOTAL - cost) / 64);
-        let mut levels = path(random, file, depth as usize);
-        put_others(random, file, &mut levels, LARGEST_TOTAL - cost - 64 * depth);
-        let (rule, state) = right(random, file.is_df());
+        let mut levels = path(random, edition, file, depth as usize);
+        put_others(random, edition, file, &mut levels, LARGEST_TOTAL - cost - 64 * depth);
+        let (rule, state) = right(random, edition, file.is_df());
         if let Some(innermost) = levels.last_mut() {
             innermost.directory.rule = rule;
         }
@@ -55,6 +58,7 @@ impl Target {
         let files = depth as usize + others.map(Other::files).sum::<usize>();
         let root = &levels[0].directory;
         Target {
+            edition,
             slots: slots as usize,
             total: root.size,
             rule: root.rule.clone(),
@@ -65,15 +69,20 @@ impl Target {
     }
 
     /// A card of these measures, on which nothing is done before.
-    pub fn of_measures(slots: usize, total: u32) -> Target {
+    pub fn of_measures(edition: Edition, slots: usize, total: u32) -> Target {
         let (rule, state) = (rules::open(), State::FULL);
-        Target { slots, total, rule, commands: Vec::new(), directory: (0, 0), state }
+        Target { edition, slots, total, rule, commands: Vec::new(), directory: (0, 0), state }
     }
 
     /// The maker's call.
     pub fn make(&self) -> Line {
-        let buffer = vec![0xA5; 16 + 64 * self.slots];
-        Line::Make { buffer, total: self.total, rule: self.rule.clone() }
+        Line::Make {
+            buffer: vec![0xA5; 16 + 64 * self.slots],
+            version: u32::from(self.edition.version_number()),
+            total: self.total,
+            form: self.rule.form_number(),
+            rule: self.rule.bytes.clone(),
+        }
     }
 }
 
@@ -99,7 +108,7 @@ impl Level {
 
 /// The root and so many directories, the outermost first; one of those that are
 /// not the innermost may get deactivated. Sizes and others come later.
-fn path(random: &mut Random, file: &Record, depth: usize) -> Vec<Level> {
+fn path(random: &mut Random, edition: Edition, file: &Record, depth: usize) -> Vec<Level> {
     let mut levels = vec![Level::of(FileData::plain(0x38, 0x3F00, 1))];
     let closed = (depth > 0 && random.chance(40)).then(|| random.below(depth));
     for level in 1..=depth {
@@ -113,9 +122,10 @@ fn path(random: &mut Random, file: &Record, depth: usize) -> Vec<Level> {
         let activated = level == depth || closed == Some(level);
         let lives = if activated { [0x05, 0x07, 0x05, 0x07] } else { [0x01, 0x03, 0x05, 0x07] };
         directory.life_cycle = random.pick(lives);
-        if random.chance(30) {
-            directory.rule = rules::for_the_way();
-        }
+        directory.rule = match random.chance(30) {
+            true => rules::for_the_way(),
+            false => rules::some_open(random, edition),
+        };
         levels.push(Level::of(directory));
     }
     if let Some(level) = closed.and_then(|level| levels.get_mut(level)) {
@@ -126,7 +136,13 @@ fn path(random: &mut Random, file: &Record, depth: usize) -> Vec<Level> {
 
 /// Puts files into directories that are not the innermost, which stays empty,
 /// as long as all cost no more than so much; and names on the card.
-fn put_others(random: &mut Random, file: &Record, levels: &mut [Level], mut left: u32) {
+fn put_others(
+    random: &mut Random,
+    edition: Edition,
+    file: &Record,
+    levels: &mut [Level],
+    mut left: u32,
+) {
     let mut names = vec![file.name.clone()];
     for level in levels.iter_mut().skip(1) {
         if random.chance(30) {
@@ -138,7 +154,7 @@ fn put_others(random: &mut Random, file: &Record, levels: &mut [Level], mut left
     for number in 0..most as u16 {
         let level = &mut levels[random.below(depth)];
         let same = level.others.iter().all(|other| other.identifier() != file.identifier);
-        let other = Other::any(random, file, (number, same), &mut names);
+        let other = Other::any(random, edition, file, (number, same), &mut names);
         if other.cost() <= left {
             left -= other.cost();
             level.others.push(other);
@@ -148,13 +164,13 @@ fn put_others(random: &mut Random, file: &Record, levels: &mut [Level], mut left
 
 /// The rule of the directory in which a file is made, and a state under which
 /// it grants that: at times this right alone, and under no smaller state.
-fn right(random: &mut Random, is_df: bool) -> (Vec<u8>, State) {
+fn right(random: &mut Random, edition: Edition, is_df: bool) -> (Rule, State) {
     let bit = if is_df { 0x04 } else { 0x02 };
     let environment = random.range(0, 14) as u8;
     let one = 1u16 << environment;
     let channels = random.byte() & 0xF1;
     let full = State { channels, ..State::FULL };
-    match random.below(8) {
+    let (rule, state) = match random.below(8) {
         0 | 1 => (vec![bit, 0x00], full),
         2 => (vec![bit, 0xFF, bit, 0x00], full),
         3 => (vec![bit, 0x10 | environment], State { user: one, channels, ..State::EMPTY }),
@@ -162,8 +178,9 @@ fn right(random: &mut Random, is_df: bool) -> (Vec<u8>, State) {
             let state = State { messaging: one, external: one, user: one, channels };
             (vec![bit, 0xF0 | environment], state)
         }
-        _ => (rules::open(), full),
-    }
+        _ => return (rules::some_open(random, edition), full),
+    };
+    (rules::respelled(random, edition, rule), state)
 }
 
 /// Gives each directory room for what is in it, and the innermost for what

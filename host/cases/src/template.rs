@@ -1,10 +1,11 @@
 //! CREATE's data as a list of objects that can be written well or, by
 //! [`crate::breach`], badly (01, "CREATE").
 
-use model::rule;
+use model::edition::Edition;
 
+use crate::life_cycles;
 use crate::random::Random;
-use crate::{life_cycles, rules};
+use crate::rules::{self, Rule};
 
 /// A TLV object.
 pub type Object = (u8, Vec<u8>);
@@ -25,7 +26,7 @@ pub struct FileData {
     /// Life-cycle byte.
     pub life_cycle: u8,
     /// Rule.
-    pub rule: Vec<u8>,
+    pub rule: Rule,
     /// Size or total.
     pub size: u32,
     /// How many bytes the size is written in, 2 to 4.
@@ -72,7 +73,7 @@ impl FileData {
         objects.push((0x83, self.identifier.to_be_bytes().to_vec()));
         objects.extend(self.name.iter().map(|name| (0x84, name.clone())));
         objects.push((0x8A, vec![self.life_cycle]));
-        objects.push((0x8C, self.rule.clone()));
+        objects.push(self.rule.object());
         let size = self.size.to_be_bytes()[4 - self.size_bytes..].to_vec();
         if self.is_df() {
             objects.push((0x81, size));
@@ -191,8 +192,8 @@ pub fn record_lengths(size: u32) -> Vec<u16> {
         .collect()
 }
 
-/// Good data at random, for an empty card with much room.
-pub fn good(random: &mut Random) -> FileData {
+/// Good data at random, for an empty card of this edition with much room.
+pub fn good(random: &mut Random, edition: Edition) -> FileData {
     let identifier = random.pick([0x6F07, 0x7F10, 0x0000, 0xBFFF, 0x2F06, 0x7F00, 0x3F01]);
     let size = random.pick([1, 2, 9, 20, 254, 255, 256, 300]);
     let mut data = if random.chance(50) {
@@ -205,8 +206,8 @@ pub fn good(random: &mut Random) -> FileData {
         data.name = Some(random.bytes(length));
     }
     data.life_cycle = life_cycles::of_a_new_file(random);
-    data.rule = rules::well_formed(random);
-    debug_assert!(rule::groups(&data.rule).is_some());
+    data.rule = rules::well_formed(random, edition);
+    debug_assert!(model::rule::fit(edition, data.rule.form, &data.rule.bytes));
     if random.chance(10) {
         fill_to(&mut data, random.pick([0x7E, 0x7F]));
     }

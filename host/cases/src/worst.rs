@@ -2,10 +2,13 @@
 //! one identifier in every directory; and an ordinary one, 900 files in 40
 //! directories. Each can be had with fewer slots too, for measurements.
 
-use model::edition::Edition;
+use model::edition::{Edition, Version};
+use model::expanded::{tags, DEEPEST};
+use model::rule::Form;
 use model::{Card, Kind, Record};
 
-use crate::rules;
+use crate::compact;
+use crate::expanded::{mode, object};
 
 /// As many slots as a card can have.
 pub const MOST_SLOTS: usize = 1023;
@@ -39,6 +42,28 @@ pub fn cards_of(slots: usize) -> Vec<Worst> {
 /// proportion (docs/SPEED.md); they are made on purpose, and only measured.
 pub fn slow_of(slots: usize) -> Vec<Worst> {
     vec![Worst { title: "all names of one key", image: names_of_one_key(slots).encode() }]
+}
+
+/// Cards of version 2 with so many slots, all of whose rules are as long and as
+/// deep as can be (02, Ticket 3).
+pub fn ruled_of(slots: usize) -> Vec<Worst> {
+    let mut card = nine_hundred_files(slots);
+    card.edition = Edition::of(Version::Two);
+    for record in card.records.iter_mut().filter(|record| record.is_used()) {
+        (record.form, record.rule) = (Form::Expanded, longest_rule());
+    }
+    vec![Worst { title: "900 files with the longest expanded rules", image: card.encode() }]
+}
+
+/// Everything always in 30 bytes, by the last condition of the innermost of
+/// four templates.
+fn longest_rule() -> Vec<u8> {
+    let never = object(tags::NEVER, &[]);
+    let innermost = [never.repeat(5), object(tags::BYTE, &[0x00])].concat();
+    let templates = (1..DEEPEST).fold(object(tags::ONE_OF, &innermost), |inside, _| {
+        object(tags::ONE_OF, &[never.clone(), inside].concat())
+    });
+    [mode(0x7F), templates].concat()
 }
 
 /// A card being filled slot by slot.
@@ -81,7 +106,7 @@ fn df(identifier: u16, total: u32) -> Record {
         life_cycle: 0x05,
         identifier,
         size: total,
-        rule: rules::open(),
+        rule: compact::open(),
         ..Record::FREE
     }
 }

@@ -22,8 +22,8 @@ fn every_word_and_every_answer_occurs() {
     for line in Generator::new(SEED).take(COUNT).flat_map(|made| made.case.lines()) {
         lines += 1;
         match line {
-            Line::Make { mut buffer, total, rule } => {
-                answers_seen.insert(('M', make(&mut buffer, total, &rule)));
+            Line::Make { mut buffer, version, total, form, rule } => {
+                answers_seen.insert(('M', make(&mut buffer, version, total, form, &rule)));
             }
             Line::Command { mut image, command: bytes, state, mut response, .. } => {
                 let outcome = command(&mut image, &bytes, &mut response, &state);
@@ -102,7 +102,7 @@ fn near_misses_are_mostly_refused_in_steps_a_to_h() {
 fn templates_are_good_and_broken() {
     let mut counts = BTreeMap::new();
     for made in Generator::only(SEED, Kind::Template).take(2000) {
-        let Case::Template { data } = &made.case else {
+        let Case::Template { data, .. } = &made.case else {
             panic!("a template is a template");
         };
         assert!((1..=255).contains(&data.len()), "Lc tells the length");

@@ -8,7 +8,7 @@ use cases::{Case, Generator, Kind};
 use model::life_cycle::{class, is_deactivated, Class};
 use model::lines::Case as Line;
 use model::record::charge;
-use model::rule::{grants, Right};
+use model::rule::Right;
 use model::soundness::sound_card;
 use model::template::{self, NewFile};
 use model::{Card, State};
@@ -43,9 +43,9 @@ impl Before {
         }
     }
 
-    /// The rule of the current directory.
-    fn rule(&self) -> &[u8] {
-        &self.card.record(self.card.current_df).rule
+    /// Whether the rule of the current directory grants a right.
+    fn grants(&self, right: Right, state: &State) -> bool {
+        self.card.record(self.card.current_df).grants(right, state)
     }
 
     /// What the ticket asks for, each with whether it is so.
@@ -61,7 +61,7 @@ impl Before {
             (life_cycle == Some(Class::Activated), "it is activated"),
             (!way.iter().any(|&slot| card.is_terminated(slot)), "none above is terminated"),
             (!self.state.another_channel_open(), "no other channel is open"),
-            (grants(self.rule(), self.right(), &self.state), "rights suffice"),
+            (self.grants(self.right(), &self.state), "rights suffice"),
             (card.room(here) >= charge(self.file.size), "room suffices"),
             (!way.iter().any(identifier), "no directory above has the identifier"),
             (self.file.name.is_empty() || !card.used_slots().any(name), "no file has the name"),
@@ -79,8 +79,7 @@ impl Before {
             |slot: &&usize| card.record(**slot).identifier == self.file.identifier;
         let same: Vec<_> = elsewhere.iter().filter(has_its_identifier).collect();
         let beside = |slot: usize| above.contains(&card.parent(slot));
-        let granted =
-            |state| Right::ALL.into_iter().filter(move |&r| grants(self.rule(), r, state));
+        let granted = |state| Right::ALL.into_iter().filter(move |&r| self.grants(r, state));
         let own = &self.file.name;
         let names: Vec<_> = card.used_slots().map(|slot| &card.record(slot).name).collect();
         let near = |name: &&Vec<u8>| !own.is_empty() && is_near(name, own);

@@ -10,7 +10,7 @@ use cases::{Case, Generator, History, Kind, Random, Step};
 use model::ledger::{announced, current_df_slot, Ledger};
 use model::record::charge;
 use model::soundness::sound_card;
-use model::{command, make, report, words, Card, Word};
+use model::{command, report, words, Card, Word};
 
 const SEED: u64 = 77;
 const COUNT: usize = 1500;
@@ -41,8 +41,7 @@ fn more_than_half_of_all_commands_succeed() {
 /// succeeded, how many were refused for memory, how many met the exact room
 /// and how many asked for one more.
 fn audit(history: &History) -> [u64; 4] {
-    let mut image = history.buffer();
-    assert_eq!(make(&mut image, history.total, &history.rule), 0);
+    let mut image = history.fresh_image();
     let mut ledger = Ledger::open(history.total);
     let mut counts = [0; 4];
     for step in &history.steps {

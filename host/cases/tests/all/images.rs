@@ -90,7 +90,8 @@ fn reports_on_the_worst_cards() {
 #[test]
 fn the_worst_cards_with_fewer_slots_are_sound() {
     for slots in [16, 64, 256, 1023] {
-        for card in worst::cards_of(slots).into_iter().chain(worst::slow_of(slots)) {
+        let cards = [worst::cards_of(slots), worst::slow_of(slots), worst::ruled_of(slots)];
+        for card in cards.concat() {
             assert!(sound(&card.image), "{} of {slots} slots", card.title);
             assert_eq!(card.image.len(), 16 + 64 * slots, "{}", card.title);
             let used = decoded(&card.image).map_or(0, |card| card.used_slots().count());

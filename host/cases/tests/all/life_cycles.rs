@@ -8,7 +8,6 @@ use crate::common::say;
 use cases::damage::{damaged, Field};
 use cases::images::sound_card as some_card;
 use cases::{life_cycles, Case, Generator, Kind, Random};
-use model::edition::Edition;
 use model::lines::Case as Line;
 use model::soundness::{card_is_sound, sound_card};
 use model::{command, report, sound, template, words, Card, State, Word};
@@ -80,7 +79,7 @@ fn succeeds_with(card: &Card, slot: usize, byte: u8, bytes: &[u8], state: &State
 fn events(image: &[u8], bytes: &[u8], state: &State) -> Vec<Event> {
     let before = sound_card(image).expect("sound before");
     let mut image = image.to_vec();
-    let word = command(&mut image, bytes, &mut [0; 64], state).word;
+    let word = command(&mut image, bytes, &mut [0; 72], state).word;
     let after = sound_card(&image).expect("sound after");
     let Some((what, slot, harmless)) = asked(bytes, &before, &after) else { return Vec::new() };
     let told = words::is_success(word)
@@ -218,10 +217,12 @@ fn life_cycle_place(data: &[u8]) -> Option<usize> {
 fn creates_data_hold_each_good_byte_and_bad_ones() {
     let (mut taken, mut refused) = (BTreeSet::new(), BTreeSet::new());
     for made in Generator::only(SEED, Kind::Template).take(5000) {
-        let Case::Template { mut data } = made.case else { panic!("a template is a template") };
+        let Case::Template { edition, mut data } = made.case else {
+            panic!("a template is a template")
+        };
         let Some(place) = life_cycle_place(&data) else { continue };
         let byte = data[place];
-        let good = |data: &[u8]| template::read(data, Edition::BASE).is_some();
+        let good = |data: &[u8]| template::read(data, edition).is_some();
         if good(&data) {
             taken.insert(byte);
         } else {

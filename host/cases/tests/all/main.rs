@@ -8,6 +8,7 @@ mod common;
 mod coverage;
 mod determinism;
 mod elsewhere;
+mod expanded;
 mod fcp;
 mod histories;
 mod images;

@@ -1,14 +1,20 @@
 //! Every near-miss in turn: the good commands work, and each near-miss is
 //! refused with the word of the step that it misses.
 
-use cases::near::{card, every_near_miss, good_commands, near_misses_of, RESPONSE};
+use cases::near::{
+    card, card_of_version_two, create_expanded, every_near_miss, good_commands, near_misses_of,
+    near_misses_of_the_rule, RESPONSE,
+};
 use cases::Case;
 use model::command::Instruction;
 use model::{command, sound, words, State, Word};
 
 /// The word of a command on the card of the near-misses.
 fn word(bytes: &[u8]) -> Word {
-    let mut image = card();
+    word_on(card(), bytes)
+}
+
+fn word_on(mut image: Vec<u8>, bytes: &[u8]) -> Word {
     let outcome = command(&mut image, bytes, &mut RESPONSE.clone(), &State::FULL);
     assert_eq!(outcome.answer, 0);
     outcome.word
@@ -70,9 +76,26 @@ fn each_near_miss_is_refused_at_its_step() {
     assert_eq!(other, 9 * 7, "each command turned into the seven other instructions");
 }
 
+/// The rule's good bytes work on version 2. What may stand in their place: any
+/// SC byte, AM bytes without b8, 97 for 90 and AF for A0 and the other way, 9E
+/// for the second 80, and a length by which the last condition of a template
+/// stands behind it.
+#[test]
+fn near_misses_of_the_rule_are_refused_as_data() {
+    assert_eq!(word_on(card_of_version_two(), &create_expanded()), words::SUCCESS);
+    assert_eq!(word(&create_expanded()), words::WRONG_DATA);
+    let given = near_misses_of_the_rule();
+    let given = given.iter().map(|miss| word_on(card_of_version_two(), miss));
+    let (done, refused): (Vec<_>, Vec<_>) = given.partition(|&word| word == words::SUCCESS);
+    assert!(refused.iter().all(|&word| word == words::WRONG_DATA));
+    let (sc_bytes, am_bytes, tags, lengths) = (2 * 255, 2 * 127, 5 + 3 + 1, 1);
+    assert_eq!(done.len(), sc_bytes + am_bytes + tags + lengths);
+    assert_eq!(refused.len(), 30 * 255 - done.len());
+}
+
 #[test]
 fn they_are_all_given_as_cases() {
     let count = good_commands().iter().map(|good| near_misses_of(good).len()).sum::<usize>();
-    assert_eq!(every_near_miss().count(), count);
+    assert_eq!(every_near_miss().count(), count + near_misses_of_the_rule().len());
     assert!(every_near_miss().all(|case| matches!(case, Case::OneCommand { .. })));
 }
