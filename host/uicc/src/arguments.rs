@@ -238,7 +238,7 @@ impl Options {
 
     fn fresh(&mut self) -> Result<Fresh, String> {
         let version = |text: &str| text.parse().ok().map(Kind::of_version);
-        let kind = self.value("--version", "a number", version, Kind::default())?;
+        let kind = self.value("--version", "a version, 1 or 2", version, Kind::default())?;
         let number = |text: &str| text.parse().ok();
         let slots = self.value("--slots", "a number", number, DEFAULT_SLOTS)?;
         let total = |text: &str| text.parse().ok();

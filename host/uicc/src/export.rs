@@ -56,7 +56,7 @@ fn head(fresh: &Fresh, lost: usize) -> String {
         _ => format!("NOT ALL of the card is made again:\n# {lost} lines below begin with LOST."),
     };
     format!(
-        "# The files of a card, made again on a fresh one of the same size:\n\
+        "# The files of a card, made again on a fresh one of its version and size:\n\
          #     uicc new NEW.card {options}\n\
          #     uicc run THIS.apdu --image NEW.card\n\
          # Tried on such a card: no command is refused, and {told}\n\

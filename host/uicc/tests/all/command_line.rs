@@ -40,20 +40,37 @@ fn wrong_command_lines_are_refused() {
         (&["run", "script", "--user", "10000"], "this is not a hex number of 16 bits"),
         (&["run", "script", "--channels", "100"], "this is not a hex number of 8 bits"),
         (&["run", "script", "--image", "card", "--total", "9"], "--total is for a fresh card"),
+        (&["run", "script", "--image", "card", "--version", "2"], "--version is for a fresh card"),
         (&["show", "card", "--force"], "--force is no option here"),
         (&["export"], "name an IMAGE"),
         (&["export", "card", "other"], "only one"),
         (&["export", "card", "--slots", "8"], "--slots is no option here"),
         (&["export", "-"], "an IMAGE is a file"),
-        (&["new", "card", "--slots", "1"], "--slots 1: a card has 2 to 1,023 slots"),
+        (&["rule"], "give a RULE in hex"),
+        (&["rule", "01", "0"], "01 0: sign 4: half a byte"),
+        (&["rule", "0100", "--form", "1"], "--form is no option here"),
+        (&["new", "-"], "an IMAGE is a file"),
+        (&["run", "script", "--image", "-"], "an IMAGE is a file"),
+        (&["run", "--", "script", "--image", "card"], "only one"),
+    ] {
+        let err = folder.refused(2, arguments);
+        assert!(err.contains(told) && err.contains("uicc --help"), "{arguments:?}: {err}");
+    }
+    assert_eq!(folder.names(), ["script"]);
+}
+
+#[test]
+fn wrong_wishes_for_a_card_are_refused() {
+    let folder = Folder::new("wishes");
+    for (arguments, told) in [
+        (&["new", "card", "--slots", "1"][..], "--slots 1: a card has 2 to 1,023 slots"),
         (&["new", "card", "--slots", "18446744073709551615"], "2 to 1,023 slots"),
         (
             &["new", "card", "--slots", "2", "--total", "65"],
             "with 2 slots the root's total is 1 to 64",
         ),
         (&["new", "card", "--version", "3"], "--version 3: there is no card of version 3"),
-        (&["new", "card", "--version", "65537"], "--version 65537: this is not a number"),
-        (&["run", "script", "--image", "card", "--version", "2"], "--version is for a fresh card"),
+        (&["new", "card", "--version", "65537"], "--version 65537: this is not a version, 1 or 2"),
         (
             &["new", "card", "--rule", "01008601"],
             "--rule: the root's access rule is malformed: byte 3 of 4: the AM byte 86 has b8 set",
@@ -66,18 +83,12 @@ fn wrong_command_lines_are_refused() {
         (&["new", "card", "--rule", "9E0111"], "--rule: byte 1 of 3: 9E begins no rule"),
         (&["new", "card", "--rule", ""], "must have 1 to 16 bytes"),
         (&["new", "card", "--version", "2", "--rule", ""], "must have 1 to 30 bytes"),
-        (&["rule"], "give a RULE in hex"),
-        (&["rule", "01", "0"], "01 0: sign 4: half a byte"),
-        (&["rule", "0100", "--form", "1"], "--form is no option here"),
         (&["new", "card", "--rule", "8"], "this is not a row of hex bytes"),
-        (&["new", "-"], "an IMAGE is a file"),
-        (&["run", "script", "--image", "-"], "an IMAGE is a file"),
-        (&["run", "--", "script", "--image", "card"], "only one"),
     ] {
         let err = folder.refused(2, arguments);
         assert!(err.contains(told) && err.contains("uicc --help"), "{arguments:?}: {err}");
     }
-    assert_eq!(folder.names(), ["script"]);
+    assert!(folder.names().is_empty());
 }
 
 /// After -- nothing is an option, and no message speaks of what a user does

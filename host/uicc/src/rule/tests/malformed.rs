@@ -7,13 +7,33 @@ fn refused(row: &str) -> String {
     explain(&hex::bytes(row).expect("hex")).expect_err(row)
 }
 
+/// What is told of each contains this.
+fn all_refused(rows: &[(&str, &str)]) {
+    for (row, told) in rows {
+        let given = refused(row);
+        assert!(given.contains(told), "{row}: {given}");
+    }
+}
+
 #[test]
-fn place_and_reason_are_told() {
-    for (row, told) in [
-        ("0300", "compact rule (8C) is malformed: byte 1 of 2: the AM byte 03 asks for 2 SC bytes: 1 follow"),
+fn what_is_wrong_with_a_compact_rule_is_told() {
+    all_refused(&[
+        ("0300", "this compact rule (8C) is malformed: byte 1 of 2: the AM byte 03 asks for 2 SC"),
+        ("0300", "bytes: 1 follow"),
         ("01008601", "byte 3 of 4: the AM byte 86 has b8 set"),
         ("8C0401008601", "byte 5 of 6: the AM byte 86 has b8 set"),
-        ("80", "expanded rule (AB) is malformed: byte 1 of 1: behind the tag 80 a length is missing"),
+        ("8C", "byte 1 of 1: behind the tag 8C a length is missing"),
+        ("9E0111", "byte 1 of 3: 9E begins no rule"),
+        ("", "compact rule (8C) has no byte: a card takes 1 to 30"),
+    ]);
+    let long = refused(&"00".repeat(31));
+    assert_eq!(long, "this compact rule (8C) has 31 bytes: a card takes 1 to 30");
+}
+
+#[test]
+fn what_is_wrong_with_an_expanded_rule_is_told() {
+    all_refused(&[
+        ("80", "this expanded rule (AB) is malformed: byte 1 of 1: behind the tag 80 a length is"),
         ("80017F", "byte 1 of 3: behind object 80 stands no condition"),
         ("AB0380017F", "byte 3 of 5: behind object 80 stands no condition"),
         ("80017F800101 9000", "byte 1 of 8: behind object 80 stands no condition"),
@@ -25,7 +45,15 @@ fn place_and_reason_are_told() {
         ("80017F9E00", "byte 4 of 5: object 9E must have 1 byte, not 0"),
         ("80017F9E01", "byte 4 of 5: object 9E says that it has 1 byte: 0 follow"),
         ("80017F9000 9E80", "byte 6 of 7: the length 80 of object 9E is over 7F"),
-        ("80017F A4029000", "byte 4 of 7: object A4 is no condition: 90, 97, 9E, A0 or AF is wanted"),
+        ("80017F A4029000", "byte 4 of 7: object A4 is no condition: 90, 97, 9E, A0 or AF"),
+        ("AB0380017F9000", "byte 2 of 7: the length 03 of object AB is 3, and 5 follow"),
+        ("AB00", "expanded rule (AB) has no byte: a card takes 1 to 30"),
+    ]);
+}
+
+#[test]
+fn what_is_wrong_inside_a_template_is_told() {
+    all_refused(&[
         ("80017F A000", "byte 4 of 5: object A0 holds no condition: at least two are wanted"),
         ("80017F AF029000", "byte 4 of 7: object AF holds one condition: at least two are wanted"),
         (
@@ -38,19 +66,9 @@ fn place_and_reason_are_told() {
         ),
         (
             "80017F A014 AF10 A00C AF08 A004 90009000 9000 9000 9000 9000",
-            "byte 12 of 25 (in object AF of byte 10): object A0 stands inside 4 others: no more may",
+            "byte 12 of 25 (in object AF of byte 10): object A0 stands inside 4 others",
         ),
-        ("8C", "byte 1 of 1: behind the tag 8C a length is missing"),
-        ("AB0380017F9000", "byte 2 of 7: the length 03 of object AB is 3, and 5 follow"),
-        ("9E0111", "byte 1 of 3: 9E begins no rule"),
-        ("", "compact rule (8C) has no byte: a card takes 1 to 30"),
-        ("AB00", "expanded rule (AB) has no byte: a card takes 1 to 30"),
-    ] {
-        let given = refused(row);
-        assert!(given.contains(told), "{row}: {given}");
-    }
-    let long = refused(&"00".repeat(31));
-    assert_eq!(long, "this compact rule (8C) has 31 bytes: a card takes 1 to 30");
+    ]);
 }
 
 /// The first byte tells how a rule is written, and each way gives the same
