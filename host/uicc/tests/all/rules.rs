@@ -85,21 +85,25 @@ fn rules_are_shown_once_and_in_words() {
     let folder = folder("version-2-rules");
     let out = folder.done(&["run", "script", "--image", "card"]);
     assert_eq!(out.matches("9000  done").count(), 3, "{out}");
-    folder.write("again", create("6F09", SEVENTEEN));
-    folder.done(&["run", "again", "--image", "card"]);
+    // Another file with the same rule; in the root one with a directory's.
+    let more = [create("6F09", SEVENTEEN), "00A4000C023F00\n".to_string(), create("6F0A", BANK)];
+    folder.write("more", more.concat());
+    folder.done(&["run", "more", "--image", "card"]);
     let out = folder.done(&["show", "card"]);
     let column = |line: &str| line.chars().skip(56).take(4).collect::<String>();
-    let rules: Vec<_> = out.lines().skip(2).take(6).map(column).collect();
-    assert_eq!(rules, ["rule", "   1", "   1", "   2", "   3", "   3"], "{out}");
+    let rules: Vec<_> = out.lines().skip(2).take(7).map(column).collect();
+    assert_eq!(rules, ["rule", "   1", "   1", "   2", "   3", "   3", "   4"], "{out}");
     for told in [
         format!("rule 1, of directories: {BANK}\n      DELETE: always\n"),
         format!("rule 2, of files: {LONGEST}\n      DELETE, TERMINATE, "),
         format!("rule 3, of files: {SEVENTEEN}\n      DELETE, TERMINATE, "),
         "      READ: always\n".to_string(),
+        format!("rule 4, of files: {BANK}\n"),
+        "      WRITE, UPDATE: user authentication 1 or (external".to_string(),
     ] {
         assert!(out.contains(&told), "{told}{out}");
     }
-    assert_eq!(out.matches("\nrule ").count(), 3, "{out}");
+    assert_eq!(out.matches("\nrule ").count(), 4, "{out}");
 }
 
 #[test]

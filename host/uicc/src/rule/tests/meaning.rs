@@ -41,7 +41,7 @@ impl Reading<'_> {
         while let Some(word) =
             [" or ", " and "].into_iter().find(|word| self.left.starts_with(word))
         {
-            assert!(joined_by.replace(word).is_none_or(|other| other == word), "{}", self.left);
+            assert!(joined_by.replace(word).map_or(true, |other| other == word), "{}", self.left);
             self.left = &self.left[word.len()..];
             let other = self.one();
             held = if word == " or " { held || other } else { held && other };
@@ -166,6 +166,11 @@ fn the_model_calls_the_same_rules_malformed() {
         let given = groups(Rule { form, bytes: &bytes });
         // An empty expanded rule fits no card; whether it is malformed is open.
         assert!(bytes.is_empty() || given.is_ok() == good, "{form:?} {bytes:02X?}: {given:?}");
+        // Written as an object it is explained if a card takes it.
+        let object = [&[form.tag(), bytes.len() as u8], &bytes[..]].concat();
+        let fits = (1..=30).contains(&bytes.len());
+        let explained = explain(&object);
+        assert_eq!(explained.is_ok(), good && fits, "{form:?} {bytes:02X?}: {explained:?}");
         counts[usize::from(good)] += 1;
     }
     assert!(counts.iter().all(|&count| count > 8_000), "{counts:?}");
