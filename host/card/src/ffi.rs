@@ -8,7 +8,9 @@ extern "C" {
     fn hull_make(
         image: *mut u8,
         image_len: usize,
+        kind: u32,
         total: u32,
+        form: u32,
         rule: *const u8,
         rule_len: usize,
     ) -> c_uint;
@@ -29,13 +31,16 @@ extern "C" {
     fn hull_sound(image: *const u8, image_len: usize) -> c_uint;
 }
 
-/// The maker's answer: 0, 2, 3 or 4.
-pub fn make(image: &mut [u8], total: u32, rule: &[u8]) -> u32 {
+/// The maker's answer: 0, 2, 3 or 4. The kind is the image version, the form
+/// that of the rule.
+pub fn make(image: &mut [u8], kind: u32, total: u32, form: u32, rule: &[u8]) -> u32 {
     // SAFETY: both pointers come from live slices with their own lengths, and
     // stay valid for the call. The image is borrowed for this call alone, so
     // nothing else reads or writes it, and the rule cannot overlap it. The
     // library keeps no pointer after it returns.
-    unsafe { hull_make(image.as_mut_ptr(), image.len(), total, rule.as_ptr(), rule.len()) }
+    unsafe {
+        hull_make(image.as_mut_ptr(), image.len(), kind, total, form, rule.as_ptr(), rule.len())
+    }
 }
 
 /// The answer in the high half of the first number, the word in its low half.

@@ -30,7 +30,7 @@ pub struct Answer {
 
 /// Makes a fresh card in the buffer: only the root, which is current.
 pub fn make(image: &mut [u8], total: u32, root_rule: &[u8]) -> Result<(), MakeError> {
-    match ffi::make(image, total, root_rule) {
+    match ffi::make(image, 1, total, 0, root_rule) {
         0 => Ok(()),
         2 => Err(MakeError::Length),
         3 => Err(MakeError::Total),
