@@ -100,13 +100,11 @@ fn differ(model: &Ledger, stated: &Stated) -> Option<String> {
 
 /// Plays a history command by command; after each a report, and the ledgers.
 pub fn check_history(pair: Pair, history: &History, tally: &mut Tally) -> Result<(), Disagreement> {
-    let (buffer, total) = (history.buffer(), history.total);
-    let make = Line::Make { buffer, total, rule: history.rule.clone() };
-    let Some(Outcome::Make { answer: 0, buffer: mut image }) = check_line(pair, &make, tally)?
-    else {
+    let made = check_line(pair, &history.make(), tally)?;
+    let Some(Outcome::Make { answer: 0, buffer: mut image }) = made else {
         return Ok(());
     };
-    let mut books = Books::open(total);
+    let mut books = Books::open(history.total);
     for (number, step) in history.steps.iter().enumerate() {
         let before = current_df_slot(&image);
         let line = Line::command(&image, &step.command, &step.response, step.state);

@@ -15,7 +15,7 @@
 //! | what demand 1 says of a command | [`demand1`] |
 //! | demand 3's ledger, and what is said of a command with it | [`ledger`], [`demand3`] |
 //! | files made again by their templates | [`again`] |
-//! | the seven decisions of a rule, as commands | [`rights`] |
+//! | whether a rule is fit, and its seven decisions, by other calls | [`rights`] |
 //! | making a case smaller | [`shrink`], [`pieces`], [`smaller`] |
 //! | stored and shared vectors | [`vectors`] |
 

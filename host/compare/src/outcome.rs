@@ -44,12 +44,12 @@ pub enum Outcome {
 }
 
 /// Runs a line; nothing for E and W, for which the card has no call of its
-/// own ([`crate::rights`] asks the same by commands).
+/// own ([`crate::rights`] asks the same by others).
 pub fn run(subject: &dyn Subject, line: &Line) -> Option<Outcome> {
     match line {
-        Line::Make { buffer, total, rule } => {
+        Line::Make { buffer, version, total, form, rule } => {
             let mut buffer = buffer.clone();
-            let answer = subject.make(&mut buffer, *total, rule);
+            let answer = subject.make(&mut buffer, *version, *total, *form, rule);
             Some(Outcome::Make { answer, buffer })
         }
         Line::Command { image, command, state, pool, response } => {

@@ -1,39 +1,102 @@
-//! The seven decisions of a rule, asked by commands: for each right a card on
-//! which this rule, and no other, decides the command.
+//! A rule asked by calls of the card, which has none for rules alone: whether
+//! it is fit for a record by the maker, and its seven decisions by commands,
+//! for each right on a card on which this rule, and no other, decides.
 
+use model::edition::{Edition, Version};
 use model::lines::Case as Line;
 use model::rule::Right;
 use model::{rule, Card, Kind, Record, State};
 
 use cases::actions::{bare, delete};
 use cases::template::FileData;
+use cases::Rule;
 
-/// A well-formed rule that denies everything.
-const DENIES: [u8; 1] = [0x00];
+use crate::outcome::{run, Outcome};
+use crate::subject::Subject;
+
 const CHILD: u16 = 0x6F07;
 
-/// The maker's call with the rule and, where the rule is fit for a record,
-/// one command for each right.
-pub fn lines_of_rule(rule: &[u8], state: State) -> Vec<Line> {
-    let buffer = vec![0xA5; 16 + 64 * 2];
-    let mut lines = vec![Line::Make { buffer, total: 64, rule: rule.to_vec() }];
-    let card = card_with(&DENIES, &DENIES);
-    if rule::fit(card.edition, rule) {
-        let state = State { channels: 0, ..state };
-        lines.extend(Right::ALL.map(|right| line_of_right(right, rule, state)));
-    }
-    lines
+/// For each version the maker's call with the rule and, where the rule is fit
+/// for a record of it, one command for each right.
+pub fn lines_of_rule(rule: &Rule, state: State) -> Vec<Line> {
+    let state = State { channels: 0, ..state };
+    let of_version = |version: Version| {
+        let edition = Edition::of(version);
+        let mut lines = vec![make(u32::from(version.number()), rule.form_number(), &rule.bytes)];
+        if rule::fit(edition, rule.form, &rule.bytes) {
+            lines.extend(Right::ALL.map(|right| line_of_right(edition, right, rule, state)));
+        }
+        lines
+    };
+    Version::ALL.into_iter().flat_map(of_version).collect()
 }
 
-fn line_of_right(right: Right, rule: &[u8], state: State) -> Line {
-    let (mut card, command) = match right {
-        Right::DeleteSelf => (card_with(&DENIES, rule), delete(CHILD)),
-        Right::DeleteChild => (card_with(rule, &DENIES), delete(CHILD)),
-        Right::Terminate => (card_with(rule, &DENIES), bare(0xFE)),
-        Right::Activate => (card_with(rule, &DENIES), bare(0x44)),
-        Right::Deactivate => (card_with(rule, &DENIES), bare(0x04)),
-        Right::CreateDf => (card_with(rule, &DENIES), create(0x78)),
-        Right::CreateEf => (card_with(rule, &DENIES), create(0x41)),
+/// What a subject gives for a line E or W, in the format of the vectors:
+/// nothing for another line, and for a well-formed rule that no record takes,
+/// being too long or empty.
+pub fn asked(subject: &dyn Subject, line: &Line) -> Option<String> {
+    match line {
+        Line::Fit { version, form, rule } => {
+            let fit = takes(subject, *version, *form, rule);
+            Some(format!("W {}", u8::from(fit)))
+        }
+        Line::Decide { form, rule, state } => decided(subject, *form, rule, *state),
+        _ => None,
+    }
+}
+
+/// The decisions of a rule on cards of the first version that the subject's
+/// maker takes it for. One that it takes for none is malformed, or of a length
+/// that tells nothing.
+fn decided(subject: &dyn Subject, form: u32, rule: &[u8], state: State) -> Option<String> {
+    let taking = Version::ALL
+        .into_iter()
+        .find(|version| takes(subject, u32::from(version.number()), form, rule));
+    let longest = Version::ALL.map(|version| Edition::of(version).longest_rule());
+    let (Some(version), Some(form)) = (taking, rule::Form::from_number(form)) else {
+        let length_fits = !rule.is_empty() && longest.iter().any(|&most| rule.len() <= most);
+        return length_fits.then(|| "E malformed".to_string());
+    };
+    let rule = Rule { form, bytes: rule.to_vec() };
+    let digits = Right::ALL.map(|right| {
+        let line = line_of_right(Edition::of(version), right, &rule, state);
+        let granted = matches!(
+            run(subject, &line),
+            Some(Outcome::Command { told, .. }) if model::words::is_success(told.word)
+        );
+        if granted {
+            '0'
+        } else {
+            '1'
+        }
+    });
+    Some(format!("E {}", String::from_iter(digits)))
+}
+
+/// Whether a subject's maker takes the rule for the root.
+fn takes(subject: &dyn Subject, version: u32, form: u32, rule: &[u8]) -> bool {
+    let made = run(subject, &make(version, form, rule));
+    matches!(made, Some(Outcome::Make { answer: 0, .. }))
+}
+
+fn make(version: u32, form: u32, rule: &[u8]) -> Line {
+    Line::Make { buffer: vec![0xA5; 16 + 64 * 2], version, total: 64, form, rule: rule.to_vec() }
+}
+
+fn line_of_right(edition: Edition, right: Right, rule: &Rule, state: State) -> Line {
+    let denies = Rule::compact(vec![0x00]);
+    let (root, child) = match right {
+        Right::DeleteSelf => (&denies, rule),
+        _ => (rule, &denies),
+    };
+    let mut card = card_with(edition, root, child);
+    let command = match right {
+        Right::DeleteSelf | Right::DeleteChild => delete(CHILD),
+        Right::Terminate => bare(0xFE),
+        Right::Activate => bare(0x44),
+        Right::Deactivate => bare(0x04),
+        Right::CreateDf => create(0x78),
+        Right::CreateEf => create(0x41),
     };
     if right == Right::Activate {
         card.set_life_cycle(0, 0x04);
@@ -42,14 +105,15 @@ fn line_of_right(right: Right, rule: &[u8], state: State) -> Line {
 }
 
 /// A root with one rule, in it an EF with another; the root is current.
-fn card_with(root_rule: &[u8], child_rule: &[u8]) -> Card {
+fn card_with(edition: Edition, root_rule: &Rule, child_rule: &Rule) -> Card {
     let root = Record {
         kind: Kind::Df,
         descriptor: 0x38,
         life_cycle: 0x05,
         identifier: 0x3F00,
         size: 192,
-        rule: root_rule.to_vec(),
+        form: root_rule.form,
+        rule: root_rule.bytes.clone(),
         ..Record::FREE
     };
     let child = Record {
@@ -58,15 +122,12 @@ fn card_with(root_rule: &[u8], child_rule: &[u8]) -> Card {
         identifier: CHILD,
         level: 1,
         size: 1,
-        rule: child_rule.to_vec(),
+        form: child_rule.form,
+        rule: child_rule.bytes.clone(),
         ..root.clone()
     };
-    Card {
-        edition: model::edition::Edition::BASE,
-        current_df: 0,
-        current_ef: None,
-        records: vec![root, child, Record::FREE, Record::FREE],
-    }
+    let records = vec![root, child, Record::FREE, Record::FREE];
+    Card { edition, current_df: 0, current_ef: None, records }
 }
 
 fn create(descriptor: u8) -> Vec<u8> {

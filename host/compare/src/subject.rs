@@ -17,8 +17,8 @@ pub struct Told {
 
 /// The calls of 01 with their numbers as the documents give them.
 pub trait Subject {
-    /// The maker's answer.
-    fn make(&self, buffer: &mut [u8], total: u32, rule: &[u8]) -> u32;
+    /// The maker's answer; version and form as the numbers that it is told.
+    fn make(&self, buffer: &mut [u8], version: u32, total: u32, form: u32, rule: &[u8]) -> u32;
 
     /// A command's answer, word and numbers.
     fn command(&self, image: &mut [u8], command: &[u8], response: &mut [u8], state: &State)
@@ -49,7 +49,8 @@ pub trait Subject {
         };
         let slots = usize::from(u16::from_be_bytes([n1, n0]));
         let mut image = vec![0xA5; 16 + 64 * slots];
-        let answer = self.make(&mut image, u32::from_be_bytes([t3, t2, t1, t0]), &ROOT_RULE);
+        let total = u32::from_be_bytes([t3, t2, t1, t0]);
+        let answer = self.make(&mut image, 1, total, 0, &ROOT_RULE);
         (answer == 0).then_some((image, stream))
     }
 
@@ -77,8 +78,8 @@ pub trait Subject {
 pub struct Proved;
 
 impl Subject for Proved {
-    fn make(&self, buffer: &mut [u8], total: u32, rule: &[u8]) -> u32 {
-        card::ffi::make(buffer, total, rule)
+    fn make(&self, buffer: &mut [u8], version: u32, total: u32, form: u32, rule: &[u8]) -> u32 {
+        card::ffi::make(buffer, version, total, form, rule)
     }
 
     fn command(
@@ -106,8 +107,8 @@ impl Subject for Proved {
 pub struct Model;
 
 impl Subject for Model {
-    fn make(&self, buffer: &mut [u8], total: u32, rule: &[u8]) -> u32 {
-        u32::from(model::make(buffer, total, rule))
+    fn make(&self, buffer: &mut [u8], version: u32, total: u32, form: u32, rule: &[u8]) -> u32 {
+        u32::from(model::make(buffer, version, total, form, rule))
     }
 
     fn command(

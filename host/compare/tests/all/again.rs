@@ -58,11 +58,11 @@ fn whole_trees_are_made_again() {
     assert!(all > 1200, "{all}");
 }
 
-/// The deepest nesting, all names, one identifier in every directory, and many
-/// files, as whole trees.
+/// The deepest nesting, all names, one identifier in every directory, many files,
+/// and as many with the longest rules, as whole trees.
 #[test]
 fn the_worst_cards_are_made_again() {
-    for card in worst::cards_of(96) {
+    for card in [worst::cards_of(96), worst::ruled_of(96)].concat() {
         let again = Again { image: card.image, seed: SEED, whole: true };
         let made = played(Pair::PROVED, &again, &mut Tally::default()).remade.len();
         assert!(made > 70, "{}: {made} files", card.title);

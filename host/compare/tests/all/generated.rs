@@ -13,7 +13,7 @@ use compare::{check_case, Pair, Tally};
 /// One row of cases for each of two processes, and how many make 100,000
 /// commands.
 const SEEDS: [u64; 2] = [20_261_115, 20_261_116];
-const CASES_EACH: usize = 33_000;
+const CASES_EACH: usize = 28_000;
 
 /// Compares a case; a disagreement fails the test with its smallest form.
 fn must_agree(case: &cases::Case, what: &str, tally: &mut Tally) {

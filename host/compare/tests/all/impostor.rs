@@ -42,8 +42,8 @@ pub const HONEST: Impostor =
     Impostor { command: |_, _, told| told, report: |n| n, sound: |s| s, make: |_| {} };
 
 impl Subject for Impostor {
-    fn make(&self, buffer: &mut [u8], total: u32, rule: &[u8]) -> u32 {
-        let answer = Model.make(buffer, total, rule);
+    fn make(&self, buffer: &mut [u8], version: u32, total: u32, form: u32, rule: &[u8]) -> u32 {
+        let answer = Model.make(buffer, version, total, form, rule);
         (self.make)(buffer);
         answer
     }
@@ -68,6 +68,28 @@ impl Subject for Impostor {
 
     fn sound(&self, image: &[u8]) -> bool {
         (self.sound)(Model.sound(image))
+    }
+}
+
+/// The model with a maker that is told another version or form.
+pub struct Maker(pub fn(u32, u32) -> (u32, u32));
+
+impl Subject for Maker {
+    fn make(&self, buffer: &mut [u8], version: u32, total: u32, form: u32, rule: &[u8]) -> u32 {
+        let (version, form) = (self.0)(version, form);
+        Model.make(buffer, version, total, form, rule)
+    }
+
+    fn command(&self, image: &mut [u8], command: &[u8], lent: &mut [u8], state: &State) -> Told {
+        Model.command(image, command, lent, state)
+    }
+
+    fn report(&self, image: &[u8]) -> (u32, [u32; 4]) {
+        Model.report(image)
+    }
+
+    fn sound(&self, image: &[u8]) -> bool {
+        Model.sound(image)
     }
 }
 
@@ -104,7 +126,7 @@ pub fn found_line(title: &str, impostor: &Impostor, kind: Option<Kind>) -> Line 
 pub fn found_small(title: &str, command: Spoil) {
     let line = found_line(title, &Impostor { command, ..HONEST }, None);
     let small = match &line {
-        Line::Command { response, image, .. } => image.len() <= 272 && response.len() <= 56,
+        Line::Command { response, image, .. } => image.len() <= 272 && response.len() <= 72,
         Line::Replay { input } => input.len() < 40,
         _ => false,
     };

@@ -59,7 +59,7 @@ fn wrong_reports_soundness_and_makers_are_found() {
     assert!(matches!(found_line("lenient", &lenient, None), Line::Report { .. }));
     let dirty =
         Impostor { make: |buffer| buffer.iter_mut().skip(79).for_each(|b| *b = 1), ..HONEST };
-    assert!(matches!(found_line("dirty", &dirty, None), Line::Make { .. }));
+    assert!(matches!(found_line("dirty", &dirty, Some(Kind::Make)), Line::Make { .. }));
 }
 
 /// SELECT of what is not there is answered 9000: four bytes of head, Lc and

@@ -77,7 +77,7 @@ fn a_size_that_would_wrap_is_refused() {
 fn said(next: &Ledger, told: Announced) -> Option<String> {
     let ledger = Ledger::opened(448);
     let mut image = vec![0; 16 + 64 * 8];
-    let made = model::maker::make(&mut image, 448, &[0x7F, 0, 0, 0, 0, 0, 0, 0]);
+    let made = model::maker::make(&mut image, 1, 448, 0, &[0x7F, 0, 0, 0, 0, 0, 0, 0]);
     assert_eq!(made, 0);
     Given { ledger: &ledger, next, told, before: 0, after: 0 }.complaint(&image)
 }

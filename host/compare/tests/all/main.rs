@@ -8,9 +8,11 @@ mod impostor;
 mod impostors;
 mod ledger;
 mod program;
+mod quirks;
 mod smaller;
 mod vectors;
 mod wrong_answers;
+mod wrong_rules;
 mod wrong_templates;
 
 /// Prints a line past the capture of the test harness.

@@ -12,7 +12,8 @@ use model::Card;
 /// Sound images of many shapes, the worst cards among them.
 fn images() -> impl Iterator<Item = Vec<u8>> {
     let mut random = Random::new(11);
-    let worst = worst::cards_of(64).into_iter().map(|card| card.image);
+    let worst = [worst::cards_of(64), worst::ruled_of(64)].concat();
+    let worst = worst.into_iter().map(|card| card.image);
     worst.chain((0..400).map(move |_| sound_image(&mut random)))
 }
 

@@ -3,20 +3,30 @@
 
 use std::collections::BTreeMap;
 
+use crate::impostor::{word, Impostor, Maker, HONEST};
 use crate::say;
 use compare::vectors::check_vectors;
 use compare::{Proved, Subject, Told};
 use model::vectors::{case_lines, shared_file, shared_text, stored_text};
 use model::State;
 
-/// The kinds of lines that the card has a call for; each text has some of each.
-const KINDS: [char; 4] = ['C', 'M', 'R', 'Y'];
+/// The kinds of lines; each text has some of each.
+const KINDS: [char; 6] = ['C', 'M', 'R', 'Y', 'E', 'W'];
+/// The longest rule that a record of any version takes.
+const LONGEST_RULE: usize = 30;
+
+/// Whether the card can be asked: of E, only what a record can hold.
+fn can_be_asked(line: &str) -> bool {
+    let rule = line.split(' ').nth(2).filter(|_| line.starts_with('E'));
+    rule.map_or(true, |rule| rule != "-" && rule.len() <= 2 * LONGEST_RULE)
+}
 
 /// Runs a text against the proved card; no line of these kinds may be left out.
 fn all_agree(text: &str, fewest: usize) -> BTreeMap<char, usize> {
     let counts = check_vectors(&Proved, text).unwrap_or_else(|wrong| panic!("{wrong}"));
     for kind in KINDS {
-        let there = case_lines(text).filter(|line| line.starts_with(kind)).count();
+        let of_kind = case_lines(text).filter(|line| line.starts_with(kind));
+        let there = of_kind.filter(|line| can_be_asked(line)).count();
         assert!(there >= fewest, "{there} lines of {kind}");
         assert_eq!(counts.get(&kind), Some(&there), "{kind}: {counts:?}");
     }
@@ -48,8 +58,8 @@ fn every_shared_case_agrees() {
 struct OneMore;
 
 impl Subject for OneMore {
-    fn make(&self, buffer: &mut [u8], total: u32, rule: &[u8]) -> u32 {
-        Proved.make(buffer, total, rule)
+    fn make(&self, buffer: &mut [u8], version: u32, total: u32, form: u32, rule: &[u8]) -> u32 {
+        Proved.make(buffer, version, total, form, rule)
     }
 
     fn command(
@@ -77,4 +87,21 @@ fn a_wrong_card_fails_the_vectors() {
     let text = stored_text().expect("the stored cases are there");
     let wrong = check_vectors(&OneMore, &text).expect_err("a count is wrong");
     assert!(wrong.starts_with("R "), "{wrong}");
+}
+
+/// E and W are asked by other calls, and a wrong answer to those shows.
+#[test]
+fn a_wrong_rule_fails_the_vectors() {
+    let text = stored_text().expect("the stored cases are there");
+    let only = |kind: char| -> String {
+        case_lines(&text).filter(|line| line.starts_with(kind)).map(|l| format!("{l}\n")).collect()
+    };
+    let denying = Impostor { command: |_, _, _| word(0x6982), ..HONEST };
+    let forgetful = Maker(|version, _| (version, 0));
+    let cases: [(&dyn Subject, char); 3] = [(&denying, 'E'), (&forgetful, 'E'), (&forgetful, 'W')];
+    for (subject, kind) in cases {
+        let wrong = check_vectors(subject, &only(kind)).expect_err("a rule is wrong");
+        assert!(wrong.starts_with(kind), "{wrong}");
+        assert!(check_vectors(&HONEST, &only(kind)).is_ok());
+    }
 }

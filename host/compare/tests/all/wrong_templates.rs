@@ -8,7 +8,7 @@ use cases::Kind;
 use compare::{Disagreement, Pair, Told};
 use model::life_cycle::is_deactivated;
 use model::lines::Case as Line;
-use model::rule::{grants, Right};
+use model::rule::Right;
 use model::soundness::sound_card;
 use model::template::{self, NewFile};
 use model::vectors::case_lines;
@@ -139,8 +139,8 @@ const STRICT: [(&str, Spoil); 4] = [
     }),
     ("both rights are asked for", |came, left, told| {
         let denied = creation(came, told).is_some_and(|(card, _)| {
-            let rule = &card.record(card.current_df).rule;
-            let granted = |right| grants(rule, right, came.state);
+            let directory = card.record(card.current_df);
+            let granted = |right| directory.grants(right, came.state);
             !(granted(Right::CreateDf) && granted(Right::CreateEf))
         });
         if denied {
