@@ -71,8 +71,8 @@ impl fmt::Display for MakeError {
             ),
             MakeError::Form(version, form) => write!(
                 f,
-                "a card of version {version} takes no rule of tag {:02X}: version 2 takes 8C \
-                 and AB, version 1 only 8C",
+                "a card of version {version} takes no rule of tag {:02X}; one of version 2 takes \
+                 8C and AB",
                 form.tag()
             ),
             MakeError::RuleLength(longest) => {

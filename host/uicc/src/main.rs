@@ -122,6 +122,7 @@ fn fresh_card(fresh: &Fresh) -> Result<Card, Failure> {
                 let where_and_why = rule.malformed().unwrap_or_else(|| error.to_string());
                 format!("--rule: the root's access rule is malformed: {where_and_why}")
             }
+            MakeError::Form(..) => format!("--rule: {error}: add --version 2"),
             _ => format!("--rule: {error}"),
         })
     })

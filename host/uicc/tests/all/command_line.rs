@@ -80,6 +80,7 @@ fn wrong_wishes_for_a_card_are_refused() {
             "malformed: byte 3 of 5: behind object 80 stands no condition",
         ),
         (&["new", "card", "--rule", "80017F9000"], "version 1 takes no rule of tag AB"),
+        (&["new", "card", "--rule", "80017F9000"], "8C and AB: add --version 2"),
         (&["new", "card", "--rule", "9E0111"], "--rule: byte 1 of 3: 9E begins no rule"),
         (&["new", "card", "--rule", ""], "must have 1 to 16 bytes"),
         (&["new", "card", "--version", "2", "--rule", ""], "must have 1 to 30 bytes"),

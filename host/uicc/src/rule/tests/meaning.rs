@@ -150,7 +150,7 @@ fn both_forms_are_told_alike() {
 fn the_model_calls_the_same_rules_malformed() {
     let mut noise = Noise::new(3);
     let mut counts = [0; 2];
-    for number in 0..40_000 {
+    for number in 0..20_000 {
         let form = Form::ALL[number % 2];
         let mut bytes = match form {
             Form::Compact => noise.compact(),
@@ -173,5 +173,5 @@ fn the_model_calls_the_same_rules_malformed() {
         assert_eq!(explained.is_ok(), good && fits, "{form:?} {bytes:02X?}: {explained:?}");
         counts[usize::from(good)] += 1;
     }
-    assert!(counts.iter().all(|&count| count > 8_000), "{counts:?}");
+    assert!(counts.iter().all(|&count| count > 4_000), "{counts:?}");
 }
