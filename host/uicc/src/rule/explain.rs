@@ -55,14 +55,15 @@ fn told(rule: Rule, before: usize) -> Result<String, Malformed> {
 }
 
 fn lines(rule: Rule) -> Result<Vec<Line>, Malformed> {
-    let (group_length, byte_length) = match rule.form {
-        Form::Compact => (1, 1),
-        Form::Expanded => (3, 3),
+    // An AM or SC byte stands alone, or behind tag and length.
+    let byte_length = match rule.form {
+        Form::Compact => 1,
+        Form::Expanded => 3,
     };
     let mut lines = Vec::new();
     for group in groups(rule)? {
         let words = rights(group.rights);
-        lines.push(Line { at: group.at, length: group_length, depth: 0, words });
+        lines.push(Line { at: group.at, length: byte_length, depth: 0, words });
         for (number, grant) in group.grants.iter().enumerate() {
             let before = match rule.form {
                 Form::Compact => format!("{}: ", rights(grant.rights)),
