@@ -11,12 +11,12 @@ use crate::{life_cycles, rules};
 /// only bytes.
 pub fn any(random: &mut Random, edition: Edition) -> Vec<u8> {
     let mut data = good(random, edition);
-    match random.below(12) {
+    match random.below(14) {
         0..=3 => template(&data.objects()),
         4 | 5 => of_a_value(random, data),
         6 | 7 => of_the_list(random, &data, edition),
         8 => of_a_length(random, &data),
-        9 | 10 => {
+        9..=12 => {
             data.rule = rules::broken(random, edition);
             template(&data.objects())
         }

@@ -61,6 +61,19 @@ impl Field {
         Field::RulePadding,
         Field::Tail,
     ];
+
+    /// What belongs to a record's rule, where versions differ.
+    pub const OF_THE_RULE: [Field; 4] =
+        [Field::ByteThree, Field::Rule, Field::RulePadding, Field::Tail];
+
+    /// Any field, those of the rule more often.
+    pub fn any(random: &mut Random) -> Field {
+        if random.chance(20) {
+            random.pick(Field::OF_THE_RULE)
+        } else {
+            random.pick(Field::ALL)
+        }
+    }
 }
 
 /// The image of a sound card with one field damaged. A few damages happen to

@@ -73,6 +73,25 @@ impl Flaw {
         Flaw::TooLong,
         Flaw::Compact,
     ];
+
+    /// Those that a reader most easily takes.
+    const LIKELY: [Flaw; 6] = [
+        Flaw::TooDeep,
+        Flaw::OneCondition,
+        Flaw::NoCondition,
+        Flaw::LongLength,
+        Flaw::PastItsTemplate,
+        Flaw::TooLong,
+    ];
+
+    /// Any flaw, the likely ones more often.
+    pub fn any(random: &mut Random) -> Flaw {
+        if random.chance(40) {
+            random.pick(Flaw::LIKELY)
+        } else {
+            random.pick(Flaw::ALL)
+        }
+    }
 }
 
 /// A rule with this flaw, for records that take so many bytes, 30 or more.

@@ -164,7 +164,7 @@ pub fn make_case(random: &mut Random, kind: Kind) -> Case {
 /// A sound card, and its image damaged in one field.
 fn damaged_card(random: &mut Random) -> (Card, Vec<u8>) {
     let card = images::sound_card(random);
-    let field = random.pick(Field::ALL);
+    let field = Field::any(random);
     let image = damaged(random, &card, field);
     (card, image)
 }

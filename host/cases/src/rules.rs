@@ -117,7 +117,7 @@ pub fn broken(random: &mut Random, edition: Edition) -> Rule {
     }
     match random.below(10) {
         0..=6 => {
-            let flaw = random.pick(Flaw::ALL);
+            let flaw = Flaw::any(random);
             Rule::expanded(flawed(random, flaw, longest))
         }
         7 | 8 => Rule::compact(compact::broken(random, longest)),

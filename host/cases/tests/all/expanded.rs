@@ -219,7 +219,7 @@ fn damage_at_the_bytes_of_the_ticket() {
     let mut random = Random::new(SEED + 5);
     let mut unsound = BTreeMap::new();
     for number in 0..1200 {
-        let field = [Field::ByteThree, Field::Tail, Field::Rule, Field::RulePadding][number % 4];
+        let field = Field::OF_THE_RULE[number % 4];
         let card = some_card(&mut random);
         let image = damaged(&mut random, &card, field);
         let (old, new) = (card.encode(), &image);
