@@ -2,10 +2,11 @@
 //! values just beyond what soundness allows (01, "Image"; 02, Ticket 3).
 
 use model::edition::Edition;
-use model::{rule, Card};
+use model::rule::{self, Form};
+use model::Card;
 
 use crate::random::Random;
-use crate::{life_cycles, rules};
+use crate::{expanded, life_cycles, rules};
 
 /// The field that was damaged.
 #[derive(Clone, Copy, PartialEq, Eq, PartialOrd, Ord, Debug)]
@@ -239,30 +240,40 @@ fn name(random: &mut Random, card: &Card, field: Field, slot: usize, image: &mut
     }
 }
 
-/// A length of 0 or beyond what the version takes, a malformed rule, padding
-/// that is not zero.
+/// A length of 0 or beyond what the version takes, a malformed rule, a good one
+/// of a form that the version does not have, padding that is not zero.
 fn rule_bytes(random: &mut Random, card: &Card, field: Field, slot: usize, image: &mut [u8]) {
     let (record, longest) = (card.record(slot), card.edition.longest_rule());
     let length = record.rule.len();
     if field == Field::RulePadding && length < longest {
         let offset = random.range(34 + length as u32, 33 + longest as u32) as usize;
         set(image, at(slot, offset), &[random.byte() | 1]);
+    } else if !card.edition.takes(Form::Expanded) && random.chance(25) {
+        // Good on a newer version, and short enough here.
+        let newer = expanded::open(random, longest);
+        set(image, at(slot, 3), &[Form::Expanded.number()]);
+        set_rule(image, slot, longest, &newer);
     } else if random.chance(40) {
         let beyond = longest as u8 + 1;
         set(image, at(slot, 33), &[random.pick([0, beyond, beyond.max(30), 31, 0xFF])]);
     } else {
         let wrong = rules::broken(random, card.edition);
         if wrong.form == record.form && wrong.bytes.len() <= longest {
-            let mut bytes = vec![wrong.bytes.len() as u8];
-            bytes.extend(wrong.bytes);
-            bytes.resize(1 + longest, 0);
-            set(image, at(slot, 33), &bytes);
+            set_rule(image, slot, longest, &wrong.bytes);
         } else {
             // An AM byte with b8, or no AM_DO at the start.
             let first = image[at(slot, 34)];
             set(image, at(slot, 34), &[first ^ 0x80]);
         }
     }
+}
+
+/// A rule with its length, and zeros behind it up to so many bytes.
+fn set_rule(image: &mut [u8], slot: usize, longest: usize, rule: &[u8]) {
+    let mut bytes = vec![rule.len() as u8];
+    bytes.extend(rule);
+    bytes.resize(1 + longest, 0);
+    set(image, at(slot, 33), &bytes);
 }
 
 fn resize(random: &mut Random, image: &mut Vec<u8>) {

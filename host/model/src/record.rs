@@ -1,7 +1,7 @@
-//! One record of the image: the table of 01, "Image", and byte 3 by 02,
-//! Ticket 3. Decoding checks what
-//! the layout alone says (lengths, padding, zero bytes); [`crate::soundness`]
-//! checks what the fields mean.
+//! One record of the image: the table of 01, "Image", with byte 3 as 02, Ticket
+//! 3, has it. Decoding checks what the layout alone says (lengths, padding, zero
+//! bytes); [`crate::soundness`] checks what the fields mean, and whether the
+//! version has the rule's form.
 
 use crate::bytes::{all_zero, byte, number16, number32, part, push_padded, rest};
 use crate::edition::Edition;
@@ -114,7 +114,7 @@ impl Record {
         let (rule, rule_padding) = padded(bytes, RULE_AT, edition.longest_rule(), rule_length)?;
         let last = rest(bytes, RULE_AT + edition.longest_rule());
         let zeros_are_zero = all_zero(name_padding) && all_zero(rule_padding) && all_zero(last);
-        if !edition.takes(form) || !zeros_are_zero {
+        if !zeros_are_zero {
             return None;
         }
         Some(Record {

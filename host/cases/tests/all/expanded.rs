@@ -187,8 +187,8 @@ fn templates_have_rules_of_both_forms() {
 
 #[test]
 fn histories_and_images_make_files_with_rules_of_both_forms() {
-    each_at_least(&creations(Kind::History, 1500), 10, &MADE);
-    each_at_least(&creations(Kind::SoundCommand, 15_000), 5, &MADE);
+    each_at_least(&creations(Kind::History, 500), 10, &MADE);
+    each_at_least(&creations(Kind::SoundCommand, 6000), 5, &MADE);
 }
 
 #[test]
@@ -263,7 +263,7 @@ fn every_theme_is_played_on_both_versions() {
 fn files_are_made_again_on_both_versions() {
     let mut counts = BTreeMap::new();
     for kind in [Kind::FilesAgain, Kind::TreeAgain] {
-        for made in Generator::only(SEED, kind).take(400) {
+        for made in Generator::only(SEED, kind).take(300) {
             let Case::Again(again) = made.case else { panic!("not made again: {kind:?}") };
             for line in again.lines() {
                 let Line::Make { version, .. } = line else { continue };

@@ -32,9 +32,7 @@ const DECIDING: [(&str, Spoil); 6] = [
     ("A0 as all of", |c, l, t| deciding(c, l, t, &Quirks { one_as_all: true, ..RIGHT })),
     ("97 as always", |c, l, t| deciding(c, l, t, &Quirks { never_holds: true, ..RIGHT })),
     ("the first group alone", |c, l, t| deciding(c, l, t, &Quirks { first_group: true, ..RIGHT })),
-    ("expanded rules deny", |c, l, t| {
-        deciding(c, l, t, &Quirks { longest: 0, deepest: 0, ..RIGHT })
-    }),
+    ("templates deny", |c, l, t| deciding(c, l, t, &Quirks { deepest: 0, ..RIGHT })),
 ];
 
 /// The card as it is with these bytes 3, and what the model makes of that.
@@ -61,10 +59,19 @@ fn with_byte_3(came: &Came, left: &mut Left, byte: impl Fn(u8) -> u8) -> Told {
 
 /// Cards with versions, forms and templates that are wrong, and the kind of
 /// cases that shows each.
-const OTHERS: [(&str, Kind, Spoil); 6] = [
+const OTHERS: [(&str, Kind, Spoil); 7] = [
     ("byte 3 is ignored", Kind::SoundCommand, |came, left, _| with_byte_3(came, left, |_| 0)),
     ("any byte 3 but 0 is expanded", Kind::DamagedCommand, |came, left, _| {
         with_byte_3(came, left, |byte| byte.min(1))
+    }),
+    ("version 1 is read as version 2", Kind::DamagedCommand, |came, left, told| {
+        if told.answer == 1 && came.image.starts_with(b"UFT\x00\x01") {
+            left.image[4] = 2;
+            let told = Model.command(left.image, came.command, left.response, came.state);
+            left.image[4] = 1;
+            return told;
+        }
+        told
     }),
     ("8C told for form 1", Kind::SoundCommand, |came, left, told| {
         respelled(came, left, told, |objects| {
