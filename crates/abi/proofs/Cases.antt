@@ -3,6 +3,9 @@ use native.Mathlib.Omega.{arith}
 use mathlib.Core.Path.{_≡_, sym, _∙_, ap}
 use mathlib.Core.List.{List}
 use Prim.Native.Nat.{ℕ, _<_}
+use Rattle.image.proofs.Versions.{longest-within}
+use Rattle.image.specs.Layout.{versionOf}
+use Rattle.maker.specs.declared.Edition.{Edition}
 use Rattle.verdict.specs.declared.State.{State}
 use Rattle.card.specs.declared.Reply.{Reply}
 use Rattle.card.specs.declared.Reply.the-variants.{Word}
@@ -20,8 +23,9 @@ by-case f e h = ap f (sym e ∙ h)
 pub word-alone : (w n : ℕ) → w ≡ packed (Word w n)
 word-alone w n = omega arith
 
-pub left-by : (r x : Made) (y img : List ℕ) (total : ℕ) (rule : List ℕ) → y ≡ leftBy r img total rule → r ≡ x → y ≡ leftBy x img total rule
-left-by r x y img total rule e h = e ∙ ap (λ (m : Made). leftBy m img total rule) h
+pub left-by : (r x : Made) (y img : List ℕ) (e : Edition) (total form : ℕ) (rule : List ℕ) → y ≡ leftBy r img e total form rule → r ≡ x
+    → y ≡ leftBy x img e total form rule
+left-by r x y img e total form rule q h = q ∙ ap (λ (m : Made). leftBy m img e total form rule) h
 
 -- r is what the card answered: the case x, with its number and the three beside it
 module _ {img c o left y : List ℕ} {st : State} {r : Reply} (p : CommandPromises img c st o r left y) where
@@ -36,4 +40,4 @@ module _ {img c o left y : List ℕ} {st : State} {r : Reply} (p : CommandPromis
 
   -- what was told is few bytes
   pub told-narrow : {w n : ℕ} → r ≡ Word w n → n < 4294967296
-  told-narrow e = omega (arith, ap answerTold e, p .few)
+  told-narrow e = omega (arith, ap answerTold e, p .few, longest-within (versionOf img))

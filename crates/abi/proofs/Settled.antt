@@ -11,7 +11,7 @@ use Rattle.abi.specs.Numbers.{packed, toldNumbers}
 
 pub each-settles : EachSettles
 each-settles = record {
-  make = λ img total rule. pair-settled _ _;
+  make = λ img e total form rule. pair-settled _ _;
   command = λ img c st o.
       settled (λ p. HullCommand img c st o (p .0) (p .1 .0) (p .1 .1 .0) (p .1 .1 .1)) (_, (_, (_, _)))
       (λ p k. both-are _ _ p (k .result) (both-are _ _ (p .1) (k .image) (both-are _ _ (p .1 .1) (k .response-is) (k .numbers-are))));

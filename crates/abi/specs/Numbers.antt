@@ -1,9 +1,15 @@
--- How the numbers of a C call stand for what 01 names: the state that a command is given, and its reply as one number.
+-- How the numbers of a C call stand for what 01 and 02 name: the card that is made, the state that a command is given, and its reply as
+-- one number.
 use Prim.Native.Nat.{ℕ, _+_, _*_}
 use mathlib.Core.List.{List, [], _∷_}
+use Rattle.maker.specs.declared.Edition.{Edition}
 use Rattle.verdict.specs.declared.State.{State}
 use Rattle.card.specs.declared.Reply.{Reply}
 use Rattle.card.specs.Command.{answerNumber, answerWord, answerTold}
+
+-- the kind of card: its version
+abbrev pub editionOf : ℕ → Edition
+editionOf kind = record { version = kind }
 
 -- three sets, then the byte of open channels
 abbrev pub stateOf : ℕ → ℕ → ℕ → ℕ → State

@@ -6,6 +6,7 @@ use mathlib.Core.List.{List, [], _∷_}
 use Prim.Native.Nat.{ℕ}
 use lib.ListN.{length}
 use Rattle.laws.specs.Settled.{Settles}
+use Rattle.maker.specs.declared.Edition.{Edition}
 use Rattle.sound.specs.Sound.{soundb}
 use Rattle.maker.specs.Making.{madeNumber, madeOf, leftBy}
 use Rattle.maker.specs.Reporting.{reportedNumber, numbersOf, reportedOf}
@@ -14,8 +15,9 @@ use Rattle.card.specs.declared.Reply.the-variants.{Short}
 use Rattle.card.specs.Command.{answerNumber, answerWord, answerTold, replyOf, imageOf, responseOf}
 use Rattle.abi.specs.Numbers.{packed, toldNumbers}
 
-abbrev pub HullMake : List ℕ → ℕ → List ℕ → ℕ → List ℕ → Type 0
-HullMake img total rule r left = (r ≡ madeNumber (madeOf img total rule)) × (left ≡ leftBy (madeOf img total rule) img total rule)
+abbrev pub HullMake : List ℕ → Edition → ℕ → ℕ → List ℕ → ℕ → List ℕ → Type 0
+HullMake img e total form rule r left =
+    (r ≡ madeNumber (madeOf img e total form rule)) × (left ≡ leftBy (madeOf img e total form rule) img e total form rule)
 
 -- a command: its number, the image, the response and the three numbers
 pub record HullCommand (img c : List ℕ) (st : State) (response : List ℕ) (r : ℕ) (left answered numbers : List ℕ) : Type 0 where
@@ -32,7 +34,8 @@ abbrev pub HullSound : List ℕ → ℕ → Type 0
 HullSound img r = r ≡ cond (soundb img) 1 0
 
 pub record EachSettles : Type 0 where
-  pub make : (img : List ℕ) (total : ℕ) (rule : List ℕ) → Settles (ℕ × List ℕ) (λ p. HullMake img total rule (p .0) (p .1))
+  pub make : (img : List ℕ) (e : Edition) (total form : ℕ) (rule : List ℕ)
+      → Settles (ℕ × List ℕ) (λ p. HullMake img e total form rule (p .0) (p .1))
   pub command : (img c : List ℕ) (st : State) (response : List ℕ)
       → Settles (ℕ × (List ℕ × (List ℕ × List ℕ))) (λ p. HullCommand img c st response (p .0) (p .1 .0) (p .1 .1 .0) (p .1 .1 .1))
   pub report : (img : List ℕ) → Settles (ℕ × List ℕ) (λ p. HullReport img (p .0) (p .1))

@@ -1,19 +1,20 @@
 // The calls as C sees them (include/hullplaiter.h): each wraps one public call and gives 01's numbers, and 02's, for its answer.
 // No call asks anything of its caller, and none keeps anything from call to call.
-ghost use Rattle.abi.specs.Numbers.{stateOf};
+ghost use Rattle.abi.specs.Numbers.{editionOf, stateOf};
 ghost use Rattle.abi.specs.Promises.{HullMake, HullCommand, HullReport, HullSound};
 use card::Reply;
+use maker::Edition;
 use maker::Made;
 use maker::Reported;
 use rules::Sets;
 use verdict::State;
 
-// Makes a fresh image of a buffer: 0, or 2, 3, 4 with the buffer as it came.
+// Makes a fresh image of a buffer, a card of that kind: 0, or 2, 3, 4 with the buffer as it came.
 #[no_mangle]
-pub extern "C" fn hull_make(image: &mut [u8], total: u32, rule: &[u8]) -> u32
-    ensures { λ r. ⌜ HullMake (now (image .entry)) total (now (rule .entry)) r (now (image .exit)) ⌝ }
+pub extern "C" fn hull_make(image: &mut [u8], kind: u32, total: u32, form: u32, rule: &[u8]) -> u32
+    ensures { λ r. ⌜ HullMake (now (image .entry)) (editionOf kind) total form (now (rule .entry)) r (now (image .exit)) ⌝ }
 {
-    let made = maker::fresh::make(image, total, rule);
+    let made = maker::fresh::make(image, Edition { version: kind }, total, form, rule);
     match made {
         Made::Done => 0,
         Made::BadLength => 2,

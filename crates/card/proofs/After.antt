@@ -11,13 +11,14 @@ use borrow.Author.Tests.{eq-eqb, ne-eqb}
 use Rattle.laws.proofs.Says.{same-or}
 use Rattle.laws.proofs.Splices.{getD-part}
 use Rattle.image.specs.declared.Head.{Head}
-use Rattle.image.specs.Layout.{Within, recAt, recordBytes, putRecord, setLife, countOf, currentDfOf}
+use Rattle.image.specs.Layout.{versionOf, Within, recAt, recordBytes, putRecord, setLife, countOf, currentDfOf}
 use Rattle.image.specs.Layout.{currentEfOf}
 use Rattle.image.proofs.Records.{record-same, record-other}
 use Rattle.image.proofs.Made.{length-made}
 use Rattle.image.proofs.Lives.{life-same, life-other}
 use Rattle.image.proofs.Headers.{SameFront, SameHeader, same-front, same-df, same-ef, front-refl, front-trans, header-put, header-life}
 use Rattle.image.proofs.Headers.{front-current, current-byte, df-current, ef-current, record-current}
+use Rattle.access.proofs.Fits.{fits-short}
 use Rattle.sound.specs.Table.{viewAt}
 use Rattle.sound.specs.Sound.{Sound}
 use Rattle.sound.specs.Kinship.{atOrBeneath}
@@ -39,26 +40,26 @@ module _ (img c : List ℕ) (sound : Sound img) where
 
   -- CREATE
   module _ (s : ℕ) (h : Head) (name rule : List ℕ) (low : s < countOf img) (k : Creates img s h name rule) where
-    whole : length (recordBytes h name rule) ≡ 64
-    whole = length-made h name rule (k .good .name-short) (k .good .rule-short)
+    whole : length (recordBytes (versionOf img) h name rule) ≡ 64
+    whole = length-made (versionOf img) h name rule (k .good .name-short) (fits-short (versionOf img) (h .form) rule (k .good .formed))
 
-    put : SameHeader img (putRecord img s (recordBytes h name rule))
-    put = header-put img s (recordBytes h name rule) (within s low) whole
+    put : SameHeader img (putRecord img s (recordBytes (versionOf img) h name rule))
+    put = header-put img s (recordBytes (versionOf img) h name rule) (within s low) whole
 
-    put-long : 16 ≤ length (putRecord img s (recordBytes h name rule))
+    put-long : 16 ≤ length (putRecord img s (recordBytes (versionOf img) h name rule))
     put-long = omega (arith, put .long, header-long)
 
     created-front : SameFront img (created img s h name rule)
     unfolding created
     created-front = front-trans img _ _ (same-front img _ put) (front-current _ _ _ put-long)
 
-    created-record :
-        (t : ℕ) → t < countOf img → recAt (created img s h name rule) t ≡ cond (eqb t s) (recordBytes h name rule) (recAt img t)
+    created-record : (t : ℕ) → t < countOf img
+        → recAt (created img s h name rule) t ≡ cond (eqb t s) (recordBytes (versionOf img) h name rule) (recAt img t)
     unfolding created
     created-record t l =
         record-current _ _ _ put-long t (omega (arith, put .long, within t l .0))
         ∙ ⊎-elim
-        (λ e. ap (λ (x : ℕ). recAt (putRecord img s (recordBytes h name rule)) x) e ∙ record-same img s _ (within s low) whole
+        (λ e. ap (λ (x : ℕ). recAt (putRecord img s (recordBytes (versionOf img) h name rule)) x) e ∙ record-same img s _ (within s low) whole
         ∙ sym (rw (eq-eqb t s e)))
         (λ z. record-other img s _ (within s low) whole t (within t l) z ∙ sym (rw (ne-eqb t s z)))
         (same-or t s)

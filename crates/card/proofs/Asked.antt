@@ -165,8 +165,8 @@ good-file Bad = ((λ e. absurd (false≢true e)), (λ f. absurd (f refl)))
 good-file (Df x) = ((λ e q. false≢true (sym (ap describes q))), (λ f. refl))
 good-file (Ef x) = ((λ e q. false≢true (sym (ap describes q))), (λ f. refl))
 
-pub file-says : (s : List ℕ) → (describes (dataOf s) ≡ true) ↔ (DfData s ⊎ EfData s)
-file-says s = (
-  (λ e. data-exactly s .0 (good-file (dataOf s) .0 e)),
-  (λ h. good-file (dataOf s) .1 (data-exactly s .1 h)),
+pub file-says : (v : ℕ) (s : List ℕ) → (describes (dataOf v s) ≡ true) ↔ (DfData v s ⊎ EfData v s)
+file-says v s = (
+  (λ e. data-exactly v s .0 (good-file (dataOf v s) .0 e)),
+  (λ h. good-file (dataOf v s) .1 (data-exactly v s .1 h)),
 )

@@ -3,11 +3,12 @@ use mathlib.Core.Path.{_≡_}
 use mathlib.Core.Bool.{true, false}
 use mathlib.Core.List.{List}
 use mathlib.Core.Logic.{⊎-elim}
-use Prim.Native.Nat.{ℕ, _<_, _≤_}
+use Prim.Native.Nat.{ℕ, _+_, _<_, _≤_}
 use native.Mathlib.Omega.{arith}
 use lib.ListN.{length}
 use borrow.Author.Tests.{le-leb, lt-leb}
-use Rattle.image.specs.Layout.{countOf, recAt, kindOf, none}
+use Rattle.image.specs.Layout.{longestRule, versionOf, countOf, recAt, kindOf, none}
+use Rattle.image.proofs.Versions.{longest-within}
 use Rattle.sound.specs.Own.{Used}
 use Rattle.sound.specs.Table.{viewAt}
 use Rattle.sound.specs.Sound.{Sound, Current}
@@ -74,14 +75,14 @@ is-chosen img d e t =
     (λ z. record { low = t .ef-low z; used = λ q. omega (arith, q, t .ef-file z) })
 
 module _ (img c : List ℕ) (sound : Sound img) where
-  own : (s : ℕ) → Chosen img s → Used (recAt img s)
+  own : (s : ℕ) → Chosen img s → Used (versionOf img) (recAt img s)
   own s k = sound .records s (k .low) .used (k .used)
 
   tellable : (s : ℕ) → Chosen img s → Tellable img s
   tellable s k = record {
     within = sound-within img sound s (k .low);
     name = own s k .name .short;
-    rule = own s k .rule .short;
+    rule = omega (arith, own s k .rule .short, longest-within (versionOf img));
     size = omega (arith, sizes-fit img sound s (k .low) (k .used));
   }
 
@@ -92,13 +93,13 @@ module _ (img c : List ℕ) (sound : Sound img) where
   can-tell (Delete s) t = tt
   can-tell (SetLife s life) t = tt
 
-  -- 53 bytes hold what is told
-  pub told-few : (v : Verdict) → Tells img c v → length (told img c v) ≤ 53
+  -- so many bytes hold what is told
+  pub told-few : (v : Verdict) → Tells img c v → length (told img c v) ≤ 37 + longestRule (versionOf img)
   told-few (Refuse w) t = omega arith
   told-few (Select d e w) t =
       let k = is-chosen img d e t in
-      cond-by (λ (l : List ℕ). length l ≤ 53) (wantsTemplate c) _ _
-      (λ q. longest (recAt img (chosen d e)) (own (chosen d e) k) (k .used)) (λ q. omega arith)
+      cond-by (λ (l : List ℕ). length l ≤ 37 + longestRule (versionOf img)) (wantsTemplate c) _ _
+      (λ q. longest (versionOf img) (recAt img (chosen d e)) (own (chosen d e) k) (k .used)) (λ q. omega arith)
   told-few (Create x) t = omega arith
   told-few (Delete s) t = omega arith
   told-few (SetLife s life) t = omega arith

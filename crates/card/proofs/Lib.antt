@@ -14,3 +14,4 @@ pub mod Demands
 pub mod Obeying
 pub mod Obeyed
 pub mod Lives
+pub mod Versions

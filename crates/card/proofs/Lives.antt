@@ -8,7 +8,7 @@ use native.Mathlib.Omega.{arith}
 use lib.Dec.{eqb}
 use lib.ListN.{length}
 use borrow.Author.Tests.{eq-eqb}
-use Rattle.image.specs.Layout.{recAt, lifeCycleOf, countOf}
+use Rattle.image.specs.Layout.{versionOf, recAt, lifeCycleOf, countOf}
 use Rattle.image.proofs.Lives.{life-set}
 use Rattle.image.proofs.Made.{life-made}
 use Rattle.image.proofs.Places.{length-record}
@@ -102,26 +102,26 @@ only-created img c st lent s low other h = ⊎-elim (λ e. e)
     (changes img c st lent s low)
 
 -- the life cycle that is read is the one in object 8A
-read-df : (s : List ℕ) (t : DfData s) (x : Data) → DfRead s t x → sentLife x ≡ first (t .life)
-read-df s t Bad k = absurd k
-read-df s t (Ef x) k = absurd k
-read-df s t (Df x) k = k .2
+read-df : (v : ℕ) (s : List ℕ) (t : DfData v s) (x : Data) → DfRead v s t x → sentLife x ≡ first (t .life)
+read-df v s t Bad k = absurd k
+read-df v s t (Ef x) k = absurd k
+read-df v s t (Df x) k = k .2
 
-read-ef : (s : List ℕ) (t : EfData s) (x : Data) → EfRead s t x → sentLife x ≡ first (t .life)
-read-ef s t Bad k = absurd k
-read-ef s t (Df x) k = absurd k
-read-ef s t (Ef x) k = k .2
+read-ef : (v : ℕ) (s : List ℕ) (t : EfData v s) (x : Data) → EfRead v s t x → sentLife x ≡ first (t .life)
+read-ef v s t Bad k = absurd k
+read-ef v s t (Df x) k = absurd k
+read-ef v s t (Ef x) k = k .2
 
 -- a CREATE that was carried out: the record in the new slot has the life cycle that was read
 new-life : (img c left : List ℕ) (v : Verdict) → instruction c ≡ 0xE0 → wordOf v ≡ 0x9000 → Spoken v → Ordered img c v → Tells img c v
     → ((t : ℕ) → t < countOf img → recAt left t ≡ recordAfter img c v t)
-    → lifeAt left (slotIn (freeSlot (countOf img) (viewAt img))) ≡ sentLife (dataOf (sentData c))
+    → lifeAt left (slotIn (freeSlot (countOf img) (viewAt img))) ≡ sentLife (dataOf (versionOf img) (sentData c))
 new-life img c left (Refuse w) e done spoken o k r = absurd (spoken (inl done))
 new-life img c left (Select d f w) e done spoken o k r = absurd (omega (arith, e, o))
 new-life img c left (Create x) e done spoken o k r =
     ap (λ (t : ℕ). lifeAt left t) (sym (o .1))
     ∙ ap lifeCycleOf (rw (eq-eqb (x .slot) (x .slot) refl) at (r (x .slot) (k .0 .low)))
-    ∙ life-made (x .head) _ _
+    ∙ life-made (versionOf img) (x .head) _ _
     ∙ o .2
 new-life img c left (Delete x) e done spoken o k r = absurd (omega (arith, e, o .0))
 new-life img c left (SetLife x life) e done spoken o k r = absurd (o .0 e)
@@ -130,8 +130,10 @@ pub kept-as-given : KeptAsGiven
 kept-as-given img c st lent e done = go (soundb img) refl
   where
     go : (b : Bool) → soundb img ≡ b
-        → ((t : DfData (sentData c)) → lifeAt (imageOf img c st lent) (slotIn (freeSlot (countOf img) (viewAt img))) ≡ first (t .life))
-        × ((t : EfData (sentData c)) → lifeAt (imageOf img c st lent) (slotIn (freeSlot (countOf img) (viewAt img))) ≡ first (t .life))
+        → ((t : DfData (versionOf img) (sentData c))
+        → lifeAt (imageOf img c st lent) (slotIn (freeSlot (countOf img) (viewAt img))) ≡ first (t .life))
+        × ((t : EfData (versionOf img) (sentData c))
+        → lifeAt (imageOf img c st lent) (slotIn (freeSlot (countOf img) (viewAt img))) ≡ first (t .life))
     go true q =
         let sound = sound-says img .0 q in
         let life =
@@ -139,8 +141,10 @@ kept-as-given img c st lent e done = go (soundb img) refl
             (due-speaks img c st lent) (due-ordered img c st lent) (due-tells img c st lent sound)
             (effect-and-no-other img c st lent sound .records)
         in
+        let read = data-read (versionOf img) (sentData c) in
+        let new = dataOf (versionOf img) (sentData c) in
         (
-          (λ t. life ∙ read-df (sentData c) t (dataOf (sentData c)) (data-read (sentData c) .0 t)),
-          (λ t. life ∙ read-ef (sentData c) t (dataOf (sentData c)) (data-read (sentData c) .1 t)),
+          (λ t. life ∙ read-df (versionOf img) (sentData c) t new (read .0 t)),
+          (λ t. life ∙ read-ef (versionOf img) (sentData c) t new (read .1 t)),
         )
     go false q = absurd (omega (arith, done, damaged-word img c st lent q))

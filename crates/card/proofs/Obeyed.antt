@@ -16,7 +16,7 @@ use Rattle.laws.specs.Lists.{part}
 use Rattle.rules.specs.Descriptor.{df}
 use Rattle.rules.specs.Life.{lifeOf}
 use Rattle.rules.proofs.Lives.{activates-says}
-use Rattle.image.specs.Layout.{countOf, currentDfOf, currentEfOf, none, recAt, setCurrent}
+use Rattle.image.specs.Layout.{versionOf, countOf, currentDfOf, currentEfOf, none, recAt, setCurrent}
 use Rattle.sound.specs.Table.{viewAt}
 use Rattle.sound.specs.Sound.{Sound}
 use Rattle.sound.specs.Kinship.{freeSlot}
@@ -106,19 +106,19 @@ unfolding planFor isKnown wantsAlone isTerminate part
 create-obeys img c st response sound e =
     obeys-silent img c st response sound (create img (countOf img) (currentDfOf img) (sentData c) (st .sets)) (rw e)
     (createAsks img c st) _ _
-    (create-silent (dataOf (sentData c)))
+    (create-silent (dataOf (versionOf img) (sentData c)))
     (opens img c st 0xE0 e refl _ _
     (reads-ask _ _ _ _ _ _ (alone-says c st 0xE0 e refl) refl
     (reads-ask _ _ _ _ _ _ (parameters-say c st 0xE0 e refl) refl
     (reads-ask _ _ _ _ _ _ (data-says c e) refl
-    (reads-ask _ _ _ _ _ _ (file-says (sentData c)) refl
+    (reads-ask _ _ _ _ _ _ (file-says (versionOf img) (sentData c)) refl
     (reads-ask _ _ _ _ _ _ ((λ h. h), (λ h. h)) refl
     (reads-ask _ _ _ _ _ _ (takes-says img (currentDfOf img)) refl
     (reads-ask _ _ _ _ _ _ (identifier-free img (currentDfOf img) _) refl
     (reads-ask _ _ _ _ _ _ (name-says (countOf img) (viewAt img) _) refl
     (reads-ask _ _ _ _ _ _ (room-says (countOf img) (viewAt img) (currentDfOf img) _) refl
     reads-none))))))))))
-    (λ m. gives (dataOf (sentData c)) (file-says (sentData c) .1 (m .1 .1 .1 .1 .1 .1 .1 .0)))
+    (λ m. gives (dataOf (versionOf img) (sentData c)) (file-says (versionOf img) (sentData c) .1 (m .1 .1 .1 .1 .1 .1 .1 .0)))
   where
     slot : ℕ
     slot = slotIn (freeSlot (countOf img) (viewAt img))

@@ -12,7 +12,7 @@ use Rattle.laws.specs.declared.Found.the-variants.{At}
 use Rattle.laws.proofs.Walks.{any-at}
 use Rattle.laws.proofs.Says.{and-says, not-says}
 use Rattle.rules.specs.Descriptor.{df}
-use Rattle.image.specs.Layout.{countOf, currentDfOf}
+use Rattle.image.specs.Layout.{versionOf, countOf, currentDfOf}
 use Rattle.sound.specs.Table.{viewAt, up, upward}
 use Rattle.sound.specs.Kinship.{childNamed, freeSlot, atOrBeneath, terminatedAt, terminatedUp}
 use Rattle.create_data.specs.declared.Data.{Data}
@@ -50,7 +50,7 @@ abbrev pub Ordered : List ℕ → List ℕ → Verdict → Type 0
 Ordered img c (Refuse w) = Unit {0}
 Ordered img c (Select d e w) = instruction c ≡ 0xA4
 Ordered img c (Create x) =
-    (instruction c ≡ 0xE0) × (x .slot ≡ slotIn (freeSlot (countOf img) (viewAt img))) × (x .head .life ≡ sentLife (dataOf (sentData c)))
+    (instruction c ≡ 0xE0) × (x .slot ≡ slotIn (freeSlot (countOf img) (viewAt img))) × (x .head .life ≡ sentLife (dataOf (versionOf img) (sentData c)))
 Ordered img c (Delete x) = (instruction c ≡ 0xE4) × (childNamed (countOf img) (viewAt img) (currentDfOf img) (sentIdentifier c) ≡ At x)
 Ordered img c (SetLife x life) = (instruction c ≡ 0xE0 → ⊥) × (life ≡ writtenBy (instruction c)) × (terminatedAt img x ≡ true → ⊥)
 
@@ -63,7 +63,7 @@ module _ (img c : List ℕ) (st : State) where
   refused : (w : ℕ) → anyWord w ≡ true → Ordered img c (Refuse w)
   refused w k = tt
 
-  creating-ordered : instruction c ≡ 0xE0 → (new : Data) → dataOf (sentData c) ≡ new
+  creating-ordered : instruction c ≡ 0xE0 → (new : Data) → dataOf (versionOf img) (sentData c) ≡ new
       → Ordered img c (creating img (currentDfOf img) (slotIn (freeSlot (countOf img) (viewAt img))) new)
   creating-ordered e Bad q = tt
   creating-ordered e (Df x) q = (e, refl, rw q)
@@ -85,7 +85,7 @@ module _ (img c : List ℕ) (st : State) where
   plan-ordered root =
       chosen-by OrderedThen (instruction c) _ _ _ (λ e. followed-by (Ordered img c) anyWord refused _ refl (λ a. selecting-ordered e _ _))
       (λ z. chosen-by OrderedThen (instruction c) _ _ _
-      (λ e. followed-by (Ordered img c) anyWord refused _ refl (λ a. creating-ordered e (dataOf (sentData c)) refl))
+      (λ e. followed-by (Ordered img c) anyWord refused _ refl (λ a. creating-ordered e (dataOf (versionOf img) (sentData c)) refl))
       (λ not-create. chosen-by OrderedThen (instruction c) _ _ _
       (λ e. followed-by (Ordered img c) anyWord refused _ refl (λ a. (e, found-at _ (and-says _ _ .0 a .0))))
       (λ z. chosen-by OrderedThen (instruction c) _ _ _

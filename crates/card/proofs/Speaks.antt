@@ -10,7 +10,7 @@ use borrow.Author.Tests.{eq-eqb}
 use Rattle.laws.proofs.Says.{and-says, not-says, or-says}
 use Rattle.rules.specs.Descriptor.{df}
 use Rattle.rules.specs.Life.{isDeactivated, isTerminated}
-use Rattle.image.specs.Layout.{countOf, currentDfOf}
+use Rattle.image.specs.Layout.{versionOf, countOf, currentDfOf}
 use Rattle.sound.specs.Table.{viewAt}
 use Rattle.create_data.specs.declared.Data.{Data}
 use Rattle.create_data.specs.declared.Data.the-variants.{Df, Ef, Bad}
@@ -67,7 +67,7 @@ plan-speaks : (img : List ℕ) (n d : ℕ) (c : List ℕ) (st : State) → Speak
 unfolding planFor lifePlan
 plan-speaks img n d c st =
     chosen-by Speaks (instruction c) _ _ _ (λ e. (refl, λ a. selecting-spoken img d _))
-    (λ z. chosen-by Speaks (instruction c) _ _ _ (λ e. (refl, λ a. creating-spoken img d _ (dataOf (sentData c)) (and-says _ _ .0 a .0)))
+    (λ z. chosen-by Speaks (instruction c) _ _ _ (λ e. (refl, λ a. creating-spoken img d _ (dataOf (versionOf img) (sentData c)) (and-says _ _ .0 a .0)))
     (λ z. chosen-by Speaks (instruction c) _ _ _ (λ e. (refl, λ a. tt))
     (λ z. chosen-by Speaks (instruction c) _ _ _ (λ e. (refl, λ a. tt))
     (λ z. chosen-by Speaks (instruction c) _ _ _ (λ e. (refl, λ a. tt))
@@ -105,7 +105,7 @@ unfolding planFor lifePlan selecting
 plan-acts img n d c st =
     chosen-by ActsThen (instruction c) _ _ _
     (λ e a. cond-by Acts (eqb (viewAt img (slotIn (selected img n d _)) .kind) df) _ _ (λ q. tt) (λ q. tt))
-    (λ z. chosen-by ActsThen (instruction c) _ _ _ (λ e a. creating-acts img d _ (dataOf (sentData c)) (and-says _ _ .0 a .0))
+    (λ z. chosen-by ActsThen (instruction c) _ _ _ (λ e a. creating-acts img d _ (dataOf (versionOf img) (sentData c)) (and-says _ _ .0 a .0))
     (λ z. chosen-by ActsThen (instruction c) _ _ _ (λ e a. tt)
     (λ z. chosen-by ActsThen (instruction c) _ _ _ (λ e a. tt)
     (λ z. chosen-by ActsThen (instruction c) _ _ _ (λ e a. tt)

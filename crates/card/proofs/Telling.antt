@@ -21,9 +21,9 @@ use Rattle.laws.specs.Tests.{either}
 use Rattle.rules.specs.Descriptor.{classOf, df, ef}
 use Rattle.rules.proofs.Descriptors.{df-plain}
 use Rattle.rules.proofs.Lives.{activated-known, deactivated-known, terminated-known, new-known}
-use Rattle.rules.proofs.Groups.{fits-short}
 use Rattle.rules.specs.Value.{goodLength}
-use Rattle.image.specs.Layout.{countOf, currentDfOf, recAt, descriptorOf}
+use Rattle.image.specs.Layout.{longestRule, versionOf, countOf, currentDfOf, recAt, descriptorOf}
+use Rattle.access.proofs.Fits.{fits-short}
 use Rattle.sound.specs.Table.{viewAt, File}
 use Rattle.sound.specs.Sound.{Sound}
 use Rattle.sound.specs.Kinship.{isChildNamed, childNamed, freeSlot, identifierFree, nameFree, fitsRoom}
@@ -72,9 +72,9 @@ some-size : (z : ℕ) → (z ≡ 0 → ⊥) → 1 ≤ z
 some-size z h = omega arith
 
 -- a part of CREATE's data is a part of the command
-field-sent :
-    (c : List ℕ) (p : Span) → 5 ≤ length c → p .start ≤ p .end → p .end ≤ length (sentData c) → p .end - p .start ≤ 16 → FieldSent c p
-field-sent c p long l h k = record { order = l; inside = omega (arith, length-drop 5 c); short = k }
+field-sent : (most : ℕ) (c : List ℕ) (p : Span) → 5 ≤ length c → p .start ≤ p .end → p .end ≤ length (sentData c)
+    → p .end - p .start ≤ most → FieldSent most c p
+field-sent most c p long l h k = record { order = l; inside = omega (arith, length-drop 5 c); short = k }
 
 -- what was found
 found-some : (f : Found) → (f ≡ Nothing → ⊥) → f ≡ At (slotIn f)
@@ -178,19 +178,19 @@ module _ (img c : List ℕ) (sound : Sound img) where
 
   module _ (long : 5 ≤ length c) (sets : Sets) where
     -- the new record of a kind, by the right that it needs
-    record-tells : (kind : ℕ) (right : Right) (x : NewFile) → GoodFile (sentData c) x → x .name .end - x .name .start ≤ 16
-        → GoodRecord (newHead img (currentDfOf img) kind x) (bytesAt (sentData c) (x .name)) (bytesAt (sentData c) (x .rule))
+    record-tells : (kind : ℕ) (right : Right) (x : NewFile) → GoodFile (versionOf img) (sentData c) x → x .name .end - x .name .start ≤ 16
+        → GoodRecord (versionOf img) (newHead img (currentDfOf img) kind x) (bytesAt (sentData c) (x .name)) (bytesAt (sentData c) (x .rule))
         → allHold (admission img (countOf img) (currentDfOf img) right (x .identifier) (bytesAt (sentData c) (x .name)) (x .size) sets)
         ≡ true
         → Tells img c (Create (newRecord img (currentDfOf img) (slotIn (freeSlot (countOf img) (viewAt img))) kind x))
     record-tells kind right x g short good h =
-        let w = fits-short _ (g .rule) in
+        let w = fits-short (versionOf img) (x .form) _ (g .rule) in
         let r = part-long (sentData c) (x .rule .start) (x .rule .end) (g .rule-low) (g .rule-high) in
         let k = admitted right (x .identifier) _ (x .size) sets h in
         (record {
           low = slot-low right (x .identifier) _ (x .size) sets h;
-          name = field-sent c (x .name) long (g .name-low) (g .name-high) short;
-          rule = field-sent c (x .rule) long (g .rule-low) (g .rule-high) (omega arith);
+          name = field-sent 16 c (x .name) long (g .name-low) (g .name-high) short;
+          rule = field-sent (longestRule (versionOf img)) c (x .rule) long (g .rule-low) (g .rule-high) (omega arith);
         },
         record {
           good = good;
@@ -203,10 +203,10 @@ module _ (img c : List ℕ) (sound : Sound img) where
         })
 
     -- how long the name is
-    name-long : (x : NewFile) → GoodFile (sentData c) x → length (bytesAt (sentData c) (x .name)) ≡ x .name .end - x .name .start
+    name-long : (x : NewFile) → GoodFile (versionOf img) (sentData c) x → length (bytesAt (sentData c) (x .name)) ≡ x .name .end - x .name .start
     name-long x g = part-long (sentData c) (x .name .start) (x .name .end) (g .name-low) (g .name-high)
 
-    new-tells : (new : Data) → Good (sentData c) new
+    new-tells : (new : Data) → Good (versionOf img) (sentData c) new
         → allHold
         (step (describes new) 0x6A80
         ∷ admission img (countOf img) (currentDfOf img) (rightFor new) (newIdentifier new) (newName (sentData c) new) (newSize new)
@@ -223,7 +223,6 @@ module _ (img c : List ℕ) (sound : Sound img) where
       records = rw (g .plain) (df-length (x .descriptor) (x .size) (g .class));
       name-short = omega (arith, name-long x (g .file), g .name-short);
       nameless = λ e. absurd (omega arith);
-      rule-short = fits-short _ (g .file .rule);
       formed = g .file .rule;
     }) h
     new-tells (Ef x) g h = record-tells ef CreateEf x (g .file) (omega (arith, g .nameless)) (record {
@@ -235,12 +234,12 @@ module _ (img c : List ℕ) (sound : Sound img) where
       records = g .records;
       name-short = omega (arith, name-long x (g .file), g .nameless);
       nameless = λ e. omega (arith, name-long x (g .file), g .nameless);
-      rule-short = fits-short _ (g .file .rule);
       formed = g .file .rule;
     }) h
 
     create-tells : Tells img c (followed (create img (countOf img) (currentDfOf img) (sentData c) sets))
-    create-tells = followed-by (Tells img c) anyWord refused _ refl (λ a. new-tells (dataOf (sentData c)) (good (sentData c)) a)
+    create-tells = followed-by (Tells img c) anyWord refused _ refl 
+        (λ a. new-tells (dataOf (versionOf img) (sentData c)) (good (versionOf img) (sentData c)) a)
 
   -- the life-cycle commands are about a file, and write a life cycle
   current-file : Stands img (countOf img) (currentFile img)

@@ -6,7 +6,7 @@ use mathlib.Core.List.{List}
 use Prim.Native.Nat.{ℕ}
 use Rattle.template.specs.Objects.{bytesAt}
 use Rattle.rules.specs.Life.{knownLife}
-use Rattle.image.specs.Layout.{countOf}
+use Rattle.image.specs.Layout.{versionOf, countOf}
 use Rattle.sound.specs.Table.{viewAt}
 use Rattle.sound.specs.Sound.{Sound, Current}
 use Rattle.sound.specs.Effects.{Creates, Deletes}
@@ -25,12 +25,12 @@ abbrev pub Tells : List ℕ → List ℕ → Verdict → Type 0
 Tells img c (Refuse w) = Unit {0}
 Tells img c (Select d e w) = Current (countOf img) (viewAt img) d e
 Tells img c (Create x) =
-    FileSent (countOf img) c x × Creates img (x .slot) (x .head) (bytesAt (sentData c) (x .name)) (bytesAt (sentData c) (x .rule))
+    FileSent (versionOf img) (countOf img) c x × Creates img (x .slot) (x .head) (bytesAt (sentData c) (x .name)) (bytesAt (sentData c) (x .rule))
 Tells img c (Delete s) = Deletes img s
 Tells img c (SetLife s life) = Stands img (countOf img) s × (knownLife life ≡ true)
 
 -- the effect can be made
-fit : (img c : List ℕ) (v : Verdict) → Tells img c v → Fit (countOf img) c v
+fit : (img c : List ℕ) (v : Verdict) → Tells img c v → Fit (versionOf img) (countOf img) c v
 fit img c (Refuse w) t = tt
 fit img c (Select d e w) t = tt
 fit img c (Create x) t = t .0

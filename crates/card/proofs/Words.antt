@@ -9,7 +9,7 @@ use borrow.Author.Tests.{eq-eqb}
 use Rattle.laws.proofs.Says.{and-says, not-says, or-says}
 use Rattle.rules.specs.Descriptor.{df}
 use Rattle.rules.specs.Life.{isDeactivated, isTerminated}
-use Rattle.image.specs.Layout.{countOf, currentDfOf}
+use Rattle.image.specs.Layout.{versionOf, countOf, currentDfOf}
 use Rattle.sound.specs.Table.{viewAt}
 use Rattle.create_data.specs.declared.Data.{Data}
 use Rattle.create_data.specs.declared.Data.the-variants.{Df, Ef, Bad}
@@ -77,7 +77,7 @@ module _ (img c : List ℕ) (st : State) where
   plan-worded n d =
       chosen-by WordedThen (instruction c) _ _ _ (λ e. followed-by (Worded c) refuses refused _ refl (λ a. selecting-worded e d _))
       (λ z. chosen-by WordedThen (instruction c) _ _ _
-      (λ e. followed-by (Worded c) refuses refused _ refl (λ a. creating-worded d _ (dataOf (sentData c))))
+      (λ e. followed-by (Worded c) refuses refused _ refl (λ a. creating-worded d _ (dataOf (versionOf img) (sentData c))))
       (λ z. chosen-by WordedThen (instruction c) _ _ _ (λ e. followed-by (Worded c) refuses refused _ refl (λ a. plain _ refl))
       (λ z. chosen-by WordedThen (instruction c) _ _ _ (λ e. followed-by (Worded c) refuses refused _ refl (λ a. plain _ refl))
       (λ z. chosen-by WordedThen (instruction c) _ _ _ (λ e. followed-by (Worded c) refuses refused _ refl (λ a. plain _ refl))

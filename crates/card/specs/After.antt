@@ -8,7 +8,7 @@ use Rattle.laws.specs.Lists.{part}
 use Rattle.numbers.specs.Numbers.{be16}
 use Rattle.rules.specs.Descriptor.{df}
 use Rattle.template.specs.Objects.{bytesAt}
-use Rattle.image.specs.Layout.{recAt, withLife, recordBytes, freeBytes, currentDfOf, currentEfOf, none}
+use Rattle.image.specs.Layout.{versionOf, recAt, withLife, recordBytes, freeBytes, currentDfOf, currentEfOf, none}
 use Rattle.sound.specs.Table.{viewAt}
 use Rattle.sound.specs.Kinship.{atOrBeneath}
 use Rattle.verdict.specs.declared.Verdict.{Verdict}
@@ -21,7 +21,7 @@ recordAfter img c (Refuse word) t = recAt img t
 recordAfter img c (Select d e word) t = recAt img t
 -- CREATE: the record in the new slot
 recordAfter img c (Create x) t =
-    cond (eqb t (x .slot)) (recordBytes (x .head) (bytesAt (sentData c) (x .name)) (bytesAt (sentData c) (x .rule))) (recAt img t)
+    cond (eqb t (x .slot)) (recordBytes (versionOf img) (x .head) (bytesAt (sentData c) (x .name)) (bytesAt (sentData c) (x .rule))) (recAt img t)
 -- DELETE: the file and all beneath it become zero records
 recordAfter img c (Delete s) t = cond (atOrBeneath (viewAt img) s t) freeBytes (recAt img t)
 -- a life-cycle command: one byte of one record

@@ -1,12 +1,13 @@
 -- What one call gives, for any image, command, state and response: the reply, every byte of the image afterwards, and every byte of
 -- the response. `lent` is how many bytes the response has.
-use Prim.Native.Nat.{ℕ, _≤_}
+use Prim.Native.Nat.{ℕ, _+_, _≤_}
 use mathlib.Core.Path.{_≡_}
 use mathlib.Core.Bool.{Bool, cond}
 use mathlib.Core.List.{List}
 use lib.Dec.{leb}
 use lib.ListN.{length}
 use Rattle.laws.specs.Lists.{splice}
+use Rattle.image.specs.Layout.{longestRule, versionOf}
 use Rattle.sound.specs.Sound.{soundb}
 use Rattle.verdict.specs.declared.State.{State}
 use Rattle.verdict.specs.declared.Verdict.{Verdict}
@@ -66,4 +67,4 @@ pub record CommandPromises (img c : List ℕ) (st : State) (response : List ℕ)
   pub word : answerWord r ≡ cond (soundb img) (wordOf (dueOf img c st (length response))) 0x0000
   pub bytes : answerTold r ≡ cond (soundb img) (length (told img c (dueOf img c st (length response)))) 0
   -- so few that every number holds them
-  pub few : answerTold r ≤ 53
+  pub few : answerTold r ≤ 37 + longestRule (versionOf img)

@@ -10,7 +10,8 @@ use Prim.Native.Nat.{ℕ, _+_, _/_, _%_, _<_, _≤_}
 use lib.ListN.{length, getD}
 use Rattle.rules.specs.declared.Right.the-variants.{DeleteSelf, Terminate, Activate, Deactivate, DeleteChild}
 use Rattle.rules.specs.Life.{lifeOf, creation, initialisation, activated, deactivated, terminated}
-use Rattle.image.specs.Layout.{countOf, currentDfOf, currentEfOf, none, recAt}
+use Rattle.image.specs.Layout.{versionOf, countOf, currentDfOf, currentEfOf, none, recAt}
+use Rattle.create_data.specs.declared.Data.{Data}
 use Rattle.sound.specs.Table.{File, viewAt, up}
 use Rattle.sound.specs.Kinship.{childNamed, roomFor}
 use Rattle.create_data.specs.Data.{dataOf}
@@ -102,18 +103,22 @@ FreeIdentifier img d i =
 abbrev pub FreeName : List ℕ → List ℕ → Type 0
 FreeName img name = (name ≡ [] → ⊥) → (s : ℕ) → s < countOf img → viewAt img s .name ≡ name → ⊥
 
+-- the new file that CREATE's data describe, as a card of this version reads them
+abbrev pub newOf : List ℕ → List ℕ → Data
+newOf img c = dataOf (versionOf img) (sentData c)
+
 abbrev pub createAsks : List ℕ → List ℕ → State → List Ask
 createAsks img c st =
     knownAsks img c
     (alone st                                                                                        -- E
     ∷ parametersAre c 0x00 0x00                                                                      -- F
     ∷ ask ((1 ≤ lc c) × (length c ≡ 5 + lc c)) 0x6700                                                -- G
-    ∷ ask (DfData (sentData c) ⊎ EfData (sentData c)) 0x6A80                                         -- H
-    ∷ ask (allowedAt img (currentDfOf img) (rightFor (dataOf (sentData c))) (st .sets) ≡ true) 0x6982           -- J
+    ∷ ask (DfData (versionOf img) (sentData c) ⊎ EfData (versionOf img) (sentData c)) 0x6A80         -- H
+    ∷ ask (allowedAt img (currentDfOf img) (rightFor (newOf img c)) (st .sets) ≡ true) 0x6982           -- J
     ∷ ask ((lifeOf (lifeAt img (currentDfOf img)) ≡ deactivated → ⊥) × NoneTerminated img (currentDfOf img)) 0x6985   -- K
-    ∷ ask (FreeIdentifier img (currentDfOf img) (newIdentifier (dataOf (sentData c)))) 0x6A89        -- L
-    ∷ ask (FreeName img (newName (sentData c) (dataOf (sentData c)))) 0x6A8A
-    ∷ ask (newSize (dataOf (sentData c)) + 64 ≤ roomFor (countOf img) (viewAt img) (currentDfOf img)) 0x6A84
+    ∷ ask (FreeIdentifier img (currentDfOf img) (newIdentifier (newOf img c))) 0x6A89                -- L
+    ∷ ask (FreeName img (newName (sentData c) (newOf img c))) 0x6A8A
+    ∷ ask (newSize (newOf img c) + 64 ≤ roomFor (countOf img) (viewAt img) (currentDfOf img)) 0x6A84
     ∷ [])
 
 -- the child of the current DF that DELETE names

@@ -9,7 +9,8 @@ use lib.ListN.{length, getD}
 use Rattle.laws.specs.declared.Found.the-variants.{At}
 use Rattle.laws.specs.Lists.{splice}
 use Rattle.laws.specs.Settled.{Settles}
-use Rattle.image.specs.Layout.{recAt, freeBytes, kindOf, countOf, currentDfOf, currentEfOf}
+use Rattle.image.specs.Layout.{formOf, longestRule, versionOf, recAt, freeBytes, kindOf, countOf, currentDfOf, currentEfOf}
+use Rattle.access.specs.Access.{compact}
 use Rattle.sound.specs.Table.{viewAt}
 use Rattle.sound.specs.Sound.{Sound, soundb}
 use Rattle.sound.specs.Kinship.{terminatedAt, childNamed, atOrBeneath}
@@ -73,9 +74,9 @@ OthersTellNothing = (img c : List ℕ) (st : State) (response : List ℕ) → (i
     → (responseOf img c st response ≡ response) × (answerTold (replyOf img c st (length response)) ≡ 0)
     × (replyOf img c st (length response) ≡ Short → ⊥)
 
--- a response of 53 bytes is never too short
+-- a response of 37 bytes and as many as the version's longest rule is never too short: 53 bytes on version 1, 67 on version 2
 abbrev pub LongEnough : Type 0
-LongEnough = (img c : List ℕ) (st : State) (lent : ℕ) → 53 ≤ lent → replyOf img c st lent ≡ Short → ⊥
+LongEnough = (img c : List ℕ) (st : State) (lent : ℕ) → 37 + longestRule (versionOf img) ≤ lent → replyOf img c st lent ≡ Short → ⊥
 
 -- the response keeps its length, and every byte past what was told
 pub record PastStays (response answered : List ℕ) (n : ℕ) : Type 0 where
@@ -90,6 +91,14 @@ ResponseStays = (img c : List ℕ) (st : State) (response : List ℕ)
 -- a sound image stays sound; the length of any image stays
 abbrev pub StaysSound : Type 0
 StaysSound = (img c : List ℕ) (st : State) (lent : ℕ) → Sound img → Sound (imageOf img c st lent)
+
+-- .. and its version; so a card of version 1 stays compact
+abbrev pub VersionStays : Type 0
+VersionStays = (img c : List ℕ) (st : State) (lent : ℕ) → Sound img → versionOf (imageOf img c st lent) ≡ versionOf img
+
+abbrev pub StaysCompact : Type 0
+StaysCompact = (img c : List ℕ) (st : State) (lent s : ℕ) → Sound img → versionOf img ≡ 1 → s < countOf img
+    → formOf (recAt (imageOf img c st lent) s) ≡ compact
 
 abbrev pub LengthStays : Type 0
 LengthStays = (img c : List ℕ) (st : State) (lent : ℕ) → length (imageOf img c st lent) ≡ length img

@@ -6,7 +6,7 @@ use mathlib.Core.Bool.{true, cond}
 use mathlib.Core.List.{List, [], _∷_}
 use mathlib.Core.Logic.{_⊎_}
 use lib.Dec.{eqb}
-use Rattle.image.specs.Layout.{countOf}
+use Rattle.image.specs.Layout.{versionOf, countOf}
 use Rattle.sound.specs.Table.{viewAt}
 use Rattle.sound.specs.Kinship.{freeSlot}
 use Rattle.create_data.specs.Grammar.{DfData, EfData, first}
@@ -40,4 +40,4 @@ OnlyCreated = (img c : List ℕ) (st : State) (lent s : ℕ) → s < countOf img
 abbrev pub KeptAsGiven : Type 0
 KeptAsGiven = (img c : List ℕ) (st : State) (lent : ℕ) → instruction c ≡ 0xE0 → answerWord (replyOf img c st lent) ≡ 0x9000
     → let new : ℕ = lifeAt (imageOf img c st lent) (slotIn (freeSlot (countOf img) (viewAt img))) in
-    ((t : DfData (sentData c)) → new ≡ first (t .life)) × ((t : EfData (sentData c)) → new ≡ first (t .life))
+    ((t : DfData (versionOf img) (sentData c)) → new ≡ first (t .life)) × ((t : EfData (versionOf img) (sentData c)) → new ≡ first (t .life))

@@ -20,7 +20,6 @@ use Rattle.template.specs.Objects.{bytesAt}
 use Rattle.create_data.specs.declared.NewFile.{NewFile}
 use Rattle.create_data.specs.declared.Data.{Data}
 use Rattle.create_data.specs.declared.Data.the-variants.{Df, Ef, Bad}
-use Rattle.create_data.specs.Data.{dataOf}
 use Rattle.verdict.specs.declared.State.{State}
 use Rattle.verdict.specs.Applied.{sentData}
 use Rattle.fcp.specs.Template.{templateOf}
@@ -30,7 +29,7 @@ use Rattle.card.specs.declared.Reply.{Reply}
 use Rattle.card.specs.declared.Reply.the-variants.{Word, Short}
 use Rattle.card.specs.Command.{replyOf, imageOf, responseOf}
 use Rattle.card.specs.Conditions.{Ask, Met, Refused, unknownAsks, selectAsks, createAsks, deleteAsks, activateAsks}
-use Rattle.card.specs.Conditions.{deactivateAsks, terminateEfAsks, terminateDfAsks, terminateCardAsks, found, namedChild}
+use Rattle.card.specs.Conditions.{deactivateAsks, terminateEfAsks, terminateDfAsks, terminateCardAsks, found, newOf, namedChild}
 
 -- a refusal tells nothing; the one without a word is answer 5
 abbrev pub refusal : ℕ → Reply
@@ -71,6 +70,7 @@ newRecord img s slot kind x =
       kind = kind;
       descriptor = x .descriptor;
       life = x .life;
+      form = x .form;
       identifier = x .identifier;
       parent = currentDfOf img;
       level = viewAt img (currentDfOf img) .level + 1;
@@ -87,7 +87,7 @@ creating img s slot (Ef x) = newRecord img s slot ef x
 abbrev pub CreateObeys : Type 0
 CreateObeys = (img c : List ℕ) (st : State) (response : List ℕ) → Sound img → instruction c ≡ 0xE0
     → Obeys img c st response (createAsks img c st) 0x9000
-    (creating img (sentData c) (slotIn (freeSlot (countOf img) (viewAt img))) (dataOf (sentData c))) []
+    (creating img (sentData c) (slotIn (freeSlot (countOf img) (viewAt img))) (newOf img c)) []
 
 -- DELETE: the child and all beneath it become zero records; a deleted current EF becomes none
 abbrev pub DeleteObeys : Type 0

@@ -17,47 +17,48 @@ use Rattle.template.specs.declared.Objects.{Objects}
 use Rattle.create_data.specs.declared.Data.{Data}
 use Rattle.create_data.specs.declared.Data.the-variants.{Bad}
 use Rattle.template.specs.Objects.{startIn, endIn, lengthIn, valueIn, objectsOf, Held}
-use Rattle.create_data.specs.Form.{t82, t83, t84, t8A, t8C, t80, t81, lacks, dfForm, efForm}
+use Rattle.create_data.specs.Form.{t82, t83, t84, t8A, t80, t81, lacks, oneRule, ruleIn, dfForm, efForm}
 use Rattle.template.specs.Values.{firstOf, pairOf, recordLengthOf, numberOf, fitsName}
-use Rattle.create_data.specs.Data.{isTemplate, need, nameGood, bothGood, newFile, dfOf, sizedEf, efOf, fileOf, dataOf}
+use Rattle.create_data.specs.Data.{isTemplate, need, nameGood, ruleGood, bothGood, newFile, dfOf, sizedEf, efOf, fileOf, dataOf}
 use Rattle.create_data.specs.Good.{GoodFile, Good}
 use Rattle.template.proofs.Holding.{held}
 use Rattle.create_data.proofs.Meaning.{name-fits}
 
 -- past a test: only the branch that goes on is to be shown good
-module _ (s : List ℕ) where
-  needed : (b : Bool) (x : Data) → (b ≡ true → Good s x) → Good s (need b x)
+module _ (v : ℕ) (s : List ℕ) where
+  needed : (b : Bool) (x : Data) → (b ≡ true → Good v s x) → Good v s (need b x)
   needed true x f = f refl
   needed false x f = tt
 
-  not-zero : (k : ℕ) (x : Data) → ((k ≡ 0 → ⊥) → Good s x) → Good s (cond (eqb k 0) Bad x)
+  not-zero : (k : ℕ) (x : Data) → ((k ≡ 0 → ⊥) → Good v s x) → Good v s (cond (eqb k 0) Bad x)
   not-zero k x f = go (eqb k 0) refl
     where
-      go : (b : Bool) → eqb k 0 ≡ b → Good s (cond b Bad x)
+      go : (b : Bool) → eqb k 0 ≡ b → Good v s (cond b Bad x)
       go true p = tt
       go false p = f (eqb-false k 0 p)
 
-  by-class : (k m : ℕ) (x y : Data) → (k ≡ m → Good s x) → Good s y → Good s (cond (eqb k m) x y)
+  by-class : (k m : ℕ) (x y : Data) → (k ≡ m → Good v s x) → Good v s y → Good v s (cond (eqb k m) x y)
   by-class k m x y f g = go (eqb k m) refl
     where
-      go : (b : Bool) → eqb k m ≡ b → Good s (cond b x y)
+      go : (b : Bool) → eqb k m ≡ b → Good v s (cond b x y)
       go true p = f (eqb-true k m p)
       go false p = g
 
-module _ (s : List ℕ) (o : Objects) (h : Held s o) where
-  file-good : (n z : ℕ) → bothGood s o ≡ true → GoodFile s (newFile s o n z)
-  unfolding bothGood newFile
+module _ (v : ℕ) (s : List ℕ) (o : Objects) (h : Held s o) where
+  file-good : (n z : ℕ) → bothGood v s o ≡ true → GoodFile v s (newFile s o n z)
+  unfolding bothGood ruleGood newFile
   file-good n z e =
       let p = and-says (goodIdentifier (pairOf (valueIn s o t83))) _ .0 e in
       let q = and-says (newLife (firstOf (valueIn s o t8A))) _ .0 (p .1) in
+      let r = and-says (oneRule o) _ .0 (q .1) in
       record {
         identifier = p .0;
         life = q .0;
         name-low = h .low t84;
         name-high = h .high t84;
-        rule-low = h .low t8C;
-        rule-high = h .high t8C;
-        rule = q .1;
+        rule-low = h .low (ruleIn o);
+        rule-high = h .high (ruleIn o);
+        rule = r .1;
       }
 
   -- an EF's list has no place for a name
@@ -81,26 +82,27 @@ module _ (s : List ℕ) (o : Objects) (h : Held s o) where
           (omega (arith, h .low t84, h .high t84)) in
           omega (arith, name-fits (valueIn s o t84) .0 q)
 
-  df-good : classOf (firstOf (valueIn s o t82)) ≡ df → Good s (dfOf s o)
+  df-good : classOf (firstOf (valueIn s o t82)) ≡ df → Good v s (dfOf v s o)
   unfolding dfOf newFile
   df-good k =
-      needed s (dfForm o) _
-      (λ f. needed s (nameGood s o) _ (λ n. needed s (bothGood s o) _ (λ b. not-zero s (numberOf (valueIn s o t81)) _ (λ z.
+      needed v s (dfForm o) _
+      (λ f. needed v s (nameGood s o) _ (λ n. needed v s (bothGood v s o) _ (λ b. not-zero v s (numberOf (valueIn s o t81)) _ (λ z.
       record { class = k; file = file-good 0 _ b; name-short = name-good n; total = z; plain = refl }))))
 
-  ef-good : classOf (firstOf (valueIn s o t82)) ≡ ef → Good s (efOf s o (firstOf (valueIn s o t82)))
+  ef-good : classOf (firstOf (valueIn s o t82)) ≡ ef → Good v s (efOf v s o (firstOf (valueIn s o t82)))
   unfolding efOf sizedEf newFile
   ef-good k =
       let d : ℕ = firstOf (valueIn s o t82) in
       let z : ℕ = numberOf (valueIn s o t80) in
-      needed s (efForm o d) _
-      (λ f. needed s (bothGood s o) _ (λ b. not-zero s z _ (λ n. needed s (goodLength d (recordLengthOf (valueIn s o t82)) z) _ (λ g.
+      needed v s (efForm o d) _
+      (λ f. needed v s (bothGood v s o) _ (λ b. not-zero v s z _ (λ n.
+      needed v s (goodLength d (recordLengthOf (valueIn s o t82)) z) _ (λ g.
       record { class = k; file = file-good _ _ b; nameless = none-sent d f; size = n; records = g }))))
 
-pub good : (s : List ℕ) → Good s (dataOf s)
+pub good : (v : ℕ) (s : List ℕ) → Good v s (dataOf v s)
 unfolding dataOf fileOf
-good s =
+good v s =
     let o : Objects = objectsOf s in
     let k : ℕ = classOf (firstOf (valueIn s o t82)) in
-    needed s (isTemplate s) _ (λ t. needed s (eqb (o .next) (length s)) _ (λ n.
-    by-class s k df _ _ (df-good s o (held s)) (by-class s k ef _ _ (ef-good s o (held s)) tt)))
+    needed v s (isTemplate s) _ (λ t. needed v s (eqb (o .next) (length s)) _ (λ n.
+    by-class v s k df _ _ (df-good v s o (held s)) (by-class v s k ef _ _ (ef-good v s o (held s)) tt)))

@@ -15,16 +15,16 @@ use Rattle.template.specs.declared.Objects.{Objects}
 use Rattle.create_data.specs.declared.Data.{Data}
 use Rattle.create_data.specs.declared.Data.the-variants.{Bad}
 use Rattle.template.specs.Objects.{valueIn, objectsOf}
-use Rattle.create_data.specs.Form.{t82, t83, t84, t8A, t8C, t80, t81, dfForm, efForm}
+use Rattle.create_data.specs.Form.{t82, t83, t84, t8A, t8C, tAB, t80, t81, dfForm, efForm}
 use Rattle.template.specs.Values.{firstOf, pairOf, recordLengthOf, numberOf}
 use Rattle.create_data.specs.Data.{isTemplate, nameGood, bothGood, newFile, dfOf, sizedEf, efOf, fileOf, dataOf}
 use Rattle.create_data.specs.Grammar.{Optional, absent, sent, object, optional, template, valueOf, first, number}
-use Rattle.create_data.specs.Grammar.{Private, neither, in85, inA5, privately}
+use Rattle.create_data.specs.Grammar.{Private, neither, in85, inA5, privately, Ruled, in8C, inAB, ruled, ruleOf, ruleForm}
 use Rattle.create_data.specs.Grammar.{FileData, DfData, EfData, DfRead, EfRead, DataExactly, DataRead}
 use Rattle.create_data.proofs.Noting.{isAbsent, Noted, standing-noted}
 use Rattle.create_data.proofs.Order.{run, written-told, written-ends}
 use Rattle.create_data.proofs.Meaning.{and, each, first-is, pair-is, number-is, name-says, file-to, layout-to, layout-length}
-use Rattle.create_data.proofs.Forms.{value-is, lacks-is, df-form, ef-form}
+use Rattle.create_data.proofs.Forms.{ruledOf, value-is, lacks-is, rule-value, rule-form, both-is, df-form, ef-form}
 use Rattle.create_data.proofs.Taken.{taken}
 
 -- past a test
@@ -34,7 +34,28 @@ on P b x y e h = rw e h
 off : (P : Data → Type 0) (b : Bool) (x y : Data) → b ≡ false → P y → P (cond b x y)
 off P b x y e h = rw e h
 
--- 85 and A5 as two of the ten
+-- 8C and AB as two of the eleven
+abbrev as8C : Ruled → Optional
+as8C (in8C v) = sent v
+as8C (inAB v) = absent
+
+abbrev asAB : Ruled → Optional
+asAB (in8C v) = absent
+asAB (inAB v) = sent v
+
+rule-one : (r : Ruled) → (isAbsent (as8C r) || isAbsent (asAB r)) ≡ true
+rule-one (in8C v) = refl
+rule-one (inAB v) = refl
+
+rule-same : (r : Ruled) → ruledOf (as8C r) (asAB r) ≡ r
+rule-same (in8C v) = refl
+rule-same (inAB v) = refl
+
+rule-bytes : (r : Ruled) (l : List ℕ) → ruled r ++ l ≡ optional 0x8C (as8C r) ++ (optional 0xAB (asAB r) ++ l)
+rule-bytes (in8C v) l = refl
+rule-bytes (inAB v) l = refl
+
+-- 85 and A5 as two more
 abbrev as85 : Private → Optional
 as85 neither = absent
 as85 (in85 v) = sent v
@@ -55,32 +76,32 @@ private-bytes neither = refl
 private-bytes (in85 v) = sym (append-nil (object 0x85 v))
 private-bytes (inA5 v) = sym (append-nil (object 0xA5 v))
 
--- the ten, by their numbers
-abbrev ten : List Optional → ℕ → Optional
-ten xs k = getD xs k absent
+-- the eleven, by their numbers
+abbrev byNumber : List Optional → ℕ → Optional
+byNumber xs k = getD xs k absent
 
-abbrev dfTen : {s : List ℕ} → DfData s → ℕ → Optional
-dfTen t =
-    ten (sent (t .descriptor) ∷ sent (t .identifier) ∷ t .name ∷ sent (t .life) ∷ sent (t .rule)
+abbrev dfObjects : {v : ℕ} {s : List ℕ} → DfData v s → ℕ → Optional
+dfObjects t =
+    byNumber (sent (t .descriptor) ∷ sent (t .identifier) ∷ t .name ∷ sent (t .life) ∷ as8C (t .rule) ∷ asAB (t .rule)
     ∷ absent ∷ sent (t .total) ∷ sent (t .security) ∷ as85 (t .private) ∷ asA5 (t .private) ∷ [])
 
-abbrev efTen : {s : List ℕ} → EfData s → ℕ → Optional
-efTen t =
-    ten (sent (t .descriptor) ∷ sent (t .identifier) ∷ absent ∷ sent (t .life) ∷ sent (t .rule)
+abbrev efObjects : {v : ℕ} {s : List ℕ} → EfData v s → ℕ → Optional
+efObjects t =
+    byNumber (sent (t .descriptor) ∷ sent (t .identifier) ∷ absent ∷ sent (t .life) ∷ as8C (t .rule) ∷ asAB (t .rule)
     ∷ sent (t .size) ∷ absent ∷ absent ∷ as85 (t .private) ∷ asA5 (t .private) ∷ [])
 
--- data that are ten such objects, some of them absent
-module _ (s : List ℕ) (x : ℕ → Optional) (w : s ≡ template (run 10 0 x)) (short : length s ≤ 2 + 0x7F) where
+-- data that are eleven such objects, some of them absent
+module _ (v : ℕ) (s : List ℕ) (x : ℕ → Optional) (w : s ≡ template (run 11 0 x)) (short : length s ≤ 2 + 0x7F) where
   long : 2 ≤ length s
   long = omega (arith, ap length w)
 
-  body : drop 2 s ≡ run 10 0 x
+  body : drop 2 s ≡ run 11 0 x
   body = ap (λ (l : List ℕ). drop 2 l) w
 
   is-template : isTemplate s ≡ true
   unfolding isTemplate
   is-template =
-      let os : List ℕ = run 10 0 x in
+      let os : List ℕ = run 11 0 x in
       rw w
       (and (le-leb 2 (length (template os)) (omega arith))
       (and refl
@@ -91,7 +112,7 @@ module _ (s : List ℕ) (x : ℕ → Optional) (w : s ≡ template (run 10 0 x))
 
   -- the reader goes on to tell a DF from an EF
   opened : (P : Data → Type 0) → let d : ℕ = firstOf (valueIn s (objectsOf s) t82) in
-      P (cond (eqb (classOf d) df) (dfOf s (objectsOf s)) (cond (eqb (classOf d) ef) (efOf s (objectsOf s) d) Bad)) → P (dataOf s)
+      P (cond (eqb (classOf d) df) (dfOf v s (objectsOf s)) (cond (eqb (classOf d) ef) (efOf v s (objectsOf s) d) Bad)) → P (dataOf v s)
   unfolding dataOf fileOf
   opened P h =
       on P (isTemplate s) _ _ is-template
@@ -101,25 +122,23 @@ module _ (s : List ℕ) (x : ℕ → Optional) (w : s ≡ template (run 10 0 x))
   class-is v k e h = ap classOf (ap firstOf (value-is s x (objectsOf s) noted-as t82 (lit< tt) ∙ e) ∙ first-is v) ∙ h
 
 -- identifier, life cycle and rule are good, o being what was noted
-both-good : (s : List ℕ) (x : ℕ → Optional) (o : Objects) → Noted s x o
-    → FileData (valueOf (x t83)) (valueOf (x t8A)) (valueOf (x t8C)) → bothGood s o ≡ true
-unfolding bothGood
-both-good s x o g f =
-    let v = value-is s x o g in
-    rw (v t83 (lit< tt), v t8A (lit< tt), v t8C (lit< tt)) (file-to _ _ _ f)
+both-good : (v : ℕ) (s : List ℕ) (x : ℕ → Optional) (o : Objects) → Noted s x o → (r : Ruled) → as8C r ≡ x t8C → asAB r ≡ x tAB
+    → FileData v (valueOf (x t83)) (valueOf (x t8A)) r → bothGood v s o ≡ true
+both-good v s x o g r p q f =
+    both-is s x o g v ∙ rw (← p, ← q, rule-same r) (file-to v _ _ (isAbsent (as8C r) || isAbsent (asAB r)) r (rule-one r) f)
 
 -- what is read of a DF's objects
-module _ (s : List ℕ) (t : DfData s) where
+module _ (v : ℕ) (s : List ℕ) (t : DfData v s) where
   security-short : length (t .security) ≤ 0x7F
   security-short = omega (arith, t .short, simp length-append at (ap length (t .written)))
 
-  df-read : (o : Objects) → Noted s (dfTen t) o → DfRead s t (dfOf s o)
+  df-read : (o : Objects) → Noted s (dfObjects t) o → DfRead v s t (dfOf v s o)
   unfolding dfOf newFile nameGood
   df-read o g =
-      let P = DfRead s t in
-      let x = dfTen t in
-      let v = value-is s x o g in
-      let z : numberOf (valueIn s o t81) ≡ number (t .total) = ap numberOf (v t81 (lit< tt)) ∙ number-is (t .total) (t .total-long) in
+      let P = DfRead v s t in
+      let x = dfObjects t in
+      let u = value-is s x o g in
+      let z : numberOf (valueIn s o t81) ≡ number (t .total) = ap numberOf (u t81 (lit< tt)) ∙ number-is (t .total) (t .total-long) in
       on P (dfForm o) _ _
       (df-form s x o g .1 (record {
         descriptor = omega (arith, t .descriptor-long);
@@ -130,27 +149,28 @@ module _ (s : List ℕ) (t : DfData s) where
         private = private-one (t .private);
         no-size = refl;
       }))
-      (on P (nameGood s o) _ _ (rw (lacks-is s x o g t84 (lit< tt), v t84 (lit< tt)) (name-says (t .name) .1 (t .name-long)))
-      (on P (bothGood s o) _ _ (both-good s x o g (t .file))
+      (on P (nameGood s o) _ _ (rw (lacks-is s x o g t84 (lit< tt), u t84 (lit< tt)) (name-says (t .name) .1 (t .name-long)))
+      (on P (bothGood v s o) _ _ (both-good v s x o g (t .rule) refl refl (t .file))
       (off P (eqb (numberOf (valueIn s o t81)) 0) _ _ (ne-eqb _ 0 (λ y. t .total-some (sym z ∙ y))) (
-        ap firstOf (v t82 (lit< tt)) ∙ first-is (t .descriptor),
-        ap pairOf (v t83 (lit< tt)) ∙ pair-is (t .identifier) (t .file .identifier-long),
-        ap firstOf (v t8A (lit< tt)) ∙ first-is (t .life),
-        v t84 (lit< tt),
-        v t8C (lit< tt),
+        ap firstOf (u t82 (lit< tt)) ∙ first-is (t .descriptor),
+        ap pairOf (u t83 (lit< tt)) ∙ pair-is (t .identifier) (t .file .identifier-long),
+        ap firstOf (u t8A (lit< tt)) ∙ first-is (t .life),
+        u t84 (lit< tt),
+        rule-form s x o g ∙ ap ruleForm (rule-same (t .rule)),
+        rule-value s x o g ∙ ap ruleOf (rule-same (t .rule)),
         z,
       ))))
 
 -- and of an EF's
-module _ (s : List ℕ) (t : EfData s) where
-  ef-read : (o : Objects) → Noted s (efTen t) o → EfRead s t (efOf s o (firstOf (valueIn s o t82)))
+module _ (v : ℕ) (s : List ℕ) (t : EfData v s) where
+  ef-read : (o : Objects) → Noted s (efObjects t) o → EfRead v s t (efOf v s o (firstOf (valueIn s o t82)))
   unfolding efOf sizedEf newFile
   ef-read o g =
-      let P = EfRead s t in
-      let x = efTen t in
-      let v = value-is s x o g in
+      let P = EfRead v s t in
+      let x = efObjects t in
+      let u = value-is s x o g in
       let d : ℕ = firstOf (valueIn s o t82) in
-      let z : numberOf (valueIn s o t80) ≡ number (t .size) = ap numberOf (v t80 (lit< tt)) ∙ number-is (t .size) (t .size-long) in
+      let z : numberOf (valueIn s o t80) ≡ number (t .size) = ap numberOf (u t80 (lit< tt)) ∙ number-is (t .size) (t .size-long) in
       let l = each (layout-to (t .descriptor) (number (t .size)) (t .layout)) in
       on P (efForm o d) _ _
       (ef-form s x o g .1 (record {
@@ -163,38 +183,42 @@ module _ (s : List ℕ) (t : EfData s) where
         no-total = refl;
         no-security = refl;
       }))
-      (on P (bothGood s o) _ _ (both-good s x o g (t .file))
+      (on P (bothGood v s o) _ _ (both-good v s x o g (t .rule) refl refl (t .file))
       (off P (eqb (numberOf (valueIn s o t80)) 0) _ _ (ne-eqb _ 0 (λ y. t .size-some (sym z ∙ y)))
-      (on P (goodLength d (recordLengthOf (valueIn s o t82)) (numberOf (valueIn s o t80))) _ _ (rw (v t82 (lit< tt), z) (l .1)) (
-        ap firstOf (v t82 (lit< tt)) ∙ first-is (t .descriptor),
-        ap pairOf (v t83 (lit< tt)) ∙ pair-is (t .identifier) (t .file .identifier-long),
-        ap firstOf (v t8A (lit< tt)) ∙ first-is (t .life),
-        ap recordLengthOf (v t82 (lit< tt)) ∙ layout-length (t .descriptor) (number (t .size)) (t .layout),
-        v t8C (lit< tt),
+      (on P (goodLength d (recordLengthOf (valueIn s o t82)) (numberOf (valueIn s o t80))) _ _ (rw (u t82 (lit< tt), z) (l .1)) (
+        ap firstOf (u t82 (lit< tt)) ∙ first-is (t .descriptor),
+        ap pairOf (u t83 (lit< tt)) ∙ pair-is (t .identifier) (t .file .identifier-long),
+        ap firstOf (u t8A (lit< tt)) ∙ first-is (t .life),
+        ap recordLengthOf (u t82 (lit< tt)) ∙ layout-length (t .descriptor) (number (t .size)) (t .layout),
+        rule-form s x o g ∙ ap ruleForm (rule-same (t .rule)),
+        rule-value s x o g ∙ ap ruleOf (rule-same (t .rule)),
         z,
       ))))
 
 pub data-read : DataRead
-data-read s = (of-df, of-ef)
+data-read v s = (of-df, of-ef)
   where
-    of-df : (t : DfData s) → DfRead s t (dataOf s)
+    of-df : (t : DfData v s) → DfRead v s t (dataOf v s)
     of-df t =
-        let x = dfTen t in
-        let w : s ≡ template (run 10 0 x) = rw (private-bytes (t .private)) at (t .written) in
-        let k : classOf (firstOf (valueIn s (objectsOf s) t82)) ≡ df = class-is s x w (t .short) (t .descriptor) df refl (t .class) in
-        opened s x w (t .short) (DfRead s t)
-        (on (DfRead s t) (eqb (classOf (firstOf (valueIn s (objectsOf s) t82))) df) _ _ (rw k)
-        (df-read s t (objectsOf s) (noted-as s x w (t .short))))
+        let x = dfObjects t in
+        let w : s ≡ template (run 11 0 x) = rw (private-bytes (t .private), rule-bytes (t .rule)) at (t .written) in
+        let k : classOf (firstOf (valueIn s (objectsOf s) t82)) ≡ df = class-is v s x w (t .short) (t .descriptor) df refl (t .class) in
+        opened v s x w (t .short) (DfRead v s t)
+        (on (DfRead v s t) (eqb (classOf (firstOf (valueIn s (objectsOf s) t82))) df) _ _ (rw k)
+        (df-read v s t (objectsOf s) (noted-as v s x w (t .short))))
 
-    of-ef : (t : EfData s) → EfRead s t (dataOf s)
+    of-ef : (t : EfData v s) → EfRead v s t (dataOf v s)
     of-ef t =
-        let x = efTen t in
-        let w : s ≡ template (run 10 0 x) = rw (private-bytes (t .private)) at (t .written) in
-        let k : classOf (firstOf (valueIn s (objectsOf s) t82)) ≡ ef = class-is s x w (t .short) (t .descriptor) ef refl (t .class) in
-        opened s x w (t .short) (EfRead s t)
-        (off (EfRead s t) (eqb (classOf (firstOf (valueIn s (objectsOf s) t82))) df) _ _ (rw k)
-        (on (EfRead s t) (eqb (classOf (firstOf (valueIn s (objectsOf s) t82))) ef) _ _ (rw k)
-        (ef-read s t (objectsOf s) (noted-as s x w (t .short)))))
+        let x = efObjects t in
+        let w : s ≡ template (run 11 0 x) = rw (private-bytes (t .private), rule-bytes (t .rule)) at (t .written) in
+        let k : classOf (firstOf (valueIn s (objectsOf s) t82)) ≡ ef = class-is v s x w (t .short) (t .descriptor) ef refl (t .class) in
+        opened v s x w (t .short) (EfRead v s t)
+        (off (EfRead v s t) (eqb (classOf (firstOf (valueIn s (objectsOf s) t82))) df) _ _ (rw k)
+        (on (EfRead v s t) (eqb (classOf (firstOf (valueIn s (objectsOf s) t82))) ef) _ _ (rw k)
+        (ef-read v s t (objectsOf s) (noted-as v s x w (t .short)))))
 
 pub data-exactly : DataExactly
-data-exactly s = (taken s, ⊎-elim (λ t e. subst (DfRead s t) e (data-read s .0 t)) (λ t e. subst (EfRead s t) e (data-read s .1 t)))
+data-exactly v s = (
+  taken v s,
+  ⊎-elim (λ t e. subst (DfRead v s t) e (data-read v s .0 t)) (λ t e. subst (EfRead v s t) e (data-read v s .1 t)),
+)

@@ -7,3 +7,4 @@ pub mod Meaning
 pub mod Forms
 pub mod Taken
 pub mod Grammar
+pub mod Versions

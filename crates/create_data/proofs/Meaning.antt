@@ -3,21 +3,23 @@ use mathlib.Core.Path.{_≡_, refl, sym, ap, _∙_}
 use mathlib.Core.Bool.{Bool, true, false, not, cond, _&&_, _||_, false≢true}
 use mathlib.Core.List.{List, [], _∷_}
 use mathlib.Core.Logic.{_↔_, _⊎_, inl, inr, ⊎-elim}
-use Prim.Native.Nat.{ℕ, _*_, _/_, _%_, _≤_}
+use Prim.Native.Nat.{ℕ, _*_, _/_, _%_, _<_, _≤_}
 use native.Mathlib.Nat.{div-add-mod', mul-mod-left, mul-div-left}
 use native.Mathlib.Omega.{arith}
 use lib.ListN.{length, drop, drop-of-length-le}
 use lib.Dec.{eqb, leb}
-use borrow.Author.Tests.{eqb-true, eq-eqb}
+use borrow.Author.Tests.{eqb-true, eq-eqb, ltb-true, lt-ltb}
 use Rattle.laws.specs.Tests.{either}
 use Rattle.laws.proofs.Says.{and-says, or-says, not-says, either-says, le-says, untrue}
 use Rattle.numbers.specs.Numbers.{u16At, u32At}
 use Rattle.rules.specs.Descriptor.{structureOf, hasRecords}
 use Rattle.rules.specs.Life.{newLife}
-use Rattle.rules.specs.Rule.{wellFormed, fitsRecord}
 use Rattle.rules.specs.Value.{goodIdentifier, wholeRecords, goodLength}
+use Rattle.image.specs.Layout.{longestRule, formsOf}
+use Rattle.access.specs.Access.{wellFormed, fitsRecord}
 use Rattle.template.specs.Values.{firstOf, pairOf, recordLengthOf, numberOf, fitsName}
-use Rattle.create_data.specs.Grammar.{Optional, absent, sent, valueOf, first, number, Long, NameLong, FileData}
+use Rattle.create_data.specs.Grammar.{Optional, absent, sent, valueOf, Ruled, ruleOf, ruleForm, first, number, Long}
+use Rattle.create_data.specs.Grammar.{NameLong, FileData}
 use Rattle.create_data.specs.Grammar.{Structured, Records, Layout, plain, records}
 use Rattle.create_data.proofs.Noting.{isAbsent}
 
@@ -94,27 +96,31 @@ identifier-says n = (
     isnt : (m : ℕ) → (not (eqb n m) ≡ true) ↔ (n ≡ m → ⊥)
     isnt m = (λ e z. not-says (eqb n m) .0 e (eq-eqb n m z), λ f. not-says (eqb n m) .1 (λ z. f (eqb-true n m z)))
 
-pub rule-says : (v : List ℕ) → (fitsRecord v ≡ true) ↔ (Long 1 16 v × (wellFormed v ≡ true))
+pub rule-says : (v form : ℕ) (r : List ℕ)
+    → (fitsRecord v form r ≡ true) ↔ (Long 1 (longestRule v) r × (form < formsOf v) × (wellFormed form r ≡ true))
 unfolding fitsRecord
-rule-says v = (
+rule-says v form r = (
   λ e.
       let p = each e in
       let q = each (p .1) in
-      ((le-says _ _ .0 (p .0), le-says _ _ .0 (q .0)), q .1),
-  λ f. and (le-says _ _ .1 (f .0 .0)) (and (le-says _ _ .1 (f .0 .1)) (f .1)),
+      let t = each (q .1) in
+      ((le-says _ _ .0 (p .0), le-says _ _ .0 (q .0)), ltb-true form (formsOf v) (t .0), t .1),
+  λ f. and (le-says _ _ .1 (f .0 .0)) (and (le-says _ _ .1 (f .0 .1)) (and (lt-ltb form (formsOf v) (f .1)) (f .2))),
 )
 
--- what DF and EF share
-abbrev pub fileTest : List ℕ → List ℕ → List ℕ → Bool
-fileTest i l r = goodIdentifier (pairOf i) && (newLife (firstOf l) && fitsRecord r)
+-- what DF and EF share; the rule is there once
+abbrev pub fileTest : ℕ → List ℕ → List ℕ → Bool → Ruled → Bool
+fileTest v i l once r = goodIdentifier (pairOf i) && (newLife (firstOf l) && (once && fitsRecord v (ruleForm r) (ruleOf r)))
 
-pub file-from : (i l r : List ℕ) → length i ≡ 2 → length l ≡ 1 → fileTest i l r ≡ true → FileData i l r
-file-from i l r two one e =
+pub file-from : (v : ℕ) (i l : List ℕ) (once : Bool) (r : Ruled) → length i ≡ 2 → length l ≡ 1
+    → fileTest v i l once r ≡ true → (once ≡ true) × FileData v i l r
+file-from v i l once r two one e =
     let p = each e in
     let q = each (p .1) in
+    let t = each (q .1) in
     let a = identifier-says (number i) .0 (sym (ap goodIdentifier (pair-is i two)) ∙ p .0) in
-    let b = rule-says r .0 (q .1) in
-    record {
+    let b = rule-says v (ruleForm r) (ruleOf r) .0 (t .1) in
+    (t .0, record {
       identifier-long = two;
       not-3FFF = a .0;
       not-7FFF = a .1;
@@ -122,13 +128,15 @@ file-from i l r two one e =
       life-long = one;
       life-cycle = sym (ap newLife (first-is l)) ∙ q .0;
       rule-long = b .0;
-      rule-formed = b .1;
-    }
+      rule-form = b .1;
+      rule-formed = b .2;
+    })
 
-pub file-to : (i l r : List ℕ) → FileData i l r → fileTest i l r ≡ true
-file-to i l r f =
+pub file-to : (v : ℕ) (i l : List ℕ) (once : Bool) (r : Ruled) → once ≡ true → FileData v i l r → fileTest v i l once r ≡ true
+file-to v i l once r e f =
     and (ap goodIdentifier (pair-is i (f .identifier-long)) ∙ identifier-says (number i) .1 (f .not-3FFF, f .not-7FFF, f .not-FFFF))
-    (and (ap newLife (first-is l) ∙ f .life-cycle) (rule-says r .1 (f .rule-long, f .rule-formed)))
+    (and (ap newLife (first-is l) ∙ f .life-cycle)
+    (and e (rule-says v (ruleForm r) (ruleOf r) .1 (f .rule-long, f .rule-form, f .rule-formed))))
 
 -- records
 pub structure-says : (v : List ℕ) → (hasRecords (first v) ≡ true) ↔ Structured v

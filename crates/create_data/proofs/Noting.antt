@@ -100,14 +100,14 @@ pub record Stands (s : List ℕ) (a e : ℕ) (x : Optional) : Type 0 where
   pub long : e - a ≡ length (valueOf x)
   pub lacking : eqb a 0 ≡ isAbsent x
 
--- each of the ten is noted where it stands
+-- each of the eleven is noted where it stands
 abbrev pub Noted : List ℕ → (ℕ → Optional) → Objects → Type 0
-Noted s x o = (k : ℕ) → k < 10 → Stands s (startIn o k) (endIn o k) (x k)
+Noted s x o = (k : ℕ) → k < 11 → Stands s (startIn o k) (endIn o k) (x k)
 
 -- the objects below k are noted, the others are to come
 record Upto (s : List ℕ) (x : ℕ → Optional) (k : ℕ) (o : Objects) : Type 0 where
-  starts-ten : length (o .starts) ≡ 10
-  ends-ten : length (o .ends) ≡ 10
+  starts-long : length (o .starts) ≡ 11
+  ends-long : length (o .ends) ≡ 11
   read : (j : ℕ) → j < k → Stands s (startIn o j) (endIn o j) (x j)
   start-none : (j : ℕ) → k ≤ j → startIn o j ≡ 0
   end-none : (j : ℕ) → k ≤ j → endIn o j ≡ 0
@@ -118,11 +118,11 @@ unfolding part
 stands-none s = record { value = refl; long = refl; lacking = refl }
 
 -- a step keeps it so
-module _ (s : List ℕ) (x : ℕ → Optional) (k : ℕ) (lt : k < 10) (o : Objects) (h : Upto s x k o) where
+module _ (s : List ℕ) (x : ℕ → Optional) (k : ℕ) (lt : k < 11) (o : Objects) (h : Upto s x k o) where
   none-noted : x k ≡ absent → Upto s x (suc k) o
   none-noted q = record {
-    starts-ten = h .starts-ten;
-    ends-ten = h .ends-ten;
+    starts-long = h .starts-long;
+    ends-long = h .ends-long;
     read = λ j m. ⊎-elim (here j) (h .read j) (split-lt m);
     start-none = λ j m. h .start-none j (omega arith);
     end-none = λ j m. h .end-none j (omega arith);
@@ -149,8 +149,8 @@ module _ (s : List ℕ) (x : ℕ → Optional) (k : ℕ) (lt : k < 10) (o : Obje
 
     one-noted : Upto s x (suc k) (noted o k (o .next + 2) (o .next + 2 + length v))
     one-noted = record {
-      starts-ten = length-set (o .starts) k a ∙ h .starts-ten;
-      ends-ten = length-set (o .ends) k b ∙ h .ends-ten;
+      starts-long = length-set (o .starts) k a ∙ h .starts-long;
+      ends-long = length-set (o .ends) k b ∙ h .ends-long;
       read = λ j m. ⊎-elim (here j) (λ i. other j (λ z. omega arith) (h .read j i)) (split-lt m);
       start-none = λ j m. getD-set-other (o .starts) k j a 0 (λ z. omega arith) ∙ h .start-none j (omega arith);
       end-none = λ j m. getD-set-other (o .ends) k j b 0 (λ z. omega arith) ∙ h .end-none j (omega arith);
@@ -165,8 +165,8 @@ module _ (s : List ℕ) (x : ℕ → Optional) (k : ℕ) (lt : k < 10) (o : Obje
 
         here : (j : ℕ) → j ≡ k → Stands s (getD (set (o .starts) k a) j 0) (getD (set (o .ends) k b) j 0) (x j)
         here j z =
-            let p : k < length (o .starts) = omega (arith, h .starts-ten) in
-            let r : k < length (o .ends) = omega (arith, h .ends-ten) in
+            let p : k < length (o .starts) = omega (arith, h .starts-long) in
+            let r : k < length (o .ends) = omega (arith, h .ends-long) in
             rw (z, q, getD-set-same (o .starts) k a 0 p, getD-set-same (o .ends) k b 0 r) stands
 
         other : (j : ℕ) → (j ≡ k → ⊥) → Stands s (startIn o j) (endIn o j) (x j)
@@ -179,14 +179,14 @@ module _ (s : List ℕ) (x : ℕ → Optional) (k : ℕ) (lt : k < 10) (o : Obje
 
 -- what the reader notes is what is standing, in any data that have 62 LL
 module _ (s : List ℕ) (long : 2 ≤ length s) where
-  upto : (k : ℕ) → k ≤ 10 → Upto s (standing s) k (takenBelow k s)
+  upto : (k : ℕ) → k ≤ 11 → Upto s (standing s) k (takenBelow k s)
   unfolding takenBelow standing
   upto zero l = record {
-    starts-ten = refl;
-    ends-ten = refl;
+    starts-long = refl;
+    ends-long = refl;
     read = λ j m. absurd (not-suc-le-zero m);
-    start-none = λ j m. zeros 10 j;
-    end-none = λ j m. zeros 10 j;
+    start-none = λ j m. zeros 11 j;
+    end-none = λ j m. zeros 11 j;
     within = long;
   }
   upto (suc k) l =
@@ -195,8 +195,8 @@ module _ (s : List ℕ) (long : 2 ≤ length s) where
 
   pub standing-noted : Noted s (standing s) (objectsOf s)
   unfolding objectsOf
-  standing-noted = upto 10 (omega arith) .read
+  standing-noted = upto 11 (omega arith) .read
 
   pub next-within : objectsOf s .next ≤ length s
   unfolding objectsOf
-  next-within = upto 10 (omega arith) .within
+  next-within = upto 11 (omega arith) .within

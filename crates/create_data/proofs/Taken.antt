@@ -1,6 +1,6 @@
 -- Data that are not bad are a DF's or an EF's, as the grammar writes them.
 use mathlib.Core.Path.{_≡_, refl, sym, ap, _∙_}
-use mathlib.Core.Bool.{Bool, true, false, cond}
+use mathlib.Core.Bool.{Bool, true, false, cond, _||_}
 use mathlib.Core.List.{List, [], _∷_, _++_, append-nil}
 use mathlib.Core.Logic.{_⊎_, inl, inr, ⊎-elim}
 use Prim.Native.Nat.{ℕ, _+_, _-_, _≤_}
@@ -16,14 +16,15 @@ use Rattle.template.specs.declared.Objects.{Objects}
 use Rattle.create_data.specs.declared.Data.{Data}
 use Rattle.create_data.specs.declared.Data.the-variants.{Bad}
 use Rattle.template.specs.Objects.{valueIn, objectsOf}
-use Rattle.create_data.specs.Form.{t82, t83, t84, t8A, t8C, t80, t81, tC6, t85, tA5, dfForm, efForm}
+use Rattle.create_data.specs.Form.{t82, t83, t84, t8A, t8C, tAB, t80, t81, tC6, t85, tA5, dfForm, efForm}
 use Rattle.template.specs.Values.{firstOf, recordLengthOf, numberOf}
 use Rattle.create_data.specs.Data.{isTemplate, need, nameGood, bothGood, dfOf, sizedEf, efOf, fileOf, dataOf}
 use Rattle.create_data.specs.Grammar.{template, valueOf, number, Long, FileData, DfData, EfData}
-use Rattle.create_data.proofs.Noting.{standing, standing-noted}
+use Rattle.create_data.proofs.Noting.{isAbsent, standing, standing-noted}
 use Rattle.create_data.proofs.Order.{run, standing-written}
 use Rattle.create_data.proofs.Meaning.{and, each, first-is, number-is, name-says, file-from, layout-from, layout-some}
-use Rattle.create_data.proofs.Forms.{DfForm, EfForm, value-is, lacks-is, df-form, ef-form, privateOf, df-bytes, ef-bytes}
+use Rattle.create_data.proofs.Forms.{DfForm, EfForm, ruledOf, value-is, lacks-is, both-is, df-form, ef-form, privateOf}
+use Rattle.create_data.proofs.Forms.{df-bytes, ef-bytes}
 
 -- a test that what isn't bad has passed
 needed : (b : Bool) (x : Data) → (need b x ≡ Bad → ⊥) → (b ≡ true) × (x ≡ Bad → ⊥)
@@ -60,98 +61,98 @@ template-is s e =
     go (a ∷ b ∷ os) l p q r = let z : b ≡ length os = omega arith in (cc, omega arith, l)
 
 -- the objects end the data
-module _ (s : List ℕ) (w : s ≡ template (drop 2 s)) (short : length s ≤ 2 + 0x7F) (long : 2 ≤ length s)
+module _ (v : ℕ) (s : List ℕ) (w : s ≡ template (drop 2 s)) (short : length s ≤ 2 + 0x7F) (long : 2 ≤ length s)
     (ends : objectsOf s .next ≡ length s) where
-  body : drop 2 s ≡ run 10 0 (standing s)
+  body : drop 2 s ≡ run 11 0 (standing s)
   body =
       standing-written s
-      ∙ ap (λ (l : List ℕ). run 10 0 (standing s) ++ l) (ap (λ (n : ℕ). drop n s) ends ∙ drop-length s)
-      ∙ append-nil (run 10 0 (standing s))
+      ∙ ap (λ (l : List ℕ). run 11 0 (standing s) ++ l) (ap (λ (n : ℕ). drop n s) ends ∙ drop-length s)
+      ∙ append-nil (run 11 0 (standing s))
 
-  file-taken : Long 2 2 (valueOf (standing s t83)) → Long 1 1 (valueOf (standing s t8A)) → bothGood s (objectsOf s) ≡ true
-      → FileData (valueOf (standing s t83)) (valueOf (standing s t8A)) (valueOf (standing s t8C))
-  unfolding bothGood
+  file-taken : Long 2 2 (valueOf (standing s t83)) → Long 1 1 (valueOf (standing s t8A)) → bothGood v s (objectsOf s) ≡ true
+      → ((isAbsent (standing s t8C) || isAbsent (standing s tAB)) ≡ true)
+      × FileData v (valueOf (standing s t83)) (valueOf (standing s t8A)) (ruledOf (standing s t8C) (standing s tAB))
   file-taken i l e =
-      let v = value-is s (standing s) (objectsOf s) (standing-noted s long) in
-      file-from (valueOf (standing s t83)) (valueOf (standing s t8A)) (valueOf (standing s t8C)) (omega arith) (omega arith)
-      (rw (v t83 (lit< tt), v t8A (lit< tt), v t8C (lit< tt)) at e)
+      let x = standing s in
+      file-from v (valueOf (x t83)) (valueOf (x t8A)) (isAbsent (x t8C) || isAbsent (x tAB)) (ruledOf (x t8C) (x tAB))
+      (omega arith) (omega arith) (sym (both-is s x (objectsOf s) (standing-noted s long) v) ∙ e)
 
-  df-taken : classOf (firstOf (valueIn s (objectsOf s) t82)) ≡ df → (dfOf s (objectsOf s) ≡ Bad → ⊥) → DfData s
+  df-taken : classOf (firstOf (valueIn s (objectsOf s) t82)) ≡ df → (dfOf v s (objectsOf s) ≡ Bad → ⊥) → DfData v s
   unfolding dfOf nameGood
   df-taken k n =
       let o : Objects = objectsOf s in
       let x = standing s in
       let g = standing-noted s long in
-      let v = value-is s x o g in
+      let u = value-is s x o g in
       let a = needed (dfForm o) _ n in
       let b = needed (nameGood s o) _ (a .1) in
-      let c = needed (bothGood s o) _ (b .1) in
+      let c = needed (bothGood v s o) _ (b .1) in
       let d = not-zero (numberOf (valueIn s o t81)) _ (c .1) in
       let f : DfForm x = df-form s x o g .0 (a .0) in
       let q = privateOf (x t85) (x tA5) (f .private) in
-      let file : FileData (valueOf (x t83)) (valueOf (x t8A)) (valueOf (x t8C)) = file-taken (f .identifier) (f .life) (c .0) in
+      let file = file-taken (f .identifier) (f .life) (c .0) in
       record {
         descriptor = valueOf (x t82);
         identifier = valueOf (x t83);
         name = x t84;
         life = valueOf (x t8A);
-        rule = valueOf (x t8C);
+        rule = ruledOf (x t8C) (x tAB);
         total = valueOf (x t81);
         security = valueOf (x tC6);
         private = q .0;
-        written = w ∙ ap template (body ∙ df-bytes x (file .rule-long .0) (q .0) (q .1) f);
+        written = w ∙ ap template (body ∙ df-bytes x (file .0) (file .1 .rule-long .0) (q .0) (q .1) f);
         short = short;
         descriptor-long = omega (arith, f .descriptor);
-        class = ap classOf (sym (ap firstOf (v t82 (lit< tt)) ∙ first-is (valueOf (x t82)))) ∙ k;
-        file = file;
-        name-long = name-says (x t84) .0 (rw (lacks-is s x o g t84 (lit< tt), v t84 (lit< tt)) at (b .0));
+        class = ap classOf (sym (ap firstOf (u t82 (lit< tt)) ∙ first-is (valueOf (x t82)))) ∙ k;
+        file = file .1;
+        name-long = name-says (x t84) .0 (rw (lacks-is s x o g t84 (lit< tt), u t84 (lit< tt)) at (b .0));
         total-long = f .total;
-        total-some = λ z. d .0 (ap numberOf (v t81 (lit< tt)) ∙ number-is _ (f .total) ∙ z);
+        total-some = λ z. d .0 (ap numberOf (u t81 (lit< tt)) ∙ number-is _ (f .total) ∙ z);
         security-long = f .security .0;
       }
 
   ef-taken : classOf (firstOf (valueIn s (objectsOf s) t82)) ≡ ef
-      → (efOf s (objectsOf s) (firstOf (valueIn s (objectsOf s) t82)) ≡ Bad → ⊥) → EfData s
+      → (efOf v s (objectsOf s) (firstOf (valueIn s (objectsOf s) t82)) ≡ Bad → ⊥) → EfData v s
   unfolding efOf sizedEf
   ef-taken k n =
       let o : Objects = objectsOf s in
       let x = standing s in
       let g = standing-noted s long in
-      let v = value-is s x o g in
+      let u = value-is s x o g in
       let a = needed (efForm o (firstOf (valueIn s o t82))) _ n in
-      let b = needed (bothGood s o) _ (a .1) in
+      let b = needed (bothGood v s o) _ (a .1) in
       let c = not-zero (numberOf (valueIn s o t80)) _ (b .1) in
       let d = needed (goodLength (firstOf (valueIn s o t82)) (recordLengthOf (valueIn s o t82)) (numberOf (valueIn s o t80))) _ (c .1) in
       let f : EfForm x = ef-form s x o g .0 (a .0) in
       let q = privateOf (x t85) (x tA5) (f .private) in
-      let file : FileData (valueOf (x t83)) (valueOf (x t8A)) (valueOf (x t8C)) = file-taken (f .identifier) (f .life) (b .0) in
-      let z : numberOf (valueIn s o t80) ≡ number (valueOf (x t80)) = ap numberOf (v t80 (lit< tt)) ∙ number-is _ (f .size) in
-      let layout = layout-from (valueOf (x t82)) (number (valueOf (x t80))) (and (f .descriptor) (rw (v t82 (lit< tt), z) at (d .0))) in
+      let file = file-taken (f .identifier) (f .life) (b .0) in
+      let z : numberOf (valueIn s o t80) ≡ number (valueOf (x t80)) = ap numberOf (u t80 (lit< tt)) ∙ number-is _ (f .size) in
+      let layout = layout-from (valueOf (x t82)) (number (valueOf (x t80))) (and (f .descriptor) (rw (u t82 (lit< tt), z) at (d .0))) in
       record {
         descriptor = valueOf (x t82);
         identifier = valueOf (x t83);
         life = valueOf (x t8A);
-        rule = valueOf (x t8C);
+        rule = ruledOf (x t8C) (x tAB);
         size = valueOf (x t80);
         private = q .0;
-        written = w ∙ ap template (body ∙ ef-bytes x (file .rule-long .0) (q .0) (q .1) f (layout-some _ _ layout));
+        written = w ∙ ap template (body ∙ ef-bytes x (file .0) (file .1 .rule-long .0) (q .0) (q .1) f (layout-some _ _ layout));
         short = short;
-        class = ap classOf (sym (ap firstOf (v t82 (lit< tt)) ∙ first-is (valueOf (x t82)))) ∙ k;
+        class = ap classOf (sym (ap firstOf (u t82 (lit< tt)) ∙ first-is (valueOf (x t82)))) ∙ k;
         layout = layout;
-        file = file;
+        file = file .1;
         size-long = f .size;
         size-some = λ y. c .0 (z ∙ y);
       }
 
-pub taken : (s : List ℕ) → (dataOf s ≡ Bad → ⊥) → DfData s ⊎ EfData s
+pub taken : (v : ℕ) (s : List ℕ) → (dataOf v s ≡ Bad → ⊥) → DfData v s ⊎ EfData v s
 unfolding dataOf fileOf
-taken s n =
+taken v s n =
     let o : Objects = objectsOf s in
     let k : ℕ = classOf (firstOf (valueIn s o t82)) in
     let a = needed (isTemplate s) _ n in
     let b = needed (eqb (o .next) (length s)) _ (a .1) in
     let w = template-is s (a .0) in
     let e = eqb-true (o .next) (length s) (b .0) in
-    ⊎-elim (λ c. inl (df-taken s (w .0) (w .1) (w .2) e (c .0) (c .1)))
-    (λ c. ⊎-elim (λ d. inr (ef-taken s (w .0) (w .1) (w .2) e (d .0) (d .1))) (λ d. absurd (d refl)) (by-class k ef _ _ c))
+    ⊎-elim (λ c. inl (df-taken v s (w .0) (w .1) (w .2) e (c .0) (c .1)))
+    (λ c. ⊎-elim (λ d. inr (ef-taken v s (w .0) (w .1) (w .2) e (d .0) (d .1))) (λ d. absurd (d refl)) (by-class k ef _ _ c))
     (by-class k df _ _ (b .1))

@@ -1,7 +1,7 @@
 -- Both sides of a line, on whole templates: row W9 of 01 (record length 10: size 20 good, 25 bad; length 1: 254
 -- good, 255 bad), the two templates of 01's replay, and an 82 whose second byte isn't 21, which 01 has seen
--- others refuse.
-use Prim.Native.Nat.{ℕ}
+-- others refuse; then rules of either form (02 Ticket 3), the same data on cards of versions 1 and 2.
+use Prim.Native.Nat.{ℕ, zero, suc}
 use mathlib.Core.Path.{_≡_, refl}
 use mathlib.Core.List.{List, [], _∷_, _++_}
 use Rattle.laws.specs.Lists.{part}
@@ -9,16 +9,22 @@ use Rattle.numbers.specs.Numbers.{u16At, u32At}
 use Rattle.rules.specs.Descriptor.{classOf, hasRecords}
 use Rattle.rules.specs.Life.{lifeOf, knownLife, newLife}
 use Rattle.rules.specs.Group.{nextOf, someGroup}
-use Rattle.rules.specs.Rule.{malformedAt, wellFormed, fitsRecord}
+use Rattle.rules.specs.Rule.{malformedAt, compactFormed}
 use Rattle.rules.specs.Value.{goodIdentifier, wholeRecords, goodLength}
 use Rattle.laws.specs.Tests.{either}
+use Rattle.expanded.specs.Object.{objectsFrom, objectsOf as expandedObjects, every, several}
+use Rattle.expanded.specs.Condition.{formedPlain, isTemplate as isNesting, formed}
+use Rattle.expanded.specs.Expanded.{isAm, inPlace, goesOn, expandedFormed}
+use Rattle.image.specs.Layout.{longestRule, formsOf}
+use Rattle.access.specs.Access.{compact, expanded, wellFormed, fitsRecord}
 use Rattle.create_data.specs.declared.NewFile.{NewFile}
 use Rattle.create_data.specs.declared.Data.{Data}
 use Rattle.create_data.specs.declared.Data.the-variants.{Df, Ef, Bad}
 use Rattle.template.specs.Objects.{objectAt, takenAt, takenBelow, objectsOf}
-use Rattle.create_data.specs.Form.{lacks, has, onePrivate, dfForm, firstForm, efForm}
+use Rattle.create_data.specs.Form.{lacks, has, onePrivate, oneRule, ruleIn, formIn, dfForm, firstForm, efForm}
 use Rattle.template.specs.Values.{pairOf, recordLengthOf, numberOf, fitsName}
-use Rattle.create_data.specs.Data.{isTemplate, nameGood, bothGood, newFile, dfOf, sizedEf, efOf, fileOf, dataOf}
+use Rattle.create_data.specs.Data.{isTemplate, nameGood, ruleGood, bothGood, newFile, dfOf, sizedEf, efOf, fileOf, dataOf}
+use Rattle.create_data.specs.Grammar.{object, template}
 
 -- a linear fixed EF, with this second byte of 82, record length and size
 abbrev pub linear : ℕ → ℕ → ℕ → List ℕ
@@ -38,9 +44,10 @@ replayEf =
     0x62 ∷ 0x13 ∷ 0x82 ∷ 0x02 ∷ 0x41 ∷ 0x21 ∷ 0x83 ∷ 0x02 ∷ 0x6F ∷ 0x07 ∷ 0x8A ∷ 0x01 ∷ 0x05 ∷ 0x8C ∷ 0x02
     ∷ 0x01 ∷ 0x00 ∷ 0x80 ∷ 0x02 ∷ 0x00 ∷ 0x09 ∷ []
 
-abbrev pub answers : List (List ℕ) → List Data
-answers [] = []
-answers (t ∷ ts) = dataOf t ∷ answers ts
+-- what a card of a version reads
+abbrev pub answers : ℕ → List (List ℕ) → List Data
+answers v [] = []
+answers v (t ∷ ts) = dataOf v t ∷ answers v ts
 
 -- what is sent
 abbrev pub sent : List (List ℕ)
@@ -54,11 +61,12 @@ sent =
     ∷ []
 
 -- what is read: a file with no name
-abbrev pub file : ℕ → ℕ → ℕ → ℕ → ℕ → ℕ → NewFile
-file descriptor identifier length from to size = record {
+abbrev pub file : ℕ → ℕ → ℕ → ℕ → ℕ → ℕ → ℕ → NewFile
+file descriptor identifier form length from to size = record {
   descriptor = descriptor;
   identifier = identifier;
   life = 0x05;
+  form = form;
   «record_length» = length;
   size = size;
   name = record { start = 0; end = 0 };
@@ -67,13 +75,53 @@ file descriptor identifier length from to size = record {
 
 abbrev pub readings : List Data
 readings =
-    Ef (file 0x42 0x6F07 10 17 19 20) ∷ Bad ∷ Ef (file 0x42 0x6F07 1 17 19 254) ∷ Bad
-    ∷ Ef (file 0x42 0x6F07 10 17 19 20) ∷ Bad
-    ∷ Df (file 0x78 0x7F10 0 15 18 0x0100) ∷ Ef (file 0x41 0x6F07 0 15 17 9) ∷ Bad
+    Ef (file 0x42 0x6F07 compact 10 17 19 20) ∷ Bad ∷ Ef (file 0x42 0x6F07 compact 1 17 19 254) ∷ Bad
+    ∷ Ef (file 0x42 0x6F07 compact 10 17 19 20) ∷ Bad
+    ∷ Df (file 0x78 0x7F10 compact 0 15 18 0x0100) ∷ Ef (file 0x41 0x6F07 compact 0 15 17 9) ∷ Bad
     ∷ []
 
-pub lines : answers sent ≡ readings
-unfolding dataOf isTemplate fileOf dfOf efOf sizedEf newFile bothGood nameGood lacks has onePrivate dfForm firstForm efForm pairOf
-    recordLengthOf numberOf fitsName objectAt takenAt takenBelow objectsOf part u16At u32At classOf hasRecords lifeOf knownLife newLife
-    nextOf someGroup malformedAt wellFormed fitsRecord goodIdentifier wholeRecords goodLength either
+pub lines : answers 1 sent ≡ readings
+unfolding dataOf isTemplate fileOf dfOf efOf sizedEf newFile ruleGood bothGood nameGood lacks has onePrivate oneRule ruleIn formIn dfForm
+    firstForm efForm pairOf recordLengthOf numberOf fitsName objectAt takenAt takenBelow objectsOf part u16At u32At classOf hasRecords
+    lifeOf knownLife newLife nextOf someGroup malformedAt compactFormed longestRule formsOf wellFormed fitsRecord goodIdentifier
+    wholeRecords goodLength either
 lines = refl
+
+-- the replay's EF with these objects in the place of its rule
+abbrev pub ruledBy : List ℕ → List ℕ
+ruledBy objects =
+    template
+    (object 0x82 (0x41 ∷ 0x21 ∷ []) ++ (object 0x83 (0x6F ∷ 0x07 ∷ []) ++ (object 0x8A (0x05 ∷ []) ++ (objects
+    ++ object 0x80 (0x00 ∷ 0x09 ∷ [])))))
+
+-- an expanded rule of 5 bytes; compact ones of 16 and 17, each condition always
+abbrev pub always : List ℕ
+always = 0x80 ∷ 0x01 ∷ 0x01 ∷ 0x90 ∷ 0x00 ∷ []
+
+abbrev pub groups : ℕ → List ℕ → List ℕ
+groups zero rest = rest
+groups (suc n) rest = 0x01 ∷ 0x00 ∷ groups n rest
+
+-- what is sent to a card of each version
+abbrev pub ruledSent : List (List ℕ)
+ruledSent =
+    -- AB; AB with a malformed rule
+    ruledBy (object 0xAB always) ∷ ruledBy (object 0xAB (0x80 ∷ 0x01 ∷ 0x01 ∷ []))
+    -- 8C and AB; neither
+    ∷ ruledBy (object 0x8C (0x01 ∷ 0x00 ∷ []) ++ object 0xAB always) ∷ ruledBy []
+    -- 8C of 16 bytes and of 17
+    ∷ ruledBy (object 0x8C (groups 8 [])) ∷ ruledBy (object 0x8C (groups 7 (0x03 ∷ 0x00 ∷ 0x00 ∷ [])))
+    ∷ []
+
+-- the rule's form and its end
+abbrev pub ruledFile : ℕ → ℕ → Data
+ruledFile form end = Ef (file 0x41 0x6F07 form 0 15 end 9)
+
+pub rule-lines :
+    (answers 1 ruledSent ≡ Bad ∷ Bad ∷ Bad ∷ Bad ∷ ruledFile compact 31 ∷ Bad ∷ [])
+    × (answers 2 ruledSent ≡ ruledFile expanded 20 ∷ Bad ∷ Bad ∷ Bad ∷ ruledFile compact 31 ∷ ruledFile compact 32 ∷ [])
+unfolding dataOf isTemplate fileOf efOf sizedEf newFile ruleGood bothGood lacks has onePrivate oneRule ruleIn formIn firstForm efForm
+    pairOf recordLengthOf numberOf objectAt takenAt takenBelow objectsOf part u16At u32At classOf hasRecords lifeOf knownLife newLife
+    nextOf someGroup malformedAt compactFormed longestRule formsOf wellFormed fitsRecord goodIdentifier wholeRecords goodLength either
+    objectsFrom expandedObjects every several formedPlain isNesting formed isAm inPlace goesOn expandedFormed
+rule-lines = (refl, refl)

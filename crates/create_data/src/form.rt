@@ -1,15 +1,15 @@
 // Which objects a DF's and an EF's template must have, and how long (01 "CREATE", the two lists). An object
-// goes by its number in the list of tags. The name (84) and the rule (8C) are left to their readers.
+// goes by its number in the list of tags. The name (84) and the rule (8C or AB) are left to their readers.
 ghost use mathlib.Core.Path.{_≡_};
 ghost use Prim.Native.Nat.{_<_};
 ghost use Rattle.template.specs.Objects.{lengthIn};
-ghost use Rattle.create_data.specs.Form.{lacks, has, onePrivate, dfForm, firstForm, efForm};
+ghost use Rattle.create_data.specs.Form.{lacks, has, onePrivate, oneRule, ruleIn, formIn, dfForm, firstForm, efForm};
 use rules::descriptor;
 use template::Objects;
 
 // Whether object k is not there.
 pub fn is_absent(o: Objects, k: usize) -> bool
-    requires { ⌜ k < 10 ⌝ }
+    requires { ⌜ k < 11 ⌝ }
     ensures { λ r. ⌜ r ≡ lacks o k ⌝ }
 {
     o.starts[k] == 0
@@ -17,7 +17,7 @@ pub fn is_absent(o: Objects, k: usize) -> bool
 
 // How many bytes object k has; 0 where it is not there.
 fn length(o: Objects, k: usize) -> usize
-    requires { ⌜ k < 10 ⌝ }
+    requires { ⌜ k < 11 ⌝ }
     ensures { λ r. ⌜ r ≡ lengthIn o k ⌝ }
 {
     let start = o.starts[k];
@@ -30,7 +30,7 @@ fn length(o: Objects, k: usize) -> usize
 
 // Whether object k has low to high bytes.
 fn is_there(o: Objects, k: usize, low: usize, high: usize) -> bool
-    requires { ⌜ k < 10 ⌝ }
+    requires { ⌜ k < 11 ⌝ }
     ensures { λ r. ⌜ r ≡ has o k low high ⌝ }
 {
     let n = length(o, k);
@@ -44,10 +44,40 @@ fn is_there(o: Objects, k: usize, low: usize, high: usize) -> bool
 fn has_one_private(o: Objects) -> bool
     ensures { λ r. ⌜ r ≡ onePrivate o ⌝ }
 {
-    if is_absent(o, 8) {
+    if is_absent(o, 9) {
         return true;
     }
-    is_absent(o, 9)
+    is_absent(o, 10)
+}
+
+// Whether 8C and AB are not both there.
+pub fn has_one_rule(o: Objects) -> bool
+    ensures { λ r. ⌜ r ≡ oneRule o ⌝ }
+{
+    if is_absent(o, 4) {
+        return true;
+    }
+    is_absent(o, 5)
+}
+
+// The number of the object that has the rule: 8C, else AB.
+pub fn rule_in(o: Objects) -> usize
+    ensures { λ r. ⌜ (r ≡ ruleIn o) × (r < 11) ⌝ }
+{
+    if is_absent(o, 4) {
+        return 5;
+    }
+    4
+}
+
+// The form of the rule, by the object that has it.
+pub fn form_in(o: Objects) -> u8
+    ensures { λ r. ⌜ r ≡ formIn o ⌝ }
+{
+    if is_absent(o, 4) {
+        return access::EXPANDED;
+    }
+    access::COMPACT
 }
 
 // A DF's list: 82 (2), 83 (2), 8A (1), 81 (2-4), C6 (at least 1), 85 or A5 optional; no 80.
@@ -63,16 +93,16 @@ pub fn is_df(o: Objects) -> bool
     if !is_there(o, 3, 1, 1) {
         return false;
     }
-    if !is_there(o, 6, 2, 4) {
+    if !is_there(o, 7, 2, 4) {
         return false;
     }
-    if !is_there(o, 7, 1, 127) {
+    if !is_there(o, 8, 1, 127) {
         return false;
     }
     if !has_one_private(o) {
         return false;
     }
-    is_absent(o, 5)
+    is_absent(o, 6)
 }
 
 // Whether 82 has four bytes where the structure has records, else two.
@@ -98,7 +128,7 @@ pub fn is_ef(o: Objects, descriptor: u8) -> bool
     if !is_there(o, 3, 1, 1) {
         return false;
     }
-    if !is_there(o, 5, 2, 4) {
+    if !is_there(o, 6, 2, 4) {
         return false;
     }
     if !has_one_private(o) {
@@ -107,8 +137,8 @@ pub fn is_ef(o: Objects, descriptor: u8) -> bool
     if !is_absent(o, 2) {
         return false;
     }
-    if !is_absent(o, 6) {
+    if !is_absent(o, 7) {
         return false;
     }
-    is_absent(o, 7)
+    is_absent(o, 8)
 }

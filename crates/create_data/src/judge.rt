@@ -1,17 +1,15 @@
 // CREATE's data judged (01 "CREATE", data): 62 LL, the objects of a DF's or an EF's list, and what their
-// values must obey. Any breach is `Bad`. Each value goes to its reader as a part of the data.
+// values must obey on a card of version v. Any breach is `Bad`. Each value goes to its reader as a part of the data.
 ghost use mathlib.Core.Path.{_≡_};
 ghost use Prim.Native.Nat.{_<_};
-ghost use Rattle.rules.specs.Rule.{fitsRecord};
 ghost use Rattle.template.specs.Objects.{Held, valueIn};
 ghost use Rattle.template.specs.Values.{firstOf, pairOf, recordLengthOf, numberOf};
-ghost use Rattle.create_data.specs.Data.{isTemplate, nameGood, bothGood, newFile, dfOf, efOf, sizedEf, fileOf};
+ghost use Rattle.create_data.specs.Data.{isTemplate, nameGood, ruleGood, bothGood, newFile, dfOf, efOf, sizedEf, fileOf};
 use crate::Data;
 use crate::NewFile;
 use crate::form;
 use rules::descriptor;
 use rules::life_cycle;
-use rules::rule;
 use template::Objects;
 use template::Span;
 use template::value;
@@ -34,7 +32,7 @@ pub fn is_template(s: &[u8]) -> bool
 
 // The value of object k, as a part of the data.
 fn value_in(s: &[u8], o: Objects, k: usize) -> &[u8]
-    requires { ⌜ (k < 10) × Held (now s) o ⌝ }
+    requires { ⌜ (k < 11) × Held (now s) o ⌝ }
     ensures { λ r. ⌜ now r ≡ valueIn (now (s .entry)) o k ⌝ }
 {
     let start = o.starts[k];
@@ -44,7 +42,7 @@ fn value_in(s: &[u8], o: Objects, k: usize) -> &[u8]
 
 // The first byte of object k's value.
 fn byte_in(s: &[u8], o: Objects, k: usize) -> u8
-    requires { ⌜ (k < 10) × Held (now s) o ⌝ }
+    requires { ⌜ (k < 11) × Held (now s) o ⌝ }
     ensures { λ r. ⌜ r ≡ firstOf (valueIn (now (s .entry)) o k) ⌝ }
 {
     value::first(value_in(s, o, k))
@@ -68,18 +66,22 @@ fn record_length_in(s: &[u8], o: Objects) -> u16
 
 // The size of object k: 80 or 81.
 fn size_in(s: &[u8], o: Objects, k: usize) -> u32
-    requires { ⌜ (k < 10) × Held (now s) o ⌝ }
+    requires { ⌜ (k < 11) × Held (now s) o ⌝ }
     ensures { λ r. ⌜ r ≡ numberOf (valueIn (now (s .entry)) o k) ⌝ }
 {
     value::number(value_in(s, o, k))
 }
 
-// Whether the rule has 1 to 16 bytes and is well formed.
-fn is_rule_good(s: &[u8], o: Objects) -> bool
+// Whether the rule is there once, and a record of version v may hold it.
+fn is_rule_good(s: &[u8], o: Objects, v: u32) -> bool
     requires { ⌜ Held (now s) o ⌝ }
-    ensures { λ r. ⌜ r ≡ fitsRecord (valueIn (now (s .entry)) o 4) ⌝ }
+    ensures { λ r. ⌜ r ≡ ruleGood v (now (s .entry)) o ⌝ }
 {
-    rule::fits_record(value_in(s, o, 4))
+    if !form::has_one_rule(o) {
+        return false;
+    }
+    let k = form::rule_in(o);
+    access::fits_record(v, form::form_in(o), value_in(s, o, k))
 }
 
 // Whether the name is not there, or has 1 to 16 bytes.
@@ -94,9 +96,9 @@ fn is_name_good(s: &[u8], o: Objects) -> bool
 }
 
 // What identifier, life cycle and rule must obey in every file.
-fn is_both_good(s: &[u8], o: Objects) -> bool
+fn is_both_good(s: &[u8], o: Objects, v: u32) -> bool
     requires { ⌜ Held (now s) o ⌝ }
-    ensures { λ r. ⌜ r ≡ bothGood (now (s .entry)) o ⌝ }
+    ensures { λ r. ⌜ r ≡ bothGood v (now (s .entry)) o ⌝ }
 {
     if !rules::value::good_identifier(identifier_in(s, o)) {
         return false;
@@ -104,7 +106,7 @@ fn is_both_good(s: &[u8], o: Objects) -> bool
     if !life_cycle::is_new(byte_in(s, o, 3)) {
         return false;
     }
-    is_rule_good(s, o)
+    is_rule_good(s, o, v)
 }
 
 // The new file, all tests passed: its numbers, and where its name and its rule stand.
@@ -115,18 +117,21 @@ fn new_file(s: &[u8], o: Objects, length: u16, size: u32) -> NewFile
     let descriptor = byte_in(s, o, 0);
     let identifier = identifier_in(s, o);
     let life = byte_in(s, o, 3);
+    let form = form::form_in(o);
     let name = Span {
         start: o.starts[2],
         end: o.ends[2],
     };
+    let k = form::rule_in(o);
     let rule = Span {
-        start: o.starts[4],
-        end: o.ends[4],
+        start: o.starts[k],
+        end: o.ends[k],
     };
     NewFile {
         descriptor,
         identifier,
         life,
+        form,
         record_length: length,
         size,
         name,
@@ -135,9 +140,9 @@ fn new_file(s: &[u8], o: Objects, length: u16, size: u32) -> NewFile
 }
 
 // A DF by its list and its values.
-fn df(s: &[u8], o: Objects) -> Data
+fn df(s: &[u8], o: Objects, v: u32) -> Data
     requires { ⌜ Held (now s) o ⌝ }
-    ensures { λ r. ⌜ r ≡ dfOf (now (s .entry)) o ⌝ }
+    ensures { λ r. ⌜ r ≡ dfOf v (now (s .entry)) o ⌝ }
 {
     if !form::is_df(o) {
         return Data::Bad;
@@ -145,10 +150,10 @@ fn df(s: &[u8], o: Objects) -> Data
     if !is_name_good(s, o) {
         return Data::Bad;
     }
-    if !is_both_good(s, o) {
+    if !is_both_good(s, o, v) {
         return Data::Bad;
     }
-    let total = size_in(s, o, 6);
+    let total = size_in(s, o, 7);
     if total == 0 {
         return Data::Bad;
     }
@@ -160,7 +165,7 @@ fn sized_ef(s: &[u8], o: Objects, descriptor: u8) -> Data
     requires { ⌜ Held (now s) o ⌝ }
     ensures { λ r. ⌜ r ≡ sizedEf (now (s .entry)) o descriptor ⌝ }
 {
-    let size = size_in(s, o, 5);
+    let size = size_in(s, o, 6);
     if size == 0 {
         return Data::Bad;
     }
@@ -172,23 +177,23 @@ fn sized_ef(s: &[u8], o: Objects, descriptor: u8) -> Data
 }
 
 // An EF by its list and its values.
-fn ef(s: &[u8], o: Objects, descriptor: u8) -> Data
+fn ef(s: &[u8], o: Objects, descriptor: u8, v: u32) -> Data
     requires { ⌜ Held (now s) o ⌝ }
-    ensures { λ r. ⌜ r ≡ efOf (now (s .entry)) o descriptor ⌝ }
+    ensures { λ r. ⌜ r ≡ efOf v (now (s .entry)) o descriptor ⌝ }
 {
     if !form::is_ef(o, descriptor) {
         return Data::Bad;
     }
-    if !is_both_good(s, o) {
+    if !is_both_good(s, o, v) {
         return Data::Bad;
     }
     sized_ef(s, o, descriptor)
 }
 
 // The file by the class of its descriptor, once the objects end the data.
-pub fn file(s: &[u8], o: Objects) -> Data
+pub fn file(s: &[u8], o: Objects, v: u32) -> Data
     requires { ⌜ Held (now s) o ⌝ }
-    ensures { λ r. ⌜ r ≡ fileOf (now (s .entry)) o ⌝ }
+    ensures { λ r. ⌜ r ≡ fileOf v (now (s .entry)) o ⌝ }
 {
     let next = o.next;
     if next != s.len() {
@@ -197,10 +202,10 @@ pub fn file(s: &[u8], o: Objects) -> Data
     let descriptor = byte_in(s, o, 0);
     let class = descriptor::class(descriptor);
     if class == descriptor::DF {
-        return df(s, o);
+        return df(s, o, v);
     }
     if class == descriptor::EF {
-        return ef(s, o, descriptor);
+        return ef(s, o, descriptor, v);
     }
     Data::Bad
 }

@@ -1,4 +1,5 @@
-// The new file that CREATE's data describe, or "bad" (01 "CREATE", data; 6A80), for any bytes.
+// The new file that CREATE's data describe, or "bad" (01 "CREATE", data; 6A80), for any bytes. Which rules
+// fit goes by the card's version (02 Ticket 3).
 //
 // `judge` judges which objects were gathered and the bytes that they point at. Every value is handed on as a part of
 // the data, from the middle of it, and nothing is copied.
@@ -11,12 +12,13 @@ use template::gather;
 pub mod form;
 pub mod judge;
 
-// A new file as CREATE's data describe it: its numbers, and where its name (an empty stretch for none) and its rule stand
-// in the data. The size of a DF is its total; a file without records has record length 0.
+// A new file as CREATE's data describe it: its numbers, the form of its rule, and where its name (an empty stretch for none)
+// and its rule stand in the data. The size of a DF is its total; a file without records has record length 0.
 pub struct NewFile {
     pub descriptor: u8,
     pub identifier: u16,
     pub life: u8,
+    pub form: u8,
     pub record_length: u16,
     pub size: u32,
     pub name: Span,
@@ -29,13 +31,13 @@ pub enum Data {
     Bad,
 }
 
-// CREATE's data read: any bytes, from the byte after Lc to the end of the command.
-pub fn read(s: &[u8]) -> Data
-    ensures { λ r. ⌜ (r ≡ dataOf (now (s .entry))) × Good (now (s .entry)) r ⌝ }
+// CREATE's data read, for a card of version v: any bytes, from the byte after Lc to the end of the command.
+pub fn read(s: &[u8], v: u32) -> Data
+    ensures { λ r. ⌜ (r ≡ dataOf v (now (s .entry))) × Good v (now (s .entry)) r ⌝ }
 {
     if !judge::is_template(s) {
         return Data::Bad;
     }
     let o = gather::all(s);
-    judge::file(s, o)
+    judge::file(s, o, v)
 }

@@ -4,7 +4,7 @@ use mathlib.Core.List.{List}
 use Prim.Native.Nat.{ℕ, _<_, _≤_}
 use lib.ListN.{length}
 use Rattle.template.specs.Objects.{bytesAt}
-use Rattle.image.specs.Layout.{Within, countOf}
+use Rattle.image.specs.Layout.{longestRule, versionOf, Within, countOf}
 use Rattle.image.proofs.Records.{within-sized}
 use Rattle.sound.specs.Effects.{created}
 use Rattle.verdict.specs.declared.NewRecord.{NewRecord}
@@ -18,14 +18,14 @@ use Rattle.effect.proofs.Sent.{length-sent}
 
 module _ (img : List ℕ) (n : ℕ) (c : List ℕ) (v : Verdict) (applies : Applies img n c v) where
   module _ (x : NewRecord) (e : v ≡ Create x) where
-    pub create-sent : FileSent n c x
+    pub create-sent : FileSent (versionOf img) n c x
     create-sent = rw e at (applies .fit)
 
     pub create-fits : (name rule : List ℕ) → name ≡ bytesAt (sentData c) (x .name) → rule ≡ bytesAt (sentData c) (x .rule)
-        → Within img (x .slot) × ((length name ≤ 16) × (length rule ≤ 16))
+        → Within img (x .slot) × ((length name ≤ 16) × (length rule ≤ longestRule (versionOf img)))
     create-fits name rule f g = (
       within-sized img n (x .slot) (applies .rooted .sized) (create-sent .low),
-      (rw f (length-sent c (x .name) (create-sent .name)), rw g (length-sent c (x .rule) (create-sent .rule))),
+      (rw f (length-sent c (x .name) 16 (create-sent .name)), rw g (length-sent c (x .rule) (longestRule (versionOf img)) (create-sent .rule))),
     )
 
   pub delete-fits : (s : ℕ) → v ≡ Delete s → Rooted img n × ((n ≡ countOf img) × (s < n))

@@ -19,7 +19,7 @@ module _ (c : List ℕ) (p : Span) where
       let e : 5 + p .end - (5 + p .start) ≡ p .end - p .start = omega arith in
       ap (λ (k : ℕ). take k (drop (5 + p .start) c)) e ∙ ap (λ (x : List ℕ). take (p .end - p .start) x) (sym (drop-drop (p .start) 5 c))
 
-  pub length-sent : FieldSent c p → length (bytesAt (sentData c) p) ≤ 16
-  length-sent f =
+  pub length-sent : (most : ℕ) → FieldSent most c p → length (bytesAt (sentData c) p) ≤ most
+  length-sent most f =
       let l = length-drop 5 c in
       omega (arith, length-part (sentData c) (p .start) (p .end - p .start) (omega (arith, l, f .order, f .inside)), f .short)

@@ -1,14 +1,14 @@
--- The writes of CREATE and of DELETE, one after the other: x is the image after the records were written, y the
--- image after what is current was set.
+-- The writes of CREATE and of DELETE, one after the other: v is the version that was read, x the image after the records
+-- were written, y the image after what is current was set.
 use mathlib.Core.Path.{_≡_}
 use mathlib.Core.List.{List}
 use mathlib.Core.Bool.{cond}
-use Prim.Native.Nat.{ℕ}
+use Prim.Native.Nat.{ℕ, _≤_}
 use lib.Dec.{eqb}
-use lib.ListN.{getD}
+use lib.ListN.{length, getD}
 use borrow.Author.Tests.{eq-eqb, ne-eqb}
 use Rattle.image.specs.declared.Head.{Head}
-use Rattle.image.specs.Layout.{recordBytes, putRecord, setCurrent, countOf, currentDfOf, currentEfOf, none}
+use Rattle.image.specs.Layout.{longestRule, versionOf, recordBytes, putRecord, setCurrent, countOf, currentDfOf, currentEfOf, none}
 use Rattle.sound.specs.Table.{viewAt}
 use Rattle.sound.specs.Kinship.{atOrBeneath}
 use Rattle.sound.specs.Effects.{created, clearBelow, deleted}
@@ -16,14 +16,19 @@ use Rattle.sound.proofs.Cleared.{clear-cong}
 use Rattle.subtree.specs.Known.{Settled}
 use Rattle.subtree.proofs.Marks.{chosen-beneath}
 
-module _ (img x y : List ℕ) (s : ℕ) (h : Head) (name rule : List ℕ) (e : x ≡ putRecord img s (recordBytes h name rule)) where
+-- a rule that the image's version has room for
+pub rule-fits : (img rule : List ℕ) (v : ℕ) → v ≡ versionOf img → length rule ≤ longestRule (versionOf img) → length rule ≤ longestRule v
+rule-fits img rule v e h = rw e h
+
+module _ (img x y : List ℕ) (v s : ℕ) (h : Head) (name rule : List ℕ) (known : v ≡ versionOf img)
+    (e : x ≡ putRecord img s (recordBytes v h name rule)) where
   pub created-df : h .kind ≡ 1 → y ≡ setCurrent x s 0xFFFF → y ≡ created img s h name rule
   unfolding created
-  created-df f g = rw (eq-eqb (h .kind) 1 f, ← e) g
+  created-df f g = rw (eq-eqb (h .kind) 1 f, ← known, ← e) g
 
   pub created-ef : (d : ℕ) → d ≡ currentDfOf img → (h .kind ≡ 1 → ⊥) → y ≡ setCurrent x d s → y ≡ created img s h name rule
   unfolding created
-  created-ef d i f g = rw (ne-eqb (h .kind) 1 f, ← e, ← i) g
+  created-ef d i f g = rw (ne-eqb (h .kind) 1 f, ← known, ← e, ← i) g
 
 -- DELETE: the slots below n that are marked; df, old and ef are the current DF, and the current EF before and after
 pub deleted-chosen : (img x y marks : List ℕ) (n d df old ef : ℕ) → n ≡ countOf img → df ≡ currentDfOf img → old ≡ currentEfOf img

@@ -1,15 +1,15 @@
 // A verdict becomes its effect: a small function for each, then `apply`, which chooses among them (01 "SELECT",
 // "CREATE", "DELETE", "ACTIVATE, DEACTIVATE", "TERMINATE EF / DF", "TERMINATE CARD USAGE").
 ghost use mathlib.Core.Path.{_≡_};
-ghost use Prim.Native.Nat.{_<_, _≤_};
+ghost use Prim.Native.Nat.{_+_, _<_, _≤_};
 ghost use lib.ListN.{length};
 ghost use Rattle.template.specs.Objects.{bytesAt};
-ghost use Rattle.image.specs.Layout.{Within, setCurrent, setLife, countOf};
+ghost use Rattle.image.specs.Layout.{Within, setCurrent, setLife, longestRule, versionOf, countOf};
 ghost use Rattle.sound.specs.Effects.{created, deleted};
 ghost use Rattle.kinship.specs.Climb.{Rooted};
 ghost use Rattle.verdict.specs.Words.{done};
 ghost use Rattle.verdict.specs.Applied.{wordOf, sentData, appliedOf};
-ghost use Rattle.effect.specs.Fit.{FieldSent, Applies};
+ghost use Rattle.effect.specs.Fit.{Applies};
 use crate::erase;
 use image::Head;
 use image::fields;
@@ -30,7 +30,7 @@ fn select(image: &mut [u8], df: u16, ef: u16, word: u16) -> u16
 
 // A value in CREATE's data as a part of the command: the data follow the five bytes up to Lc.
 fn sent(command: &[u8], place: Span) -> &[u8]
-    requires { ⌜ FieldSent (now command) place ⌝ }
+    requires { ⌜ (place .start ≤ place .end) × (5 + place .end ≤ length (now command)) ⌝ }
     ensures { λ r. ⌜ now r ≡ bytesAt (sentData (now (command .entry))) place ⌝ }
 {
     let from = 5 + place.start;
@@ -41,12 +41,13 @@ fn sent(command: &[u8], place: Span) -> &[u8]
 // The new record; a new DF becomes current with no EF, a new EF becomes current EF.
 fn create(image: &mut [u8], slot: usize, head: Head, name: &[u8], rule: &[u8]) -> u16
     requires { ⌜ Within (now image) slot ⌝ }
-    requires { ⌜ (length (now name) ≤ 16) × (length (now rule) ≤ 16) ⌝ }
+    requires { ⌜ (length (now name) ≤ 16) × (length (now rule) ≤ longestRule (versionOf (now image))) ⌝ }
     ensures { λ r. ⌜ (r ≡ done) × (now (image .exit) ≡ created (now (image .entry)) slot head (now (name .entry)) (now (rule .entry))) ⌝ }
 {
     let df = fields::current_df(image) as u16;
     let new = slot as u16;
-    write::put_record(image, slot, head, name, rule);
+    let v = fields::version(image);
+    write::put_record(image, v, slot, head, name, rule);
     if head.kind == descriptor::DF {
         write::set_current(image, new, image::NONE);
         return words::DONE;

@@ -12,7 +12,7 @@ use Rattle.image.specs.Layout.{descriptorOf, lifeCycleOf, identifierOf, recordL
 use Rattle.text.specs.Written.{WroteAt}
 use Rattle.text.proofs.Written.{nothing-written, same-text, written-on}
 use Rattle.create_data.specs.Grammar.{object, optional}
-use Rattle.fcp.specs.Template.{recordBytesOf, named, sizeTag, descriptorObject, identifierObject, nameObject, lifeObject, ruleObject}
+use Rattle.fcp.specs.Template.{recordBytesOf, named, ruleTag, sizeTag, descriptorObject, identifierObject, nameObject, lifeObject, ruleObject}
 use Rattle.fcp.specs.Template.{sizeObject}
 
 -- a tag and a length, then the value
@@ -29,7 +29,7 @@ pub name-fits : (r : List ℕ) {v : List ℕ} → v ≡ nameOf r → getD r 16 0
 unfolding nameOf
 name-fits r e h = omega (arith, ap length e, field-short r 16)
 
-pub rule-fits : (r : List ℕ) {v : List ℕ} → v ≡ ruleOf r → getD r 33 0 ≤ 16 → length v ≤ 16
+pub rule-fits : (r : List ℕ) {v : List ℕ} → v ≡ ruleOf r → getD r 33 0 ≤ 30 → length v ≤ 30
 unfolding ruleOf
 rule-fits r e h = omega (arith, ap length e, field-short r 33)
 
@@ -44,8 +44,8 @@ module _ {at to : ℕ} {o y : List ℕ} (r : List ℕ) where
   pub life-told : {n : ℕ} → n ≡ lifeCycleOf r → WroteAt at to o y (object 0x8A (n ∷ [])) → WroteAt at to o y (lifeObject r)
   life-told e w = same-text _ _ w (ap (λ (n : ℕ). object 0x8A (n ∷ [])) e)
 
-  pub rule-told : {v : List ℕ} → v ≡ ruleOf r → WroteAt at to o y (object 0x8C v) → WroteAt at to o y (ruleObject r)
-  rule-told e w = same-text _ _ w (ap (λ (v : List ℕ). object 0x8C v) e)
+  pub rule-told : {tag : ℕ} {v : List ℕ} → tag ≡ ruleTag r → v ≡ ruleOf r → WroteAt at to o y (object tag v) → WroteAt at to o y (ruleObject r)
+  rule-told {tag} {v} t e w = same-text _ _ w (ap (λ (x : ℕ). object x v) t ∙ ap (λ (x : List ℕ). object (ruleTag r) x) e)
 
   pub size-told : {tag n : ℕ} → tag ≡ sizeTag r → n ≡ sizeOf r → WroteAt at to o y (object tag (be16 n)) → WroteAt at to o y (sizeObject r)
   size-told {tag} {n} t e w = same-text _ _ w (ap (λ (x : ℕ). object x (be16 n)) t ∙ ap (λ (x : ℕ). object (sizeTag r) (be16 x)) e)

@@ -3,17 +3,22 @@ use mathlib.Core.Path.{_≡_, refl, sym, ap, _∙_}
 use mathlib.Core.Bool.{Bool, true, false, cond, false≢true}
 use mathlib.Core.List.{List, [], _∷_, _++_, append-assoc, append-nil}
 use mathlib.Core.Logic.{inl, inr, ⊎-elim}
-use Prim.Native.Nat.{ℕ, _≤_}
+use Prim.Native.Nat.{ℕ, _<_, _≤_}
 use native.Mathlib.Nat.{sub-self}
 use native.Mathlib.Omega.{arith}
+use lib.Dec.{eqb}
 use lib.ListN.{length}
+use borrow.Author.Tests.{eqb-true, eqb-false}
 use Rattle.laws.specs.Lists.{part}
 use Rattle.laws.proofs.Says.{either-says}
 use Rattle.numbers.specs.Numbers.{be16}
 use Rattle.rules.specs.Descriptor.{hasRecords}
 use Rattle.rules.specs.Life.{newLife}
 use Rattle.rules.specs.Value.{goodLength, wholeRecords}
-use Rattle.image.specs.Layout.{descriptorOf, lifeCycleOf, identifierOf, recordLengthOf, sizeOf, nameOf, ruleOf}
+use Rattle.image.specs.Layout.{descriptorOf, lifeCycleOf, formOf, identifierOf, recordLengthOf, sizeOf, nameOf, ruleOf}
+use Rattle.image.proofs.Versions.{longest-within}
+use Rattle.access.specs.Access.{compact}
+use Rattle.access.proofs.Fits.{fits-form}
 use Rattle.sound.specs.Own.{Used}
 use Rattle.template.specs.declared.Span.{Span}
 use Rattle.template.specs.Objects.{bytesAt}
@@ -22,11 +27,12 @@ use Rattle.create_data.specs.declared.Data.the-variants.{Df, Ef, Bad}
 use Rattle.create_data.specs.Data.{dataOf}
 use Rattle.create_data.specs.Good.{Good}
 use Rattle.create_data.specs.Grammar.{object, template, valueOf, number, neither, NameLong, FileData, DfData, EfData, DfRead, EfRead}
-use Rattle.create_data.specs.Grammar.{Layout, plain, records}
+use Rattle.create_data.specs.Grammar.{Ruled, in8C, inAB, ruled, ruleForm, Layout, plain, records}
+use Rattle.create_data.specs.Grammar as grammar
 use Rattle.create_data.proofs.Good.{good}
 use Rattle.create_data.proofs.Grammar.{data-read}
 use Rattle.create_data.proofs.Meaning.{identifier-says, rule-says, structure-says, records-says}
-use Rattle.fcp.specs.Template.{recordBytesOf, named, sizeTag, bodyOf, templateOf, withC6}
+use Rattle.fcp.specs.Template.{recordBytesOf, named, ruleTag, sizeTag, bodyOf, templateOf, withC6}
 use Rattle.fcp.specs.Template.{descriptorObject, identifierObject, nameObject, lifeObject, ruleObject}
 use Rattle.fcp.specs.Again.{SendsEf, SendsDf, Tells, ReadBack}
 use Rattle.fcp.proofs.Values.{number-back, name-short, ef-nameless, plain-length, df-no-records}
@@ -50,12 +56,32 @@ no-bytes : (s : List ℕ) (p : Span) → p .end ≡ p .start → bytesAt s p ≡
 unfolding part
 no-bytes s p e = rw (e, sub-self) refl
 
-module _ (r : List ℕ) (u : Used r) where
+-- the rule in the grammar's words, by its form
+ruleTold : List ℕ → Ruled
+ruleTold r = cond (eqb (formOf r) compact) (in8C (ruleOf r)) (inAB (ruleOf r))
+
+record ToldRule (r : List ℕ) (x : Ruled) : Type 0 where
+  written : ruled x ≡ ruleObject r
+  form : ruleForm x ≡ formOf r
+  value : grammar.ruleOf x ≡ ruleOf r
+
+told-rule : (r : List ℕ) → formOf r < 2 → ToldRule r (ruleTold r)
+unfolding ruleTold ruleTag
+told-rule r low = go (eqb (formOf r) compact) refl
+  where
+    go : (b : Bool) → eqb (formOf r) compact ≡ b → ToldRule r (cond b (in8C (ruleOf r)) (inAB (ruleOf r)))
+    go true p = record { written = rw p refl; form = sym (eqb-true (formOf r) compact p); value = refl }
+    go false p = record { written = rw p refl; form = omega (arith, eqb-false (formOf r) compact p); value = refl }
+
+module _ (v : ℕ) (r : List ℕ) (u : Used v r) where
+  told : ToldRule r (ruleTold r)
+  told = told-rule r (fits-form v (formOf r) (ruleOf r) (u .formed))
+
   -- identifier, life cycle and rule are as CREATE takes them
-  file-data : newLife (lifeCycleOf r) ≡ true → FileData (be16 (identifierOf r)) (lifeCycleOf r ∷ []) (ruleOf r)
+  file-data : newLife (lifeCycleOf r) ≡ true → FileData v (be16 (identifierOf r)) (lifeCycleOf r ∷ []) (ruleTold r)
   file-data new =
       let i = identifier-says (identifierOf r) .0 (u .identifier) in
-      let f = rule-says (ruleOf r) .0 (u .formed) in
+      let f = rule-says v (formOf r) (ruleOf r) .0 (u .formed) in
       let n = number-back (identifierOf r) in
       record {
         identifier-long = refl;
@@ -64,8 +90,9 @@ module _ (r : List ℕ) (u : Used r) where
         not-FFFF = λ e. i .2 (sym n ∙ e);
         life-long = refl;
         life-cycle = new;
-        rule-long = f .0;
-        rule-formed = f .1;
+        rule-long = rw (told .value) (f .0);
+        rule-form = rw (told .form) (f .1);
+        rule-formed = rw (told .form, told .value) (f .2);
       }
 
   size-some : number (be16 (sizeOf r)) ≡ 0 → ⊥
@@ -92,90 +119,92 @@ module _ (r : List ℕ) (u : Used r) where
     where
       go : (b : Bool) → hasRecords (descriptorOf r) ≡ b → number (cond b (be16 (recordLengthOf r)) []) ≡ recordLengthOf r
       go true p = number-back (recordLengthOf r)
-      go false p = sym (plain-length r u p)
+      go false p = sym (plain-length v r u p)
 
 -- an EF's template as it is
-module _ (r s : List ℕ) (u : Used r) (new : newLife (lifeCycleOf r) ≡ true) (w : SendsEf r (templateOf r) s) where
-  ef-data : EfData s
+module _ (v : ℕ) (r s : List ℕ) (u : Used v r) (new : newLife (lifeCycleOf r) ≡ true) (w : SendsEf r (templateOf r) s) where
+  ef-data : EfData v s
   unfolding templateOf bodyOf sizeTag
   ef-data = record {
     descriptor = descriptorOf r ∷ 0x21 ∷ recordBytesOf r;
     identifier = be16 (identifierOf r);
     life = lifeCycleOf r ∷ [];
-    rule = ruleOf r;
+    rule = ruleTold r;
     size = be16 (sizeOf r);
     private = neither;
-    written = w .sent ∙ rw (w .kind, ef-nameless r u (w .kind)) refl;
-    short = omega (arith, ap length (w .sent), longest r u (λ z. omega (arith, w .kind)));
+    written = w .sent ∙ rw (w .kind, ef-nameless v r u (w .kind), told v r u .written) refl;
+    short = omega (arith, ap length (w .sent), longest v r u (λ z. omega (arith, w .kind)), longest-within v);
     class = u .class ∙ w .kind;
-    layout = layout r u;
-    file = file-data r u new;
+    layout = layout v r u;
+    file = file-data v r u new;
     size-long = (omega arith, omega arith);
-    size-some = size-some r u;
+    size-some = size-some v r u;
   }
 
-  ef-tells : (x : Data) → EfRead s ef-data x → Good s x → Tells s r x
+  ef-tells : (x : Data) → EfRead v s ef-data x → Good v s x → Tells s r x
   unfolding ef-data
   ef-tells (Ef x) t g = record {
     kind-is = w .kind;
     descriptor = t .0;
     identifier = t .1 ∙ number-back (identifierOf r);
     life = t .2;
-    «record_length» = t .3 ∙ length-back r u;
-    size = t .5 ∙ number-back (sizeOf r);
-    name = no-bytes s (x .name) (g .nameless) ∙ sym (ef-nameless r u (w .kind));
-    rule = t .4;
+    form = t .4 ∙ told v r u .form;
+    «record_length» = t .3 ∙ length-back v r u;
+    size = t .6 ∙ number-back (sizeOf r);
+    name = no-bytes s (x .name) (g .nameless) ∙ sym (ef-nameless v r u (w .kind));
+    rule = t .5 ∙ told v r u .value;
   }
   ef-tells (Df x) t g = absurd t
   ef-tells Bad t g = absurd t
 
 -- a DF's with a C6
-module _ (r s : List ℕ) (u : Used r) (new : newLife (lifeCycleOf r) ≡ true) (w : SendsDf r (templateOf r) s) where
+module _ (v : ℕ) (r s : List ℕ) (u : Used v r) (new : newLife (lifeCycleOf r) ≡ true) (w : SendsDf r (templateOf r) s) where
   no-length : recordBytesOf r ≡ []
   unfolding recordBytesOf
-  no-length = rw (df-no-records r u (w .kind))
+  no-length = rw (df-no-records v r u (w .kind))
 
-  df-data : DfData s
+  df-data : DfData v s
   unfolding templateOf withC6 bodyOf sizeTag
   df-data = record {
     descriptor = descriptorOf r ∷ 0x21 ∷ recordBytesOf r;
     identifier = be16 (identifierOf r);
     name = named (nameOf r);
     life = lifeCycleOf r ∷ [];
-    rule = ruleOf r;
+    rule = ruleTold r;
     total = be16 (sizeOf r);
     security = w .value;
     private = neither;
-    written = w .sent ∙ rw (w .kind) (ap template
+    written = w .sent ∙ rw (w .kind, told v r u .written) (ap template
         (seven (descriptorObject r) (identifierObject r) (nameObject r) (lifeObject r) (ruleObject r) (object 0x81 (be16 (sizeOf r)))
         (object 0xC6 (w .value))));
     short = w .short;
     descriptor-long = rw no-length refl;
     class = u .class ∙ w .kind;
-    file = file-data r u new;
-    name-long = named-long (nameOf r) (name-short r u);
+    file = file-data v r u new;
+    name-long = named-long (nameOf r) (name-short v r u);
     total-long = (omega arith, omega arith);
-    total-some = size-some r u;
+    total-some = size-some v r u;
     security-long = w .some;
   }
 
-  df-tells : (x : Data) → DfRead s df-data x → Good s x → Tells s r x
+  df-tells : (x : Data) → DfRead v s df-data x → Good v s x → Tells s r x
   unfolding df-data
   df-tells (Df x) t g = record {
     kind-is = w .kind;
     descriptor = t .0;
     identifier = t .1 ∙ number-back (identifierOf r);
     life = t .2;
-    «record_length» = g .plain ∙ sym (plain-length r u (df-no-records r u (w .kind)));
-    size = t .5 ∙ number-back (sizeOf r);
+    form = t .4 ∙ told v r u .form;
+    «record_length» = g .plain ∙ sym (plain-length v r u (df-no-records v r u (w .kind)));
+    size = t .6 ∙ number-back (sizeOf r);
     name = t .3 ∙ named-value (nameOf r);
-    rule = t .4;
+    rule = t .5 ∙ told v r u .value;
   }
   df-tells (Ef x) t g = absurd t
   df-tells Bad t g = absurd t
 
 pub read-back : ReadBack
-read-back r s u new w = ⊎-elim
-    (λ e. let t = ef-data r s u new e in (inr t, ef-tells r s u new e (dataOf s) (data-read s .1 t) (good s)))
-    (λ d. let t = df-data r s u new d in (inl t, df-tells r s u new d (dataOf s) (data-read s .0 t) (good s)))
+read-back v r s u new w = ⊎-elim
+    (λ e. let t = ef-data v r s u new e in (inr t, ef-tells v r s u new e (dataOf v s) (data-read v s .1 t) (good v s)))
+    (λ d. let t = df-data v r s u new d in (inl t, df-tells v r s u new d (dataOf v s) (data-read v s .0 t) (good v s)))
     w

@@ -12,8 +12,9 @@ use Rattle.laws.specs.Lists.{Bytes, part, splice}
 use Rattle.laws.proofs.Branches.{same-cons}
 use Rattle.laws.proofs.Splices.{length-part, getD-part}
 use Rattle.numbers.specs.Numbers.{u16At, u32At, be16}
-use Rattle.image.specs.Layout.{kindOf, descriptorOf, lifeCycleOf, identifierOf, recordLengthOf, sizeOf, fieldAt, nameOf, ruleOf}
+use Rattle.image.specs.Layout.{longestRule, kindOf, descriptorOf, lifeCycleOf, formOf, identifierOf, recordLengthOf, sizeOf, fieldAt, nameOf, ruleOf}
 use Rattle.image.specs.Layout.{field, headBytes, recordBytes}
+use Rattle.image.proofs.Versions.{longest-within}
 use Rattle.sound.specs.Own.{Padded, Used}
 use Rattle.fcp.specs.Again.{headAgain, RecordAgain}
 
@@ -41,14 +42,15 @@ all-zeros l m e z =
     ext-getD 0 l (replicate m 0) (e ∙ sym (length-replicate m 0)) (λ k h. z k (rw e at h) ∙ sym (getD-replicate m k 0 0 (rw e at h)))
 
 -- a length, so many bytes and zeros, at n
-padded : (r : List ℕ) (n : ℕ) → n + 17 ≤ length r → Padded r n → drop n r ≡ field (fieldAt r n) ++ drop (n + 17) r
+padded : (most : ℕ) (r : List ℕ) (n : ℕ) → n + 1 + most ≤ length r → Padded most r n
+    → drop n r ≡ field most (fieldAt r n) ++ drop (n + 1 + most) r
 unfolding field fieldAt part
-padded r n h p =
+padded most r n h p =
     drop-cons r n 0 (omega arith)
     ∙ ap (λ (i : ℕ). m ∷ drop i r) (sym (add-one n))
     ∙ ap (λ (t : List ℕ). m ∷ t) body
-    ∙ ap (λ (k : ℕ). k ∷ (v ++ (replicate (16 - k) 0 ++ drop (n + 17) r))) (sym long)
-    ∙ ap (λ (t : List ℕ). length v ∷ t) (sym (append-assoc v (replicate (16 - length v) 0) (drop (n + 17) r)))
+    ∙ ap (λ (k : ℕ). k ∷ (v ++ (replicate (most - k) 0 ++ drop (n + 1 + most) r))) (sym long)
+    ∙ ap (λ (t : List ℕ). length v ∷ t) (sym (append-assoc v (replicate (most - length v) 0) (drop (n + 1 + most) r)))
   where
     m : ℕ
     m = getD r n 0
@@ -56,40 +58,45 @@ padded r n h p =
     v : List ℕ
     v = take m (drop (n + 1) r)
 
-    short : m ≤ 16
+    short : m ≤ most
     short = p .short
 
     long : length v ≡ m
     long = length-part r (n + 1) m (omega (arith, short))
 
-    zeros : take (16 - m) (drop (n + 1 + m) r) ≡ replicate (16 - m) 0
+    zeros : take (most - m) (drop (n + 1 + m) r) ≡ replicate (most - m) 0
     zeros =
-        all-zeros _ (16 - m) (length-part r (n + 1 + m) (16 - m) (omega (arith, short)))
-        (λ k l. getD-part r (n + 1 + m) (16 - m) k l ∙ p .zeros k l)
+        all-zeros _ (most - m) (length-part r (n + 1 + m) (most - m) (omega (arith, short)))
+        (λ k l. getD-part r (n + 1 + m) (most - m) k l ∙ p .zeros k l)
 
-    end : n + 1 + m + (16 - m) ≡ n + 17
+    end : n + 1 + m + (most - m) ≡ n + 1 + most
     end = omega (arith, short)
 
-    body : drop (n + 1) r ≡ v ++ (replicate (16 - m) 0 ++ drop (n + 17) r)
+    body : drop (n + 1) r ≡ v ++ (replicate (most - m) 0 ++ drop (n + 1 + most) r)
     body =
         sym (take-append-drop m (drop (n + 1) r))
         ∙ ap (λ (t : List ℕ). v ++ t)
         (drop-drop m (n + 1) r
-        ∙ sym (take-append-drop (16 - m) (drop (n + 1 + m) r))
-        ∙ ap (λ (t : List ℕ). t ++ drop (16 - m) (drop (n + 1 + m) r)) zeros
-        ∙ ap (λ (t : List ℕ). replicate (16 - m) 0 ++ t) (drop-drop (16 - m) (n + 1 + m) r ∙ ap (λ (i : ℕ). drop i r) end))
+        ∙ sym (take-append-drop (most - m) (drop (n + 1 + m) r))
+        ∙ ap (λ (t : List ℕ). t ++ drop (most - m) (drop (n + 1 + m) r)) zeros
+        ∙ ap (λ (t : List ℕ). replicate (most - m) 0 ++ t) (drop-drop (most - m) (n + 1 + m) r ∙ ap (λ (i : ℕ). drop i r) end))
 
-module _ (r : List ℕ) (p l : ℕ) (long : length r ≡ 64) (b : Bytes r) (u : Used r) where
-  spare : drop 50 r ≡ replicate 14 0
-  spare = all-zeros (drop 50 r) 14 (length-drop 50 r ∙ ap (λ (k : ℕ). k - 50) long) (λ k h. getD-drop 50 r k 0 ∙ u .spare k h)
+module _ (v : ℕ) (r : List ℕ) (p l : ℕ) (long : length r ≡ 64) (b : Bytes r) (u : Used v r) where
+  most : longestRule v ≤ 30
+  most = longest-within v
 
-  tail : field (nameOf r) ++ field (ruleOf r) ++ replicate 14 0 ≡ drop 16 r
+  spare : drop (34 + longestRule v) r ≡ replicate (30 - longestRule v) 0
+  spare =
+      all-zeros (drop (34 + longestRule v) r) (30 - longestRule v) (omega (arith, length-drop (34 + longestRule v) r, most))
+      (λ k h. getD-drop (34 + longestRule v) r k 0 ∙ u .spare k h)
+
+  tail : field 16 (nameOf r) ++ field (longestRule v) (ruleOf r) ++ replicate (30 - longestRule v) 0 ≡ drop 16 r
   unfolding nameOf ruleOf
   tail =
-      append-assoc (field (nameOf r)) (field (ruleOf r)) (replicate 14 0)
-      ∙ ap (λ (t : List ℕ). field (nameOf r) ++ (field (ruleOf r) ++ t)) (sym spare)
-      ∙ ap (λ (t : List ℕ). field (nameOf r) ++ t) (sym (padded r 33 (omega arith) (u .rule)))
-      ∙ sym (padded r 16 (omega arith) (u .name))
+      append-assoc (field 16 (nameOf r)) (field (longestRule v) (ruleOf r)) (replicate (30 - longestRule v) 0)
+      ∙ ap (λ (t : List ℕ). field 16 (nameOf r) ++ (field (longestRule v) (ruleOf r) ++ t)) (sym spare)
+      ∙ ap (λ (t : List ℕ). field 16 (nameOf r) ++ t) (sym (padded (longestRule v) r 33 (omega (arith, most)) (u .rule)))
+      ∙ sym (padded 16 r 16 (omega arith) (u .name))
 
   around : (cells r 0 6 ++ (be16 p ++ be16 l)) ++ (cells r 10 6 ++ drop 16 r) ≡ splice r 6 (be16 p ++ be16 l)
   unfolding splice
@@ -97,10 +104,10 @@ module _ (r : List ℕ) (p l : ℕ) (long : length r ≡ 64) (b : Bytes r) (u : 
       ap (λ (t : List ℕ). t ++ (be16 p ++ be16 l) ++ (cells r 10 6 ++ drop 16 r)) (sym (cells-take r 0 6 (omega arith)))
       ∙ ap (λ (t : List ℕ). take 6 r ++ (be16 p ++ be16 l) ++ t) (sym (cells-drop r 10 6 (omega arith)))
 
-  same-record : recordBytes (headAgain r p l) (nameOf r) (ruleOf r) ≡ splice r 6 (be16 p ++ be16 l)
-  unfolding recordBytes headBytes kindOf descriptorOf lifeCycleOf identifierOf recordLengthOf sizeOf u32At u16At
+  same-record : recordBytes v (headAgain r p l) (nameOf r) (ruleOf r) ≡ splice r 6 (be16 p ++ be16 l)
+  unfolding recordBytes headBytes kindOf descriptorOf lifeCycleOf formOf identifierOf recordLengthOf sizeOf u32At u16At
   same-record =
-      same-cons refl (same-cons refl (same-cons refl (same-cons (sym (u .zero))
+      same-cons refl (same-cons refl (same-cons refl (same-cons refl
       (same-cons (omega (arith, b 5)) (same-cons (omega (arith, b 5))
       (same-cons refl (same-cons refl (same-cons refl (same-cons refl
       (same-cons (omega (arith, b 11)) (same-cons (omega (arith, b 11))

@@ -1,12 +1,12 @@
 -- In a sound image every size is at most 65,408: what a file charges is within its directory's total, and so on up to the root. And no
--- template is longer than 53 bytes.
+-- template is longer than 37 bytes and the longest rule.
 use mathlib.Core.Path.{_≡_}
 use mathlib.Core.List.{List}
 use Prim.Native.Nat.{ℕ, _+_, _*_, _<_, _≤_}
 use native.Mathlib.Omega.{arith}
 use lib.ListN.{length-append}
-use Rattle.rules.proofs.Groups.{fits-short}
-use Rattle.image.specs.Layout.{countOf, recAt, kindOf, sizeOf, ruleOf}
+use Rattle.image.specs.Layout.{countOf, recAt, kindOf, formOf, sizeOf, ruleOf}
+use Rattle.access.proofs.Fits.{fits-short}
 use Rattle.sound.specs.Table.{viewAt}
 use Rattle.sound.specs.Sound.{Sound}
 use Rattle.sound.proofs.FullTable.{within-root}
@@ -30,4 +30,4 @@ file-fits img sound s l u z =
 
 pub longest : Longest
 unfolding templateOf bodyOf
-longest r u z = simp length-append (omega (arith, length-or-name r u z, fits-short (ruleOf r) (u .formed)))
+longest v r u z = simp length-append (omega (arith, length-or-name v r u z, fits-short v (formOf r) (ruleOf r) (u .formed)))

@@ -28,7 +28,7 @@ named-short : (v : List ℕ) → length (optional 0x84 (named v)) ≤ 2 + length
 named-short [] = omega arith
 named-short (x ∷ v) = omega arith
 
-module _ (r : List ℕ) (u : Used r) where
+module _ (v : ℕ) (r : List ℕ) (u : Used v r) where
   pub name-short : length (nameOf r) ≤ 16
   name-short = name-fits r refl (u .name .short)
 

@@ -11,8 +11,8 @@ use Rattle.numbers.specs.Numbers.{be16}
 use Rattle.rules.specs.Descriptor.{df, ef}
 use Rattle.rules.specs.Life.{newLife}
 use Rattle.image.specs.declared.Head.{Head}
-use Rattle.image.specs.Layout.{countOf, recAt, recordBytes}
-use Rattle.image.specs.Layout.{kindOf, descriptorOf, lifeCycleOf, identifierOf, recordLengthOf, sizeOf, nameOf, ruleOf}
+use Rattle.image.specs.Layout.{longestRule, countOf, recAt, recordBytes}
+use Rattle.image.specs.Layout.{kindOf, descriptorOf, lifeCycleOf, formOf, identifierOf, recordLengthOf, sizeOf, nameOf, ruleOf}
 use Rattle.sound.specs.Own.{Used}
 use Rattle.sound.specs.Sound.{Sound}
 use Rattle.template.specs.Objects.{bytesAt}
@@ -45,6 +45,7 @@ pub record SameFile (s r : List ℕ) (kind : ℕ) (x : NewFile) : Type 0 where
   pub descriptor : x .descriptor ≡ descriptorOf r
   pub identifier : x .identifier ≡ identifierOf r
   pub life : x .life ≡ lifeCycleOf r
+  pub form : x .form ≡ formOf r
   pub «record_length» : x .«record_length» ≡ recordLengthOf r
   pub size : x .size ≡ sizeOf r
   pub name : bytesAt s (x .name) ≡ nameOf r
@@ -55,10 +56,10 @@ Tells s r Bad = ⊥
 Tells s r (Df x) = SameFile s r df x
 Tells s r (Ef x) = SameFile s r ef x
 
--- the round trip: what a template says is good data, and is read as the file that it was written of
+-- the round trip: what a template says is good data on a card of the same version, and is read as the file that it was written of
 abbrev pub ReadBack : Type 0
-ReadBack = (r s : List ℕ) → Used r → newLife (lifeCycleOf r) ≡ true → Sends r (templateOf r) s
-    → (DfData s ⊎ EfData s) × Tells s r (dataOf s)
+ReadBack = (v : ℕ) (r s : List ℕ) → Used v r → newLife (lifeCycleOf r) ≡ true → Sends r (templateOf r) s
+    → (DfData v s ⊎ EfData v s) × Tells s r (dataOf v s)
 
 -- the fields of record r, under another parent and level
 abbrev pub headAgain : List ℕ → ℕ → ℕ → Head
@@ -66,6 +67,7 @@ headAgain r parent level = record {
   kind = kindOf r;
   descriptor = descriptorOf r;
   life = lifeCycleOf r;
+  form = formOf r;
   identifier = identifierOf r;
   parent = parent;
   level = level;
@@ -75,14 +77,15 @@ headAgain r parent level = record {
 
 -- a used record is what its fields say and nothing else: written again it is the same but for parent and level
 abbrev pub RecordAgain : Type 0
-RecordAgain = (r : List ℕ) (parent level : ℕ) → length r ≡ 64 → Bytes r → Used r
-    → recordBytes (headAgain r parent level) (nameOf r) (ruleOf r) ≡ splice r 6 (be16 parent ++ be16 level)
+RecordAgain = (v : ℕ) (r : List ℕ) (parent level : ℕ) → length r ≡ 64 → Bytes r → Used v r
+    → recordBytes v (headAgain r parent level) (nameOf r) (ruleOf r) ≡ splice r 6 (be16 parent ++ be16 level)
 
 -- two bytes hold every size of a sound image: a file charges no more than its directory's total, and the root's total is at most 64
 -- for each slot but its own, 65,408
 abbrev pub SizesFit : Type 0
 SizesFit = (img : List ℕ) → Sound img → (s : ℕ) → s < countOf img → (kindOf (recAt img s) ≡ 0 → ⊥) → sizeOf (recAt img s) ≤ 65408
 
--- 53 bytes hold every template: a DF has no record length, an EF no name (and `Used` alone doesn't say that r is one of them)
+-- a template has at most 37 bytes and the longest rule of its version, and so 67 bytes hold every one: a DF has no record length, an EF
+-- no name (and `Used` alone doesn't say that r is one of them)
 abbrev pub Longest : Type 0
-Longest = (r : List ℕ) → Used r → (kindOf r ≡ 0 → ⊥) → length (templateOf r) ≤ 53
+Longest = (v : ℕ) (r : List ℕ) → Used v r → (kindOf r ≡ 0 → ⊥) → length (templateOf r) ≤ 37 + longestRule v

@@ -7,7 +7,8 @@ use lib.Dec.{eqb}
 use lib.ListN.{drop}
 use Rattle.numbers.specs.Numbers.{be16}
 use Rattle.rules.specs.Descriptor.{df, hasRecords}
-use Rattle.image.specs.Layout.{kindOf, descriptorOf, lifeCycleOf, identifierOf, recordLengthOf, sizeOf, nameOf, ruleOf}
+use Rattle.image.specs.Layout.{kindOf, descriptorOf, lifeCycleOf, formOf, identifierOf, recordLengthOf, sizeOf, nameOf, ruleOf}
+use Rattle.access.specs.Access.{compact}
 use Rattle.create_data.specs.Grammar.{object, template, Optional, absent, sent, optional}
 
 -- the record length, where the structure has records
@@ -18,6 +19,10 @@ recordBytesOf r = cond (hasRecords (descriptorOf r)) (be16 (recordLengthOf r)) [
 abbrev pub named : List ℕ → Optional
 named [] = absent
 named (x ∷ v) = sent (x ∷ v)
+
+-- 8C for a compact rule, AB for an expanded one (02 Ticket 3)
+unfoldable pub ruleTag : List ℕ → ℕ
+ruleTag r = cond (eqb (formOf r) compact) 0x8C 0xAB
 
 -- 81 for a DF, 80 for an EF
 unfoldable pub sizeTag : List ℕ → ℕ
@@ -37,7 +42,7 @@ abbrev pub lifeObject : List ℕ → List ℕ
 lifeObject r = object 0x8A (lifeCycleOf r ∷ [])
 
 abbrev pub ruleObject : List ℕ → List ℕ
-ruleObject r = object 0x8C (ruleOf r)
+ruleObject r = object (ruleTag r) (ruleOf r)
 
 abbrev pub sizeObject : List ℕ → List ℕ
 sizeObject r = object (sizeTag r) (be16 (sizeOf r))

@@ -15,7 +15,7 @@ use Rattle.fcp.specs.declared.Written.the-variants.{Done, Short}
 pub record Tellable (img : List ℕ) (s : ℕ) : Type 0 where
   pub within : Within img s
   pub name : getD (recAt img s) 16 0 ≤ 16
-  pub rule : getD (recAt img s) 33 0 ≤ 16
+  pub rule : getD (recAt img s) 33 0 ≤ 30
   pub size : sizeOf (recAt img s) < 65536
 
 -- how long 82 is, by the descriptor; how long 84 is, by the name's length

@@ -32,10 +32,10 @@ fn name_length(n: usize) -> usize
     n + 2
 }
 
-// How long the template is: 62 LL, 83, 8A, the head of 8C and the size are 15 bytes.
+// How long the template is: 62 LL, 83, 8A, the rule's tag and length and the size are 15 bytes.
 fn length_of(image: &[u8], s: usize) -> usize
     requires { ⌜ Tellable (now image) s ⌝ }
-    ensures { λ r. ⌜ (r ≡ length (templateOf (recAt (now (image .entry)) s))) × (r ≤ 55) ⌝ }
+    ensures { λ r. ⌜ (r ≡ length (templateOf (recAt (now (image .entry)) s))) × (r ≤ 69) ⌝ }
 {
     let first = descriptor_length(fields::descriptor(image, s));
     let name = fields::name(image, s);
@@ -47,7 +47,7 @@ fn length_of(image: &[u8], s: usize) -> usize
 // Writes the template, n bytes long, at the buffer's start.
 fn fill(out: &mut [u8], image: &[u8], s: usize, n: usize) -> usize
     requires { ⌜ Tellable (now image) s ⌝ }
-    requires { ⌜ (n ≡ length (templateOf (recAt (now image) s))) × ((n ≤ 55) × (n ≤ length (now out))) ⌝ }
+    requires { ⌜ (n ≡ length (templateOf (recAt (now image) s))) × ((n ≤ 69) × (n ≤ length (now out))) ⌝ }
     ensures { λ r. ⌜ Wrote r (now (out .entry)) (now (out .exit)) (templateOf (recAt (now (image .entry)) s)) ⌝ }
 {
     let a = text::put(out, 0, &[0x62, (n - 2) as u8]);

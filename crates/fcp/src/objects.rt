@@ -5,7 +5,7 @@ ghost use lib.ListN.{length};
 ghost use Rattle.image.specs.Layout.{recAt};
 ghost use Rattle.text.specs.Written.{WroteAt};
 ghost use Rattle.create_data.specs.Grammar.{object};
-ghost use Rattle.fcp.specs.Template.{descriptorObject, identifierObject, nameObject, lifeObject, ruleObject, sizeObject, sizeTag};
+ghost use Rattle.fcp.specs.Template.{descriptorObject, identifierObject, nameObject, lifeObject, ruleObject, ruleTag, sizeObject, sizeTag};
 ghost use Rattle.fcp.specs.Writing.{Tellable};
 use image::fields;
 use rules::descriptor;
@@ -61,13 +61,25 @@ pub fn put_life(out: &mut [u8], at: usize, image: &[u8], s: usize) -> usize
     object(out, at, 0x8A, &[fields::life_cycle(image, s)])
 }
 
-// 8C: the rule.
+// The tag of the rule: 8C for a compact one, AB for an expanded one.
+fn rule_tag(image: &[u8], s: usize) -> u8
+    requires { ⌜ Tellable (now image) s ⌝ }
+    ensures { λ r. ⌜ r ≡ ruleTag (recAt (now (image .entry)) s) ⌝ }
+{
+    if fields::form(image, s) == access::COMPACT {
+        return 0x8C;
+    }
+    0xAB
+}
+
+// 8C or AB: the rule.
 pub fn put_rule(out: &mut [u8], at: usize, image: &[u8], s: usize) -> usize
     requires { ⌜ Tellable (now image) s × (at + length (ruleObject (recAt (now image) s)) ≤ length (now out)) ⌝ }
     ensures { λ r. ⌜ WroteAt at r (now (out .entry)) (now (out .exit)) (ruleObject (recAt (now (image .entry)) s)) ⌝ }
 {
+    let tag = rule_tag(image, s);
     let v = fields::rule(image, s);
-    object(out, at, 0x8C, v)
+    object(out, at, tag, v)
 }
 
 // The tag of the size: 81 for a DF, 80 for an EF.

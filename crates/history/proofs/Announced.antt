@@ -10,7 +10,7 @@ use Rattle.laws.proofs.Says.{and-says}
 use Rattle.laws.proofs.Firsts.{first-is}
 use Rattle.rules.specs.declared.Sets.{Sets}
 use Rattle.rules.specs.Descriptor.{df}
-use Rattle.image.specs.Layout.{countOf, currentDfOf}
+use Rattle.image.specs.Layout.{versionOf, countOf, currentDfOf}
 use Rattle.sound.specs.Table.{viewAt}
 use Rattle.sound.specs.Kinship.{isChildNamed, childNamed, freeSlot}
 use Rattle.sound.proofs.Says.{child-says}
@@ -35,10 +35,10 @@ use Rattle.history.specs.Story.{newEntry, announced}
 
 abbrev pub Announces : List ℕ → List ℕ → Verdict → Type 0
 Announces img c (Refuse w) = Unit {0}
-Announces img c (Select d e w) = announced c ≡ neither
-Announces img c (Create x) = announced c ≡ makes (x .head .identifier) (x .head .size) (eqb (x .head .kind) df)
-Announces img c (Delete s) = announced c ≡ deletes (viewAt img s .identifier)
-Announces img c (SetLife s life) = announced c ≡ neither
+Announces img c (Select d e w) = announced (versionOf img) c ≡ neither
+Announces img c (Create x) = announced (versionOf img) c ≡ makes (x .head .identifier) (x .head .size) (eqb (x .head .kind) df)
+Announces img c (Delete s) = announced (versionOf img) c ≡ deletes (viewAt img s .identifier)
+Announces img c (SetLife s life) = announced (versionOf img) c ≡ neither
 
 module _ (img c : List ℕ) where
   refused : (w : ℕ) → anyWord w ≡ true → Announces img c (Refuse w)
@@ -52,14 +52,14 @@ module _ (img c : List ℕ) where
   select-announces n d x e =
       followed-by (Announces img c) anyWord refused _ refl (λ a. either (slotIn (selected img n d x)) (unfold announced in rw e))
     where
-      either : (s : ℕ) → announced c ≡ neither → Announces img c (selecting img d s)
+      either : (s : ℕ) → announced (versionOf img) c ≡ neither → Announces img c (selecting img d s)
       either s q = unfold selecting in cond-by (Announces img c) (eqb (viewAt img s .kind) df) _ _ (λ h. q) (λ h. q)
 
   create-announces : (n d : ℕ) (sets : Sets) → instruction c ≡ createFile → Announces img c (followed (create img n d (sentData c) sets))
   create-announces n d sets e =
-      followed-by (Announces img c) anyWord refused _ refl (λ a. new (dataOf (sentData c)) (unfold announced in rw e))
+      followed-by (Announces img c) anyWord refused _ refl (λ a. new (dataOf (versionOf img) (sentData c)) (unfold announced in rw e))
     where
-      new : (f : Data) → announced c ≡ newEntry f → Announces img c (creating img d (slotIn (freeSlot n (viewAt img))) f)
+      new : (f : Data) → announced (versionOf img) c ≡ newEntry f → Announces img c (creating img d (slotIn (freeSlot n (viewAt img))) f)
       new Bad q = tt
       new (Df x) q = q
       new (Ef x) q = q
@@ -69,16 +69,16 @@ module _ (img c : List ℕ) where
   unfolding childNamed
   delete-announces n d sets e = followed-by (Announces img c) anyWord refused _ refl (λ a. found (found-at _ (and-says _ _ .0 a .0)))
     where
-      sent : announced c ≡ deletes (sentIdentifier c)
+      sent : announced (versionOf img) c ≡ deletes (sentIdentifier c)
       sent = unfold announced in rw e
 
       found : childNamed n (viewAt img) d (sentIdentifier c) ≡ At (slotIn (childNamed n (viewAt img) d (sentIdentifier c)))
-          → announced c ≡ deletes (viewAt img (slotIn (childNamed n (viewAt img) d (sentIdentifier c))) .identifier)
+          → announced (versionOf img) c ≡ deletes (viewAt img (slotIn (childNamed n (viewAt img) d (sentIdentifier c))) .identifier)
       found q =
           let f = first-is n (isChildNamed (viewAt img) d (sentIdentifier c)) _ q in
           sent ∙ ap deletes (sym (child-says (viewAt img) d (sentIdentifier c) _ .0 (f .here) .1))
 
-  life-announces : (d i : ℕ) (sets : Sets) → announced c ≡ neither → Announces img c (followed (lifePlan img d i sets))
+  life-announces : (d i : ℕ) (sets : Sets) → announced (versionOf img) c ≡ neither → Announces img c (followed (lifePlan img d i sets))
   unfolding lifePlan Fit
   life-announces d i sets q =
       chosen-by Fit i _ _ _ (λ e. followed-by (Announces img c) anyWord refused _ refl (λ a. q))

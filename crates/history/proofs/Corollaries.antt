@@ -35,7 +35,7 @@ full-table-never st h x r fits =
     let k = history-kept st h in
     let m = kept-demand st k in
     let q = current-dir st k in (
-      slot-exists (st .image) (here st) (sizeSent x) (k .sound) (q .low) (q .dir) (rw (room-is st k (here st) q) at fits),
+      slot-exists (st .image) (here st) (sizeSent (st .image) x) (k .sound) (q .low) (q .dir) (rw (room-is st k (here st) q) at fits),
       m .takes x
           r .1 fits,
     )

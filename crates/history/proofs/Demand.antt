@@ -11,6 +11,7 @@ use borrow.Author.Tests.{leb-true, leb-false, le-leb, lt-leb}
 use Rattle.laws.proofs.Sums.{sum-none}
 use Rattle.laws.proofs.Says.{same-or, untrue}
 use Rattle.image.specs.Layout.{countOf, currentDfOf}
+use Rattle.maker.specs.declared.Edition.{Edition}
 use Rattle.sound.specs.Table.{View, viewAt}
 use Rattle.sound.specs.Sound.{Sound}
 use Rattle.sound.specs.Kin.{Kin}
@@ -49,13 +50,14 @@ pub record Kept (st : Story) : Type 0 where
   pub agrees : Agrees (st .ledger) (slots st) (table st)
 
 -- on a fresh card there is no file but the root
-kept-fresh : (img : List ℕ) (total : ℕ) (rule : List ℕ) → madeOf img total rule ≡ Done → Kept (begun (leftBy Done img total rule) total)
+kept-fresh : (img : List ℕ) (e : Edition) (total form : ℕ) (rule : List ℕ) → madeOf img e total form rule ≡ Done
+    → Kept (begun (leftBy Done img e total form rule) total)
 unfolding opened sumOver sumFiles
-kept-fresh img total rule e =
-    let v = viewAt (leftBy Done img total rule) in
-    let a = alone-made img total rule e in
+kept-fresh img e total form rule made =
+    let v = viewAt (leftBy Done img e total form rule) in
+    let a = alone-made img e total form rule made in
     record {
-      sound = sound-made img total rule e;
+      sound = sound-made img e total form rule made;
       agrees = record {
         total = sym (a .root);
         each = λ f. sym (sum-none _ (λ s. worth f s (v s)) (λ s l. ⊎-elim
@@ -99,7 +101,7 @@ kept-played (x ∷ rest) st k = kept-played rest (next st x) (kept-next st k x)
 
 pub history-kept : (st : Story) → History st → Kept st
 history-kept st h =
-    subst (λ (s : Story). Kept s) (h .story) (kept-played (h .calls) _ (kept-fresh (h .buffer) (h .total) (h .rule) (h .made)))
+    subst (λ (s : Story). Kept s) (h .story) (kept-played (h .calls) _ (kept-fresh (h .buffer) (h .edition) (h .total) (h .form) (h .rule) (h .made)))
 
 -- 6A84 exactly where size plus 64 exceeds the room, else 9000
 module _ (need left : ℕ) where
@@ -128,7 +130,7 @@ module _ (st : Story) (k : Kept st) where
   room-is d g = room-same (st .ledger) (slots st) (table st) (k .agrees) d g
 
   word-says :
-      (x : Call) → Ready (st .image) x → wordFor (st .image) x ≡ cond (leb (sizeSent x + 64) (room st (here st))) done notEnoughMemory
+      (x : Call) → Ready (st .image) x → wordFor (st .image) x ≡ cond (leb (sizeSent (st .image) x + 64) (room st (here st))) done notEnoughMemory
   unfolding fitsRoom
   word-says x r = memory-decides (st .image) x (k .sound) r ∙ rw (room-is (here st) current-dir)
 
@@ -182,8 +184,8 @@ module _ (st : Story) (k : Kept st) where
       k .sound .kin .charges d (dir d l .low) (dir d l .dir),
     );
     current = dir-lives (st .ledger) (slots st) (table st) (k .agrees) (here st) current-dir;
-    full = λ x r. rw (word-says x r) (refuses (sizeSent x + 64) (room st (here st)));
-    takes = λ x r. rw (word-says x r) (accepts (sizeSent x + 64) (room st (here st)));
+    full = λ x r. rw (word-says x r) (refuses (sizeSent (st .image) x + 64) (room st (here st)));
+    takes = λ x r. rw (word-says x r) (accepts (sizeSent (st .image) x + 64) (room st (here st)));
     begins = λ x d dead lives. begins-by st x d dead lives;
     newborn = newborn;
     ends = λ x d l. ends x d l;

@@ -11,7 +11,7 @@ use Rattle.laws.proofs.Says.{same-or}
 use Rattle.laws.proofs.Firsts.{first-is}
 use Rattle.rules.specs.Descriptor.{df, ef}
 use Rattle.image.specs.declared.Head.{Head}
-use Rattle.image.specs.Layout.{recAt, recordBytes, freeBytes, countOf, currentDfOf}
+use Rattle.image.specs.Layout.{versionOf, recAt, recordBytes, freeBytes, countOf, currentDfOf}
 use Rattle.sound.specs.Table.{View, viewAt, viewOf}
 use Rattle.sound.specs.Sound.{Sound}
 use Rattle.sound.specs.Kinship.{atOrBeneath, freeSlot}
@@ -52,10 +52,10 @@ module _ (img c : List ℕ) (sound : Sound img) (w : ℕ → View) where
     new-free = let f = first-is (countOf img) (λ t. eqb (viewAt img t .kind) 0) s (k .slot) in (eqb-true _ _ (f .here), f .low)
 
     one-more : (after : ℕ) → after ≡ cond (eqb (h .kind) df) s (currentDfOf img)
-        → ((t : ℕ) → t < countOf img → w t ≡ viewOf (cond (eqb t s) (recordBytes h name rule) (recAt img t)))
+        → ((t : ℕ) → t < countOf img → w t ≡ viewOf (cond (eqb t s) (recordBytes (versionOf img) h name rule) (recAt img t)))
         → OneMore (countOf img) (viewAt img) w (h .identifier) (h .size) (eqb (h .kind) df) (currentDfOf img) after
     one-more after q e =
-        let made : w s ≡ viewMade h name = e s (new-free .1) ∙ rw (eq-eqb s s refl) (view-made h name rule) in
+        let made : w s ≡ viewMade h name = e s (new-free .1) ∙ rw (eq-eqb s s refl) (view-made (versionOf img) h name rule) in
         record {
           slot = s;
           low = new-free .1;
@@ -71,9 +71,9 @@ module _ (img c : List ℕ) (sound : Sound img) (w : ℕ → View) where
 
   -- what is said of the announcement, if the word is 9000
   said : (v : Verdict) → Announced
-  said v = cond (eqb (wordOf v) done) (announced c) neither
+  said v = cond (eqb (wordOf v) done) (announced (versionOf img) c) neither
 
-  nothing-said : (v : Verdict) → announced c ≡ neither → said v ≡ neither
+  nothing-said : (v : Verdict) → announced (versionOf img) c ≡ neither → said v ≡ neither
   unfolding said
   nothing-said v e = rw e (go (eqb (wordOf v) done))
     where

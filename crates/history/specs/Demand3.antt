@@ -10,6 +10,7 @@ use Rattle.rules.specs.Descriptor.{df}
 use Rattle.image.specs.Layout.{countOf, currentDfOf}
 use Rattle.sound.specs.Table.{viewAt}
 use Rattle.sound.specs.Kinship.{freeSlot, roomFor}
+use Rattle.maker.specs.declared.Edition.{Edition}
 use Rattle.maker.specs.declared.Made.the-variants.{Done}
 use Rattle.maker.specs.Making.{madeOf, leftBy}
 use Rattle.verdict.specs.Words.{done, notEnoughMemory}
@@ -48,8 +49,8 @@ pub record Demand3 (st : Story) : Type 0 where
   -- the current one lives; where every earlier check passes, CREATE FILE says 6A84 exactly if size plus 64 exceeds its
   -- room, and 9000 otherwise
   pub current : Lives st (here st)
-  pub full : (x : Call) → Ready (st .image) x → (wordFor (st .image) x ≡ notEnoughMemory) ↔ (room st (here st) < sizeSent x + 64)
-  pub takes : (x : Call) → Ready (st .image) x → (wordFor (st .image) x ≡ done) ↔ (sizeSent x + 64 ≤ room st (here st))
+  pub full : (x : Call) → Ready (st .image) x → (wordFor (st .image) x ≡ notEnoughMemory) ↔ (room st (here st) < sizeSent (st .image) x + 64)
+  pub takes : (x : Call) → Ready (st .image) x → (wordFor (st .image) x ≡ done) ↔ (sizeSent (st .image) x + 64 ≤ room st (here st))
   -- from its creation, in a slot where none lived, with its announced total for its room
   pub begins : (x : Call) (d : ℕ) → (Lives st d → ⊥) → Lives (next st x) d → Makes st x d
   pub newborn : (x : Call) (d : ℕ) (m : Makes st x d) → (Lives st d → ⊥) × (Lives (next st x) d × (room (next st x) d ≡ m .total))
@@ -59,14 +60,16 @@ pub record Demand3 (st : Story) : Type 0 where
   -- nothing done while another is current takes a byte from it, or gives it one
   pub elsewhere : (x : Call) (d : ℕ) → Lives st d → (Strikes st x d → ⊥) → (d ≡ here st → ⊥) → room (next st x) d ≡ room st d
 
--- a history: what the maker left of some buffer, and any list of calls on it
+-- a history: what the maker left of some buffer, a card of any version, and any list of calls on it
 pub record History (st : Story) : Type 0 where
   pub buffer : List ℕ
+  pub edition : Edition
   pub total : ℕ
+  pub form : ℕ
   pub rule : List ℕ
   pub calls : List Call
-  pub made : madeOf buffer total rule ≡ Done
-  pub story : played (begun (leftBy Done buffer total rule) total) calls ≡ st
+  pub made : madeOf buffer edition total form rule ≡ Done
+  pub story : played (begun (leftBy Done buffer edition total form rule) total) calls ≡ st
 
 abbrev pub Demand3Holds : Type 0
 Demand3Holds = (st : Story) → History st → Demand3 st
@@ -82,7 +85,7 @@ NothingElsewhere = (st : Story) → History st → (d : ℕ) → Lives st d → 
 
 -- a full file table never refuses a CREATE that has room: a free record is there, and the word is 9000
 abbrev pub FullTableNever : Type 0
-FullTableNever = (st : Story) → History st → (x : Call) → Ready (st .image) x → sizeSent x + 64 ≤ room st (here st)
+FullTableNever = (st : Story) → History st → (x : Call) → Ready (st .image) x → sizeSent (st .image) x + 64 ≤ room st (here st)
     → (freeSlot (countOf (st .image)) (viewAt (st .image)) ≡ Nothing → ⊥) × (wordFor (st .image) x ≡ done)
 
 -- a file is charged to its direct parent alone: size plus 64, and no other directory that lives pays anything

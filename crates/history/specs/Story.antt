@@ -6,7 +6,7 @@ use mathlib.Core.List.{List, [], _∷_}
 use mathlib.Core.Logic.{_↔_, _⊎_}
 use Prim.Native.Nat.{ℕ}
 use lib.Dec.{eqb}
-use Rattle.image.specs.Layout.{currentDfOf}
+use Rattle.image.specs.Layout.{versionOf, currentDfOf}
 use Rattle.sound.specs.Sound.{Sound}
 use Rattle.create_data.specs.declared.Data.{Data}
 use Rattle.create_data.specs.declared.Data.the-variants.{Df, Ef, Bad}
@@ -21,15 +21,15 @@ use Rattle.card.specs.Steps.{stepsOf}
 use Rattle.card.specs.Demands.{Call, imageAfter}
 use Rattle.history.specs.Ledger.{Ledger, Announced, makes, deletes, neither, entered, opened}
 
--- what CREATE's data announce, and what a command does
+-- what CREATE's data announce, and what a command does, to a card of a version
 abbrev pub newEntry : Data → Announced
 newEntry Bad = neither
 newEntry (Df x) = makes (x .identifier) (x .size) true
 newEntry (Ef x) = makes (x .identifier) (x .size) false
 
-unfoldable pub announced : List ℕ → Announced
-announced c =
-    cond (eqb (instruction c) createFile) (newEntry (dataOf (sentData c)))
+unfoldable pub announced : ℕ → List ℕ → Announced
+announced v c =
+    cond (eqb (instruction c) createFile) (newEntry (dataOf v (sentData c)))
     (cond (eqb (instruction c) deleteFile) (deletes (sentIdentifier c))
     neither)
 
@@ -48,7 +48,7 @@ begun img total = record { image = img; ledger = opened total }
 
 -- what the ledger hears of a call: what it announced, if it was answered 9000
 unfoldable pub heard : List ℕ → Call → Announced
-heard img x = cond (eqb (wordFor img x) done) (announced (x .command)) neither
+heard img x = cond (eqb (wordFor img x) done) (announced (versionOf img) (x .command)) neither
 
 -- one call: the ledger hears it, and which DF slot is current before and after
 unfoldable pub next : Story → Call → Story
@@ -74,8 +74,8 @@ pub record Ready (img : List ℕ) (x : Call) : Type 0 where
   pub earlier : allHold (butLast (stepsOf img (x .command) (x .state))) ≡ true
 
 -- the size, or total, that it sends
-abbrev pub sizeSent : Call → ℕ
-sizeSent x = newSize (dataOf (sentData (x .command)))
+abbrev pub sizeSent : List ℕ → Call → ℕ
+sizeSent img x = newSize (dataOf (versionOf img) (sentData (x .command)))
 
 -- such CREATEs are just those answered 9000 or 6A84 (proofs/Memory, `ready-exactly`)
 abbrev pub ReadyExactly : Type 0

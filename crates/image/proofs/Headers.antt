@@ -10,7 +10,7 @@ use Rattle.laws.specs.Lists.{splice}
 use Rattle.laws.proofs.Splices.{length-splice, getD-splice-below, getD-splice-above, getD-splice-in, part-splice-other}
 use Rattle.numbers.specs.Numbers.{u16At, be16}
 use Rattle.numbers.proofs.Reading.{u16At-same}
-use Rattle.image.specs.Layout.{base, Within, recAt, putRecord, setLife, setCurrent, countOf, currentDfOf, currentEfOf}
+use Rattle.image.specs.Layout.{base, Within, recAt, putRecord, setLife, setCurrent, versionOf, countOf, currentDfOf, currentEfOf}
 
 -- an image b of the length of a, whose first 16 bytes are those of a but for what is current
 pub record SameFront (a b : List ℕ) : Type 0 where
@@ -48,6 +48,10 @@ front-trans a b c p q = record {
   start = λ k l. q .start k l ∙ p .start k l;
   tail = λ k l. q .tail k l ∙ p .tail k l;
 }
+
+pub same-version : (a b : List ℕ) → SameFront a b → versionOf b ≡ versionOf a
+unfolding versionOf
+same-version a b f = u16At-same b a 3 3 (f .start 3 (omega arith)) (f .start 4 (omega arith))
 
 pub same-count : (a b : List ℕ) → SameFront a b → countOf b ≡ countOf a
 unfolding countOf

@@ -1,5 +1,6 @@
 pub mod Places
 pub mod Records
+pub mod Versions
 pub mod Made
 pub mod Headers
 pub mod Lives

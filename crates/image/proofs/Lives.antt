@@ -14,7 +14,7 @@ use Rattle.laws.proofs.Says.{same-or, apart}
 use Rattle.numbers.specs.Numbers.{u16At, u32At}
 use Rattle.numbers.proofs.Reading.{u16At-same}
 use Rattle.image.specs.Layout.{base, Within, recAt, withLife, setLife, kindOf, descriptorOf, lifeCycleOf, identifierOf, parentOf}
-use Rattle.image.specs.Layout.{levelOf, recordLengthOf, sizeOf, nameOf, ruleOf, fieldAt}
+use Rattle.image.specs.Layout.{formOf, levelOf, recordLengthOf, sizeOf, nameOf, ruleOf, fieldAt}
 use Rattle.image.proofs.Places.{length-record}
 
 module _ (r : List ℕ) (x : ℕ) (whole : length r ≡ 64) where
@@ -42,6 +42,10 @@ module _ (r : List ℕ) (x : ℕ) (whole : length r ≡ 64) where
   unfolding descriptorOf
   descriptor-kept = byte-kept 1 (inl (omega arith))
 
+  pub form-kept : formOf (withLife r x) ≡ formOf r
+  unfolding formOf
+  form-kept = byte-kept 3 (inr (omega arith))
+
   pub identifier-kept : identifierOf (withLife r x) ≡ identifierOf r
   unfolding identifierOf
   identifier-kept = u16-kept 4 (omega arith)
@@ -62,7 +66,7 @@ module _ (r : List ℕ) (x : ℕ) (whole : length r ≡ 64) where
   unfolding sizeOf u32At
   size-kept = rw (u16-kept 12 (omega arith), u16-kept (12 + 2) (omega arith))
 
-  field-kept : (n : ℕ) → 3 ≤ n → n ≤ 33 → getD r n 0 ≤ 16 → fieldAt (withLife r x) n ≡ fieldAt r n
+  field-kept : (n : ℕ) → 3 ≤ n → n ≤ 33 → getD r n 0 ≤ 30 → fieldAt (withLife r x) n ≡ fieldAt r n
   unfolding fieldAt withLife
   field-kept n a b h =
       ap (λ (m : ℕ). part (withLife r x) (n + 1) m) (byte-kept n (inr a))
@@ -70,9 +74,9 @@ module _ (r : List ℕ) (x : ℕ) (whole : length r ≡ 64) where
 
   pub name-kept : getD r 16 0 ≤ 16 → nameOf (withLife r x) ≡ nameOf r
   unfolding nameOf
-  name-kept h = field-kept 16 (omega arith) (omega arith) h
+  name-kept h = field-kept 16 (omega arith) (omega arith) (omega arith)
 
-  pub rule-kept : getD r 33 0 ≤ 16 → ruleOf (withLife r x) ≡ ruleOf r
+  pub rule-kept : getD r 33 0 ≤ 30 → ruleOf (withLife r x) ≡ ruleOf r
   unfolding ruleOf
   rule-kept h = field-kept 33 (omega arith) (omega arith) h
 

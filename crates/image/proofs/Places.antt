@@ -8,8 +8,8 @@ use Rattle.laws.specs.Lists.{part}
 use Rattle.laws.proofs.Splices.{getD-part, part-part, length-part}
 use Rattle.numbers.specs.Numbers.{u16At, u32At}
 use Rattle.numbers.proofs.Reading.{u16At-part, u32At-part}
-use Rattle.image.specs.Layout.{base, Within, recAt, kindOf, descriptorOf, lifeCycleOf, identifierOf, parentOf, levelOf}
-use Rattle.image.specs.Layout.{recordLengthOf, sizeOf, fieldAt}
+use Rattle.image.specs.Layout.{base, Within, recAt, kindOf, descriptorOf, lifeCycleOf, formOf, identifierOf, parentOf}
+use Rattle.image.specs.Layout.{levelOf, recordLengthOf, sizeOf, fieldAt}
 
 module _ (img : List ℕ) (s : ℕ) where
   pub byte-in : (k : ℕ) → k < 64 → getD (recAt img s) k 0 ≡ getD img (base s + k) 0
@@ -31,6 +31,10 @@ module _ (img : List ℕ) (s : ℕ) where
   pub life-in : lifeCycleOf (recAt img s) ≡ getD img (base s + 2) 0
   unfolding lifeCycleOf
   life-in = byte-in 2 (omega arith)
+
+  pub form-in : formOf (recAt img s) ≡ getD img (base s + 3) 0
+  unfolding formOf
+  form-in = byte-in 3 (omega arith)
 
   pub identifier-in : identifierOf (recAt img s) ≡ u16At img (base s + 4)
   unfolding identifierOf
@@ -64,7 +68,7 @@ module _ (img : List ℕ) (s : ℕ) where
   length-record h = length-part img (base s) 64 h
 
   -- the name (k = 16) or the rule (k = 33) as a part of the image: n is the length that was read
-  module _ (k : ℕ) (w : Within img s) (low : k ≤ 33) (short : getD (recAt img s) k 0 ≤ 16) where
+  module _ (k : ℕ) (w : Within img s) (low : k ≤ 33) (short : getD (recAt img s) k 0 ≤ 30) where
     pub field-in : (n : ℕ) → n ≡ getD img (base s + k) 0
         → take (base s + (k + 1) + n - (base s + (k + 1))) (drop (base s + (k + 1)) img) ≡ fieldAt (recAt img s) k
     unfolding fieldAt recAt part

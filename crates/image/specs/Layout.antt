@@ -1,8 +1,10 @@
 -- The image, 01 "Image": 16 bytes of header, then N records of 64 bytes. Numbers are big-endian. The image
 -- is its list of bytes, a record the part of 64 of them, a field a function of those 64; a write is a splice.
 use mathlib.Core.Path.{_≡_}
+use mathlib.Core.Bool.{Bool, cond}
 use mathlib.Core.List.{List, [], _∷_, _++_}
 use Prim.Native.Nat.{ℕ, _+_, _*_, _-_, _<_, _≤_}
+use lib.Dec.{eqb, ltb}
 use lib.ListN.{length, getD, replicate}
 use Rattle.laws.specs.Lists.{part, splice}
 use Rattle.numbers.specs.Numbers.{u16At, u32At, be16, be32}
@@ -29,6 +31,23 @@ currentEfOf img = u16At img 9
 abbrev pub none : ℕ
 none = 0xFFFF
 
+-- The versions, a line for each: how many bytes a rule may have, from 34 of a record on, and how many forms of rules there are
+-- (02 Ticket 3). The bytes from the longest rule's end to the record's, 30 less so many, are zero.
+
+unfoldable pub longestRule : ℕ → ℕ
+longestRule v =
+    cond (eqb v 1) 16
+    (cond (eqb v 2) 30 0)
+
+unfoldable pub formsOf : ℕ → ℕ
+formsOf v =
+    cond (eqb v 1) 1
+    (cond (eqb v 2) 2 0)
+
+-- a version is known where it has a form
+unfoldable pub knownVersion : ℕ → Bool
+knownVersion v = ltb 0 (formsOf v)
+
 -- the image has room for exactly n records, 2 to 1,023
 pub record Sized (img : List ℕ) (n : ℕ) : Type 0 where
   pub long : length img ≡ 16 + 64 * n
@@ -47,9 +66,9 @@ Within img s = (base s + 64 ≤ length img) × (s < 1023)
 unfoldable pub recAt : List ℕ → ℕ → List ℕ
 recAt img s = part img (base s) 64
 
--- A record: 0 kind (0 free, 1 DF, 2 EF); 1 file descriptor byte; 2 life-cycle byte; 3 zero; 4 identifier;
--- 6 parent slot; 8 level; 10 record length; 12 size; 16 name length, 17..32 name; 33 rule length, 34..49 rule;
--- 50..63 zero
+-- A record: 0 kind (0 free, 1 DF, 2 EF); 1 file descriptor byte; 2 life-cycle byte; 3 the rule's form; 4 identifier;
+-- 6 parent slot; 8 level; 10 record length; 12 size; 16 name length, 17..32 name; 33 rule length, from 34 on the rule; zero
+-- after it
 
 unfoldable pub kindOf : List ℕ → ℕ
 kindOf r = getD r 0 0
@@ -59,6 +78,9 @@ descriptorOf r = getD r 1 0
 
 unfoldable pub lifeCycleOf : List ℕ → ℕ
 lifeCycleOf r = getD r 2 0
+
+unfoldable pub formOf : List ℕ → ℕ
+formOf r = getD r 3 0
 
 unfoldable pub identifierOf : List ℕ → ℕ
 identifierOf r = u16At r 4
@@ -90,15 +112,15 @@ ruleOf r = fieldAt r 33
 -- the first 16 bytes
 unfoldable pub headBytes : Head → List ℕ
 headBytes h =
-    (h .kind ∷ h .descriptor ∷ h .life ∷ 0 ∷ [])
+    (h .kind ∷ h .descriptor ∷ h .life ∷ h .form ∷ [])
     ++ be16 (h .identifier) ++ be16 (h .parent) ++ be16 (h .level) ++ be16 (h .«record_length») ++ be32 (h .size)
 
--- a length and so many bytes, zero-padded to 16
-unfoldable pub field : List ℕ → List ℕ
-field v = (length v ∷ v) ++ replicate (16 - length v) 0
+-- a length and so many bytes, zero-padded to `most`
+unfoldable pub field : ℕ → List ℕ → List ℕ
+field most v = (length v ∷ v) ++ replicate (most - length v) 0
 
-unfoldable pub recordBytes : Head → List ℕ → List ℕ → List ℕ
-recordBytes h name rule = headBytes h ++ field name ++ field rule ++ replicate 14 0
+unfoldable pub recordBytes : ℕ → Head → List ℕ → List ℕ → List ℕ
+recordBytes v h name rule = headBytes h ++ field 16 name ++ field (longestRule v) rule ++ replicate (30 - longestRule v) 0
 
 -- a free record is all zero
 abbrev pub freeBytes : List ℕ

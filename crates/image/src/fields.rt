@@ -2,8 +2,16 @@
 ghost use mathlib.Core.Path.{_≡_};
 ghost use Prim.Native.Nat.{_+_, _*_, _<_, _≤_};
 ghost use lib.ListN.{length, getD};
-ghost use Rattle.image.specs.Layout.{countOf, currentDfOf, currentEfOf, Within, recAt, kindOf, descriptorOf, lifeCycleOf};
+ghost use Rattle.image.specs.Layout.{versionOf, countOf, currentDfOf, currentEfOf, Within, recAt, kindOf, descriptorOf, lifeCycleOf, formOf};
 ghost use Rattle.image.specs.Layout.{identifierOf, parentOf, levelOf, recordLengthOf, sizeOf, fieldAt, nameOf, ruleOf};
+
+// The version.
+pub fn version(image: &[u8]) -> u32
+    requires { ⌜ 16 ≤ length (now image) ⌝ }
+    ensures { λ r. ⌜ r ≡ versionOf (now (image .entry)) ⌝ }
+{
+    numbers::u16_at(image, 3) as u32
+}
 
 // The slot count N.
 pub fn count(image: &[u8]) -> usize
@@ -47,6 +55,14 @@ pub fn life_cycle(image: &[u8], s: usize) -> u8
     ensures { λ r. ⌜ r ≡ lifeCycleOf (recAt (now (image .entry)) s) ⌝ }
 {
     image[16 + 64 * s + 2]
+}
+
+// The form of the rule.
+pub fn form(image: &[u8], s: usize) -> u8
+    requires { ⌜ Within (now image) s ⌝ }
+    ensures { λ r. ⌜ r ≡ formOf (recAt (now (image .entry)) s) ⌝ }
+{
+    image[16 + 64 * s + 3]
 }
 
 pub fn identifier(image: &[u8], s: usize) -> u16
@@ -96,10 +112,10 @@ pub fn record(image: &[u8], s: usize) -> &[u8]
     &image[from..to]
 }
 
-// The field of record s at k, as a part of the image: a length, and so many bytes after it.
+// The field of record s at k, as a part of the image: a length, and so many bytes after it, within the record.
 fn field(image: &[u8], s: usize, k: usize) -> &[u8]
     requires { ⌜ Within (now image) s × (k ≤ 33) ⌝ }
-    requires { ⌜ getD (recAt (now image) s) k 0 ≤ 16 ⌝ }
+    requires { ⌜ getD (recAt (now image) s) k 0 ≤ 30 ⌝ }
     ensures { λ r. ⌜ now r ≡ fieldAt (recAt (now (image .entry)) s) k ⌝ }
 {
     let at = 16 + 64 * s;
@@ -119,7 +135,7 @@ pub fn name(image: &[u8], s: usize) -> &[u8]
 
 // The rule of record s.
 pub fn rule(image: &[u8], s: usize) -> &[u8]
-    requires { ⌜ Within (now image) s × (getD (recAt (now image) s) 33 0 ≤ 16) ⌝ }
+    requires { ⌜ Within (now image) s × (getD (recAt (now image) s) 33 0 ≤ 30) ⌝ }
     ensures { λ r. ⌜ now r ≡ ruleOf (recAt (now (image .entry)) s) ⌝ }
 {
     field(image, s, 33)

@@ -2,6 +2,7 @@
 // "Image", the two tables: where each field stands, and what a write leaves of the other bytes. What makes an image
 // sound is the matter of the crates above.
 pub mod fields;
+pub mod version;
 pub mod write;
 
 // The kind of a free record; what stands in the place of the current EF where there is none, as it is written and as a slot.
@@ -16,6 +17,7 @@ pub struct Head {
     pub kind: u8,
     pub descriptor: u8,
     pub life: u8,
+    pub form: u8,
     pub identifier: u16,
     pub parent: u16,
     pub level: u16,

@@ -4,8 +4,9 @@ ghost use mathlib.Core.Path.{_≡_};
 ghost use Prim.Native.Nat.{_+_, _*_, _≤_};
 ghost use lib.ListN.{length};
 ghost use Rattle.laws.specs.Lists.{splice};
-ghost use Rattle.image.specs.Layout.{Within, field, headBytes, recordBytes, putRecord, clearRecord, setLife, setCurrent};
+ghost use Rattle.image.specs.Layout.{Within, longestRule, field, headBytes, recordBytes, putRecord, clearRecord, setLife, setCurrent};
 use crate::Head;
+use crate::version;
 
 // The first 16 bytes of a record.
 fn put_head(image: &mut [u8], at: usize, h: Head)
@@ -15,7 +16,7 @@ fn put_head(image: &mut [u8], at: usize, h: Head)
     numbers::put8(image, at, h.kind);
     numbers::put8(image, at + 1, h.descriptor);
     numbers::put8(image, at + 2, h.life);
-    numbers::put8(image, at + 3, 0);
+    numbers::put8(image, at + 3, h.form);
     numbers::put16(image, at + 4, h.identifier);
     numbers::put16(image, at + 6, h.parent);
     numbers::put16(image, at + 8, h.level);
@@ -23,27 +24,28 @@ fn put_head(image: &mut [u8], at: usize, h: Head)
     numbers::put32(image, at + 12, h.size);
 }
 
-// A length and so many bytes, zero-padded to 16.
-fn put_field(image: &mut [u8], at: usize, v: &[u8])
-    requires { ⌜ (at + 17 ≤ length (now image)) × (length (now v) ≤ 16) ⌝ }
-    ensures { λ _. ⌜ now (image .exit) ≡ splice (now (image .entry)) at (field (now (v .entry))) ⌝ }
+// A length and so many bytes, zero-padded to `most`.
+fn put_field(image: &mut [u8], at: usize, v: &[u8], most: usize)
+    requires { ⌜ (at + 1 + most ≤ length (now image)) × ((length (now v) ≤ most) × (most ≤ 30)) ⌝ }
+    ensures { λ _. ⌜ now (image .exit) ≡ splice (now (image .entry)) at (field most (now (v .entry))) ⌝ }
 {
     let n = v.len();
     numbers::put8(image, at, n as u8);
     numbers::copy_in(image, at + 1, v);
-    numbers::zero_out(image, at + 1 + n, 16 - n);
+    numbers::zero_out(image, at + 1 + n, most - n);
 }
 
-// Record s, whole.
-pub fn put_record(image: &mut [u8], s: usize, h: Head, name: &[u8], rule: &[u8])
-    requires { ⌜ Within (now image) s × ((length (now name) ≤ 16) × (length (now rule) ≤ 16)) ⌝ }
-    ensures { λ _. ⌜ now (image .exit) ≡ putRecord (now (image .entry)) s (recordBytes h (now (name .entry)) (now (rule .entry))) ⌝ }
+// Record s, whole, as the version lays it down.
+pub fn put_record(image: &mut [u8], v: u32, s: usize, h: Head, name: &[u8], rule: &[u8])
+    requires { ⌜ Within (now image) s × ((length (now name) ≤ 16) × (length (now rule) ≤ longestRule v)) ⌝ }
+    ensures { λ _. ⌜ now (image .exit) ≡ putRecord (now (image .entry)) s (recordBytes v h (now (name .entry)) (now (rule .entry))) ⌝ }
 {
     let at = 16 + 64 * s;
+    let most = version::longest_rule(v);
     put_head(image, at, h);
-    put_field(image, at + 16, name);
-    put_field(image, at + 33, rule);
-    numbers::zero_out(image, at + 50, 14);
+    put_field(image, at + 16, name, 16);
+    put_field(image, at + 33, rule, most);
+    numbers::zero_out(image, at + 34 + most, 30 - most);
 }
 
 // Record s becomes a free one.

@@ -7,6 +7,7 @@ use Rattle.rules.specs.declared.Sets.{Sets}
 use Rattle.rules.specs.declared.Right.the-variants.{CreateDf, CreateEf}
 use Rattle.rules.specs.Descriptor.{df, ef}
 use Rattle.image.specs.declared.Head.{Head}
+use Rattle.image.specs.Layout.{versionOf}
 use Rattle.sound.specs.Table.{viewAt}
 use Rattle.sound.specs.Kinship.{freeSlot}
 use Rattle.template.specs.declared.Span.{Span}
@@ -24,23 +25,23 @@ use Rattle.judge_target.specs.Target.{slotIn, newRecord}
 use Rattle.judge_create.specs.Creation.{admission, create}
 
 -- r is what the reader gave, q the slot that the search gave
-module _ (img : List ℕ) (n d : ℕ) (s : List ℕ) (x : Sets) {r : Data} (e : r ≡ dataOf s) where
+module _ (img : List ℕ) (n d : ℕ) (s : List ℕ) (x : Sets) {w : ℕ} (known : w ≡ versionOf img) {r : Data} (e : r ≡ dataOf w s) where
   pub create-bad : r ≡ Bad → Refuse wrongData ≡ followed (create img n d s x)
   unfolding followed
-  create-bad f = rw (sym e ∙ f)
+  create-bad f = rw (← known, sym e ∙ f)
 
   module _ {q : ℕ} (g : q ≡ slotIn (freeSlot n (viewAt img))) {v : Verdict} {f : NewFile} where
     pub create-df : r ≡ Df f
         → v ≡ judged (admission img n d CreateDf (f .identifier) (bytesAt s (f .name)) (f .size) x) (Create (newRecord img d q df f))
         → v ≡ followed (create img n d s x)
     unfolding followed
-    create-df k h = rw (sym e ∙ k, ← g) h
+    create-df k h = rw (← known, sym e ∙ k, ← g) h
 
     pub create-ef : r ≡ Ef f
         → v ≡ judged (admission img n d CreateEf (f .identifier) (bytesAt s (f .name)) (f .size) x) (Create (newRecord img d q ef f))
         → v ≡ followed (create img n d s x)
     unfolding followed
-    create-ef k h = rw (sym e ∙ k, ← g) h
+    create-ef k h = rw (← known, sym e ∙ k, ← g) h
 
 -- the head h is that of k
 pub head-is : (steps : List Step) (s : ℕ) (name rule : Span) {h k : Head} {v : Verdict} → h ≡ k
@@ -49,8 +50,8 @@ pub head-is : (steps : List Step) (s : ℕ) (name rule : Span) {h k : Head} {v :
 head-is steps s name rule e f = f ∙ ap (λ (x : Head). judged steps (Create (record { slot = s; head = x; name = name; rule = rule }))) e
 
 -- the stretch of a new file's name, in good data
-pub df-name : (s : List ℕ) (r : Data) (f : NewFile) → Good s r → r ≡ Df f → (f .name .start ≤ f .name .end) × (f .name .end ≤ length s)
-df-name s r f g e = let k : GoodDf s f = subst (Good s) e g in (k .file .name-low, k .file .name-high)
+pub df-name : (v : ℕ) (s : List ℕ) (r : Data) (f : NewFile) → Good v s r → r ≡ Df f → (f .name .start ≤ f .name .end) × (f .name .end ≤ length s)
+df-name v s r f g e = let k : GoodDf v s f = subst (Good v s) e g in (k .file .name-low, k .file .name-high)
 
-pub ef-name : (s : List ℕ) (r : Data) (f : NewFile) → Good s r → r ≡ Ef f → (f .name .start ≤ f .name .end) × (f .name .end ≤ length s)
-ef-name s r f g e = let k : GoodEf s f = subst (Good s) e g in (k .file .name-low, k .file .name-high)
+pub ef-name : (v : ℕ) (s : List ℕ) (r : Data) (f : NewFile) → Good v s r → r ≡ Ef f → (f .name .start ≤ f .name .end) × (f .name .end ≤ length s)
+ef-name v s r f g e = let k : GoodEf v s f = subst (Good v s) e g in (k .file .name-low, k .file .name-high)

@@ -6,7 +6,7 @@ use mathlib.Core.List.{List, [], _∷_}
 use Rattle.rules.specs.declared.Sets.{Sets}
 use Rattle.rules.specs.declared.Right.{Right}
 use Rattle.rules.specs.Life.{isDeactivated}
-use Rattle.image.specs.Layout.{none}
+use Rattle.image.specs.Layout.{versionOf}
 use Rattle.sound.specs.Table.{viewAt}
 use Rattle.sound.specs.Kinship.{freeSlot, terminatedUp, identifierFree, nameFree, fitsRoom}
 use Rattle.create_data.specs.declared.Data.{Data}
@@ -32,7 +32,7 @@ admission img n d right identifier name size x =
 -- CREATE; s is its data. The new file takes the lowest free slot
 abbrev pub create : List ℕ → ℕ → ℕ → List ℕ → Sets → Plan
 create img n d s x =
-    let new : Data = dataOf s in
+    let new : Data = dataOf (versionOf img) s in
     plan
     (step (describes new) wrongData                                                                    -- H
     ∷ admission img n d (rightFor new) (newIdentifier new) (newName s new) (newSize new) x)         -- J to L

@@ -100,6 +100,7 @@ fn head_of(image: &[u8], n: usize, d: usize, kind: u8, new: NewFile) -> Head
         kind,
         descriptor: new.descriptor,
         life: new.life,
+        form: new.form,
         identifier: new.identifier,
         parent: d as u16,
         level: (level + 1) as u16,
@@ -151,7 +152,7 @@ pub fn create_file(image: &[u8], n: usize, d: usize, sent: &[u8], sets: Sets) ->
     ensures { λ r. ⌜ r ≡ followed (create (now (image .entry)) n d (now (sent .entry)) sets) ⌝ }
 {
     let s = new_slot(image, n);
-    match create_data::read(sent) {
+    match create_data::read(sent, fields::version(image)) {
         Data::Df(new) => new_file(
             image,
             n,

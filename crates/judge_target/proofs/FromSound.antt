@@ -14,7 +14,8 @@ use Rattle.laws.specs.Walks.{orElse}
 use Rattle.laws.proofs.Says.{and-says, same-or}
 use Rattle.laws.proofs.Firsts.{first-is}
 use Rattle.rules.specs.Descriptor.{df, ef}
-use Rattle.image.specs.Layout.{recAt, kindOf, countOf, currentDfOf, currentEfOf, none}
+use Rattle.image.specs.Layout.{versionOf, recAt, kindOf, countOf, currentDfOf, currentEfOf, none}
+use Rattle.image.proofs.Versions.{longest-within}
 use Rattle.sound.specs.Table.{View, viewAt, File}
 use Rattle.sound.specs.Own.{Own}
 use Rattle.sound.specs.Sound.{Sound}
@@ -38,8 +39,8 @@ module _ (img : List ℕ) (sound : Sound img) where
       let root = rooted img sound in
       record {
         rooted = root;
-        names = record { sized = sized img sound; short = λ s l. name-short (recAt img s) (sound .records s l) };
-        ruled = λ s l. rule-short (recAt img s) (sound .records s l);
+        names = record { sized = sized img sound; short = λ s l. name-short (versionOf img) (recAt img s) (sound .records s l) };
+        ruled = λ s l. rule-short (versionOf img) (recAt img s) (sound .records s l);
         root = stands 0 df (omega (arith, sound .header .least)) (sound .kin .root-kind) (λ e. omega arith);
         df = stands (currentDfOf img) df (d .df-low) (d .df-dir) (λ e. omega arith);
         paid = paid img sound (currentDfOf img) (d .df-low) (d .df-dir);
@@ -48,11 +49,12 @@ module _ (img : List ℕ) (sound : Sound img) where
         ef = λ z. stands (currentEfOf img) ef (d .ef-low z) (d .ef-file z) (λ e. omega arith);
       }
     where
-      name-short : (r : List ℕ) → Own r → getD r 16 0 ≤ 16
-      name-short r o = ⊎-elim (λ e. omega (arith, o .free e 16 (omega arith))) (λ z. o .used z .name .short) (same-or (kindOf r) 0)
+      name-short : (v : ℕ) (r : List ℕ) → Own v r → getD r 16 0 ≤ 16
+      name-short v r o = ⊎-elim (λ e. omega (arith, o .free e 16 (omega arith))) (λ z. o .used z .name .short) (same-or (kindOf r) 0)
 
-      rule-short : (r : List ℕ) → Own r → getD r 33 0 ≤ 16
-      rule-short r o = ⊎-elim (λ e. omega (arith, o .free e 33 (omega arith))) (λ z. o .used z .rule .short) (same-or (kindOf r) 0)
+      rule-short : (v : ℕ) (r : List ℕ) → Own v r → getD r 33 0 ≤ 30
+      rule-short v r o = ⊎-elim (λ e. omega (arith, o .free e 33 (omega arith)))
+          (λ z. omega (arith, o .used z .rule .short, longest-within v)) (same-or (kindOf r) 0)
 
 -- a child that a search finds is a file
 pub child-stands : (img : List ℕ) (n d x s : ℕ) → childNamed n (viewAt img) d x ≡ At s → Stands img n s

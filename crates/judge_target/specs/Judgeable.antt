@@ -12,8 +12,8 @@ use Rattle.kinship.specs.Search.{NamesFit}
 pub record Judgeable (img : List ℕ) (n d : ℕ) : Type 0 where
   pub rooted : Rooted img n
   pub names : NamesFit img n
-  -- every record's rule stands within its field
-  pub ruled : (s : ℕ) → s < n → getD (recAt img s) 33 0 ≤ 16
+  -- every record's rule stands within it
+  pub ruled : (s : ℕ) → s < n → getD (recAt img s) 33 0 ≤ 30
   pub root : Stands img n 0
   -- the current DF is a file, has paid for its children, and lies at most as deep as there are records
   pub df : Stands img n d

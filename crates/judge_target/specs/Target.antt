@@ -10,9 +10,9 @@ use Rattle.rules.specs.declared.Right.{Right}
 use Rattle.rules.specs.declared.Right.the-variants.{CreateDf, CreateEf}
 use Rattle.rules.specs.declared.Sets.{Sets}
 use Rattle.rules.specs.Descriptor.{df, ef}
-use Rattle.rules.specs.Rule.{grantedOf}
 use Rattle.image.specs.declared.Head.{Head}
-use Rattle.image.specs.Layout.{recAt, currentDfOf, currentEfOf, none, lifeCycleOf, ruleOf}
+use Rattle.image.specs.Layout.{recAt, currentDfOf, currentEfOf, none, lifeCycleOf, formOf, ruleOf}
+use Rattle.access.specs.Access.{grantedOf}
 use Rattle.sound.specs.Table.{View, viewAt}
 use Rattle.sound.specs.Kinship.{childNamed}
 use Rattle.kinship.specs.Search.{dfNamed}
@@ -32,9 +32,9 @@ currentFile img = cond (eqb (currentEfOf img) none) (currentDfOf img) (currentEf
 abbrev pub lifeAt : List ℕ → ℕ → ℕ
 lifeAt img s = lifeCycleOf (recAt img s)
 
--- the rule of the file in slot s grants a right
+-- the rule of the file in slot s, whatever its form, grants a right
 unfoldable pub allowedAt : List ℕ → ℕ → Right → Sets → Bool
-allowedAt img s right x = grantedOf (ruleOf (recAt img s)) right x
+allowedAt img s right x = grantedOf (formOf (recAt img s)) (ruleOf (recAt img s)) right x
 
 -- what a search found
 abbrev pub isFound : Found → Bool
@@ -92,6 +92,7 @@ newHead img d kind x = record {
   kind = kind;
   descriptor = x .descriptor;
   life = x .life;
+  form = x .form;
   identifier = x .identifier;
   parent = d;
   level = viewAt img d .level + 1;

@@ -16,7 +16,6 @@ use laws::Found;
 use rules::Right;
 use rules::Sets;
 use rules::life_cycle;
-use rules::rule;
 
 // Whether the rule of the file in slot s grants a right.
 pub fn allowed(image: &[u8], n: usize, d: usize, s: usize, right: Right, sets: Sets) -> bool
@@ -24,7 +23,7 @@ pub fn allowed(image: &[u8], n: usize, d: usize, s: usize, right: Right, sets: S
     requires { ⌜ s < n ⌝ }
     ensures { λ r. ⌜ r ≡ allowedAt (now (image .entry)) s right sets ⌝ }
 {
-    rule::granted(fields::rule(image, s), right, sets)
+    access::granted(fields::form(image, s), fields::rule(image, s), right, sets)
 }
 
 // The current EF, else the current DF.

@@ -1,12 +1,14 @@
 // The maker: a fresh image in a lent buffer of any length, or the buffer as it came (01 "Making and
-// reporting").
+// reporting", 02 Ticket 3).
 ghost use mathlib.Core.Path.{_≡_};
 ghost use Prim.Native.Nat.{_≤_};
 ghost use lib.ListN.{length};
 ghost use Rattle.laws.specs.Lists.{splice};
-ghost use Rattle.image.specs.Layout.{Sized};
+ghost use Rattle.image.specs.Layout.{Sized, longestRule};
+ghost use Rattle.access.specs.Access.{fitsRecord};
 ghost use Rattle.sound.specs.Effects.{freshHeader, fresh};
-ghost use Rattle.maker.specs.Making.{slotsIn, fitsLength, fitsTotal, MakerPromises};
+ghost use Rattle.maker.specs.Making.{slotsIn, fitsLength, fitsBuffer, fitsTotal, MakerPromises};
+use crate::Edition;
 use crate::Made;
 use image::Head;
 use rules::descriptor;
@@ -48,15 +50,15 @@ fn fits_total(n: usize, total: u32) -> bool
     total as usize <= most
 }
 
-// The header of a fresh card of n slots.
-fn put_header(image: &mut [u8], n: u16)
+// The header of a fresh card of a version and n slots.
+fn put_header(image: &mut [u8], v: u16, n: u16)
     requires { ⌜ 16 ≤ length (now image) ⌝ }
-    ensures { λ _. ⌜ now (image .exit) ≡ splice (now (image .entry)) 0 (freshHeader n) ⌝ }
+    ensures { λ _. ⌜ now (image .exit) ≡ splice (now (image .entry)) 0 (freshHeader v n) ⌝ }
 {
     numbers::put8(image, 0, 0x55);
     numbers::put8(image, 1, 0x46);
     numbers::put8(image, 2, 0x54);
-    numbers::put16(image, 3, 1);
+    numbers::put16(image, 3, v);
     numbers::put16(image, 5, n);
     numbers::put16(image, 7, 0);
     numbers::put16(image, 9, image::NONE);
@@ -64,41 +66,62 @@ fn put_header(image: &mut [u8], n: u16)
 }
 
 // The header, the root, and free records after it: every byte of the buffer.
-fn put_fresh(image: &mut [u8], n: usize, total: u32, rule: &[u8])
-    requires { ⌜ Sized (now image) n × (length (now rule) ≤ 16) ⌝ }
-    ensures { λ _. ⌜ now (image .exit) ≡ fresh n total (now (rule .entry)) ⌝ }
+fn put_fresh(image: &mut [u8], v: u32, n: usize, total: u32, form: u8, rule: &[u8])
+    requires { ⌜ Sized (now image) n × ((length (now rule) ≤ longestRule v) × (v ≤ 2)) ⌝ }
+    ensures { λ _. ⌜ now (image .exit) ≡ fresh v n total form (now (rule .entry)) ⌝ }
 {
     let name = &rule[0..0];
     let root = Head {
         kind: descriptor::DF,
         descriptor: 0x38,
         life: life_cycle::ACTIVATED_BYTE,
+        form: form,
         identifier: 0x3F00,
         parent: 0,
         level: 0,
         record_length: 0,
         size: total,
     };
-    put_header(image, n as u16);
-    image::write::put_record(image, 0, root, name, rule);
+    put_header(image, v as u16, n as u16);
+    image::write::put_record(image, v, 0, root, name, rule);
     numbers::zero_out(image, 80, 64 * (n - 1));
 }
 
-// Makes a fresh image of a buffer, with a root of that total and rule.
-pub fn make(image: &mut [u8], total: u32, rule: &[u8]) -> Made
-    ensures { λ r. ⌜ MakerPromises (now (image .entry)) total (now (rule .entry)) r (now (image .exit)) ⌝ }
+// Whether so many bytes can be a card of that edition.
+fn fits_buffer(long: usize, e: Edition) -> bool
+    ensures { λ r. ⌜ r ≡ fitsBuffer long e ⌝ }
+{
+    if !fits_length(long) {
+        return false;
+    }
+    image::version::is_known(e.version)
+}
+
+// Whether a rule fits a record. A form that no byte holds is none.
+fn fits_rule(v: u32, form: u32, rule: &[u8]) -> bool
+    ensures { λ r. ⌜ r ≡ fitsRecord v form (now (rule .entry)) ⌝ }
+{
+    if form > 255 {
+        return false;
+    }
+    access::fits_record(v, form as u8, rule)
+}
+
+// Makes a fresh image of a buffer: a card of that edition, with a root of that total and rule.
+pub fn make(image: &mut [u8], edition: Edition, total: u32, form: u32, rule: &[u8]) -> Made
+    ensures { λ r. ⌜ MakerPromises (now (image .entry)) edition total form (now (rule .entry)) r (now (image .exit)) ⌝ }
 {
     let long = image.len();
-    if !fits_length(long) {
+    if !fits_buffer(long, edition) {
         return Made::BadLength;
     }
     let n = slots_in(long);
     if !fits_total(n, total) {
         return Made::BadTotal;
     }
-    if !rules::rule::fits_record(rule) {
+    if !fits_rule(edition.version, form, rule) {
         return Made::BadRule;
     }
-    put_fresh(image, n, total, rule);
+    put_fresh(image, edition.version, n, total, form as u8, rule);
     Made::Done
 }

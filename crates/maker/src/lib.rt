@@ -4,7 +4,12 @@
 pub mod fresh;
 pub mod report;
 
-// What the maker answers.
+// Which card is made: the version of its image.
+pub struct Edition {
+    pub version: u32,
+}
+
+// What the maker answers; a version that is not known is answered like a length that no image has.
 pub enum Made {
     Done,
     BadLength,

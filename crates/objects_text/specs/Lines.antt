@@ -18,7 +18,7 @@ markLine at word = hex at ++ (32 ∷ []) ++ word
 abbrev pub tagAndLength : ℕ → ℕ → List ℕ
 tagAndLength tag long = hex tag ++ (32 ∷ []) ++ hex long
 
--- the words `END`, `BREAK`, `HEAD`, `DF`, `EF` and `6A80`, each to the end of its line
+-- the words `END`, `BREAK`, `HEAD`, `DF`, `EF`, `DF 2`, `EF 2` and `6A80`, each to the end of its line
 abbrev pub end : List ℕ
 end = 69 ∷ 78 ∷ 68 ∷ 10 ∷ []
 
@@ -33,6 +33,12 @@ df = 68 ∷ 70 ∷ 10 ∷ []
 
 abbrev pub ef : List ℕ
 ef = 69 ∷ 70 ∷ 10 ∷ []
+
+abbrev pub laterDf : List ℕ
+laterDf = 68 ∷ 70 ∷ 32 ∷ 50 ∷ 10 ∷ []
+
+abbrev pub laterEf : List ℕ
+laterEf = 69 ∷ 70 ∷ 32 ∷ 50 ∷ 10 ∷ []
 
 abbrev pub bad : List ℕ
 bad = 54 ∷ 65 ∷ 56 ∷ 48 ∷ 10 ∷ []

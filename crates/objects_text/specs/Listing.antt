@@ -12,7 +12,7 @@ use Rattle.template.specs.Objects.{objectAt, objectsOf}
 use Rattle.create_data.specs.Data.{isTemplate, dataOf}
 use Rattle.reader.specs.Places.{placeAfter}
 use Rattle.text.specs.Written.{big}
-use Rattle.objects_text.specs.Lines.{markLine, tagAndLength, lifeLine, end, break, head, df, ef, bad}
+use Rattle.objects_text.specs.Lines.{markLine, tagAndLength, lifeLine, end, break, head, df, ef, laterDf, laterEf, bad}
 
 -- whether an object is whole, and its line
 abbrev pub isWhole : Object → Bool
@@ -46,15 +46,21 @@ linesFrom (suc turns) s at = cond (wholeAt s at) (lineAt s at ++ linesFrom turns
 unfoldable pub headOf : List ℕ → List ℕ
 headOf s = cond (isTemplate s) [] (markLine 0 head)
 
--- what CREATE makes of data, as a word
-abbrev pub wordOf : Data → List ℕ
-wordOf (Df x) = df
-wordOf (Ef x) = ef
-wordOf Bad = bad
+-- what CREATE makes of data on a card of version 1, and so of version 2 (`DataAlike` in create_data/specs/Grammar), as a word; of data
+-- that it refuses there, what on a card of version 2 alone
+abbrev pub laterWordOf : Data → List ℕ
+laterWordOf (Df x) = laterDf
+laterWordOf (Ef x) = laterEf
+laterWordOf Bad = bad
+
+abbrev pub wordOf : Data → Data → List ℕ
+wordOf (Df x) later = df
+wordOf (Ef x) later = ef
+wordOf Bad later = laterWordOf later
 
 -- .. behind the place up to which it takes the objects in 01's order
 unfoldable pub readingOf : List ℕ → List ℕ
-readingOf s = markLine (objectsOf s .next) (wordOf (dataOf s))
+readingOf s = markLine (objectsOf s .next) (wordOf (dataOf 1 s) (dataOf 2 s))
 
 -- CREATE's data has at most 255 bytes, since Lc is one byte
 unfoldable pub listOf : List ℕ → List ℕ

@@ -4,13 +4,15 @@
 // A line begins with a place in the data, in two hex digits. `02 82 02`: at 02 stands the object 82 of 02 bytes. `0A 8A
 // 01 07 activated`: an 8A of one byte, with its life cycle in words. `15 END`: the objects end where the data does. `0A
 // BREAK`: no whole object stands at 0A. `00 HEAD`, in front: the data is not 62, LL and LL bytes. The last line is CREATE's
-// own reading: `DF`, `EF` or `6A80`, behind the place up to which it took the objects in 01's order.
+// own reading: `DF`, `EF` or `6A80`, behind the place up to which it took the objects in 01's order. `DF 2` and `EF 2` are what
+// only a card of version 2 takes, for its rule (02 Ticket 3): the data do not say which card they are for.
 ghost use mathlib.Core.Path.{_≡_};
 ghost use Prim.Native.Nat.{_+_, _<_, _≤_};
 ghost use lib.ListN.{length};
+ghost use Rattle.create_data.specs.Data.{dataOf};
 ghost use Rattle.text.specs.Written.{WroteAt, Wrote, Counted};
 ghost use Rattle.objects_text.specs.Lines.{markLine, lifeLine};
-ghost use Rattle.objects_text.specs.Listing.{wholeAt, restOf, lineAt, stopAt, linesFrom, headOf, readingOf, listOf};
+ghost use Rattle.objects_text.specs.Listing.{wholeAt, restOf, lineAt, stopAt, linesFrom, headOf, laterWordOf, readingOf, listOf};
 use create_data::Data;
 use create_data::judge;
 use rules::life_cycle;
@@ -133,6 +135,18 @@ fn put_head(s: &[u8], out: &mut [u8]) -> usize
     put_mark(out, 0, 0, b"HEAD\n")
 }
 
+// Writes how a card of version 2 reads data that one of version 1 refuses.
+fn put_later(s: &[u8], at: u16, out: &mut [u8], put: usize) -> usize
+    requires { ⌜ (at < 256) × (put + 8 ≤ length (now out)) ⌝ }
+    ensures { λ r. ⌜ WroteAt put r (now (out .entry)) (now (out .exit)) (markLine at (laterWordOf (dataOf 2 (now (s .entry))))) ⌝ }
+{
+    match create_data::read(s, 2) {
+        Data::Df(_) => put_mark(out, put, at, b"DF 2\n"),
+        Data::Ef(_) => put_mark(out, put, at, b"EF 2\n"),
+        Data::Bad => put_mark(out, put, at, b"6A80\n"),
+    }
+}
+
 // Writes how CREATE reads the data: up to which place it takes the objects, and `DF`, `EF` or `6A80`.
 fn put_reading(s: &[u8], out: &mut [u8], put: usize) -> usize
     requires { ⌜ (length (now s) < 256) × (put + 8 ≤ length (now out)) ⌝ }
@@ -140,10 +154,10 @@ fn put_reading(s: &[u8], out: &mut [u8], put: usize) -> usize
 {
     let o = gather::all(s);
     let at = o.next as u16;
-    match create_data::read(s) {
+    match create_data::read(s, 1) {
         Data::Df(_) => put_mark(out, put, at, b"DF\n"),
         Data::Ef(_) => put_mark(out, put, at, b"EF\n"),
-        Data::Bad => put_mark(out, put, at, b"6A80\n"),
+        Data::Bad => put_later(s, at, out, put),
     }
 }
 

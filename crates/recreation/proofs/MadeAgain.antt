@@ -14,13 +14,14 @@ use Rattle.laws.specs.declared.Found.the-variants.{At, Nothing}
 use Rattle.laws.specs.Lists.{Bytes}
 use Rattle.laws.proofs.Firsts.{first-is}
 use Rattle.rules.specs.Life.{newLife, lifeOf, terminated}
-use Rattle.rules.proofs.Groups.{fits-short}
 use Rattle.image.specs.declared.Head.{Head}
+use Rattle.image.specs.Layout.{longestRule, versionOf}
 use Rattle.image.specs.Layout.{base, countOf, currentDfOf, recAt, lifeCycleOf, identifierOf, sizeOf, nameOf, ruleOf, recordBytes}
 use Rattle.image.proofs.Made.{length-made}
 use Rattle.image.proofs.Records.{record-same}
 use Rattle.image.proofs.Headers.{header-put, record-current}
 use Rattle.image.proofs.Places.{byte-in, length-record}
+use Rattle.access.proofs.Fits.{fits-short}
 use Rattle.sound.specs.Own.{Used}
 use Rattle.sound.specs.Table.{viewAt, up}
 use Rattle.sound.specs.Sound.{Sound}
@@ -90,25 +91,25 @@ module _ (other : List ℕ) (sound : Sound other) where
         go (At t) e = first-is (countOf other) (λ t. eqb (viewAt other t .kind) 0) t e .low
         go Nothing e = absurd (slot-exists other (currentDfOf other) size sound (sound .current .df-low) (sound .current .df-dir) room e)
 
-  new-record : (t : ℕ) (h : Head) (name rule : List ℕ) → t < countOf other → length name ≤ 16 → length rule ≤ 16
-      → recAt (created other t h name rule) t ≡ recordBytes h name rule
+  new-record : (t : ℕ) (h : Head) (name rule : List ℕ) → t < countOf other → length name ≤ 16 → length rule ≤ longestRule (versionOf other)
+      → recAt (created other t h name rule) t ≡ recordBytes (versionOf other) h name rule
   unfolding created
   new-record t h name rule low short small =
-      let whole = length-made h name rule short small in
-      let put = header-put other t (recordBytes h name rule) (sound-within other sound t low) whole in
+      let whole = length-made (versionOf other) h name rule short small in
+      let put = header-put other t (recordBytes (versionOf other) h name rule) (sound-within other sound t low) whole in
       record-current _ _ _ (omega (arith, put .long, sound .header .long)) t (omega (arith, put .long, sound-within other sound t low .0))
       ∙ record-same other t _ (sound-within other sound t low) whole
 
 -- the file in slot s, whose template is sent
-module _ (img : List ℕ) (s : ℕ) (sent other : List ℕ) (st : State) (own : Used (recAt img s))
+module _ (img : List ℕ) (s : ℕ) (sent other : List ℕ) (st : State) (own : Used (versionOf other) (recAt img s))
     (life : newLife (lifeCycleOf (recAt img s)) ≡ true) (sends : Sends (recAt img s) (templateOf (recAt img s)) sent) (whole : Sound other)
     (welcomes : Welcomes img other (recAt img s) st) where
 
-  told : Tells sent (recAt img s) (dataOf sent)
-  told = read-back (recAt img s) sent own life sends .1
+  told : Tells sent (recAt img s) (dataOf (versionOf other) sent)
+  told = read-back (versionOf other) (recAt img s) sent own life sends .1
 
-  said : Same sent (recAt img s) (dataOf sent)
-  said = same sent (recAt img s) (dataOf sent) told
+  said : Same sent (recAt img s) (dataOf (versionOf other) sent)
+  said = same sent (recAt img s) (dataOf (versionOf other) sent) told
 
   -- neither the current directory nor one above is terminated, so the root isn't
   none-terminated : NoneTerminated other (currentDfOf other)
@@ -126,7 +127,7 @@ module _ (img : List ℕ) (s : ℕ) (sent other : List ℕ) (st : State) (own : 
   met =
       (omega arith, ((λ k. omega (arith, k .0)), (refl, (alive,
       (welcomes .alone, ((refl, refl), ((sends-some (recAt img s) sent sends, omega arith),
-      (read-back (recAt img s) sent own life sends .0,
+      (read-back (versionOf other) (recAt img s) sent own life sends .0,
       (rw (said .right) (welcomes .right),
       (((λ e. omega (arith, e, welcomes .active)), none-terminated),
       (rw (said .identifier) ((λ t l f p q. welcomes .empty t l f p), welcomes .identifier),
@@ -142,15 +143,15 @@ made-again img c st response n sent other state buffer bytes sound said life sen
     let s = found img c in
     let r = recAt img s in
     let file = found-stands img c st response n sound said in
-    let u = sound .records s (file .low) .used (file .used) in
+    let u : Used (versionOf other) r = rw (welcomes .version) (sound .records s (file .low) .used (file .used)) in
     let w = of-template r _ _ sent (select-told img c st response n sound said) sends in
     let k = create-obeys other (createOf sent) state buffer whole refl .met (met img s sent other state u life w whole welcomes) in
     let long = sound-within img sound s (file .low) .0 in
     let slot = slot-low other whole (sizeOf r) (welcomes .room) in
     (
       k .0,
-      ap (λ (x : List ℕ). recAt x (newSlot other)) (k .1 ∙ makes other sent r (newSlot other) (dataOf sent)
+      ap (λ (x : List ℕ). recAt x (newSlot other)) (k .1 ∙ makes other sent r (newSlot other) (dataOf (versionOf other) sent)
       (told img s sent other state u life w whole welcomes))
-      ∙ new-record other whole (newSlot other) _ _ _ slot (name-short r u) (fits-short (ruleOf r) (u .formed))
-      ∙ record-again r _ _ (length-record img s long) (bytes-in img s long bytes) u,
+      ∙ new-record other whole (newSlot other) _ _ _ slot (name-short _ r u) (fits-short _ _ (ruleOf r) (u .formed))
+      ∙ record-again _ r _ _ (length-record img s long) (bytes-in img s long bytes) u,
     )

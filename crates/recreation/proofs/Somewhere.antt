@@ -17,9 +17,13 @@ use Rattle.rules.specs.Descriptor.{df}
 use Rattle.rules.specs.Group.{scAt, slotsOf, nextOf, groupLength, someGroup}
 use Rattle.rules.specs.Life.{lifeOf}
 use Rattle.rules.proofs.Lives.{activated-is}
-use Rattle.rules.specs.Rule.{malformedAt, wellFormed, fitsRecord, holdsAt, allowsOf, grantedOf}
+use Rattle.rules.specs.Rule.{malformedAt, compactFormed, holdsAt, allowsOf, compactGrants}
+use Rattle.image.specs.Layout.{knownVersion, versionOf, formOf}
 use Rattle.image.specs.Layout.{countOf, currentDfOf, recAt, kindOf, lifeCycleOf, identifierOf, sizeOf, ruleOf, recordBytes}
-use Rattle.image.proofs.Made.{life-made, rule-made}
+use Rattle.image.proofs.Made.{life-made, form-made, rule-made}
+use Rattle.image.proofs.Versions.{known-form, longest-least}
+use Rattle.access.specs.Access.{compact, wellFormed, fitsRecord, grantedOf}
+use Rattle.access.proofs.Fits.{fits-says}
 use Rattle.sound.specs.Table.{View, File, viewAt, up, charged, chargeOf}
 use Rattle.sound.specs.Kin.{Placed}
 use Rattle.sound.specs.Sound.{Sound}
@@ -29,51 +33,59 @@ use Rattle.sound.proofs.Charges.{charge-free, charge-stranger}
 use Rattle.sound.proofs.Climbing.{up-shift}
 use Rattle.sound.proofs.Kept.{gone}
 use Rattle.sound.proofs.NewRecords.{viewMade}
-use Rattle.sound.proofs.Fresh.{count, root, root-current, view-root, view-rest, sound-fresh}
+use Rattle.sound.proofs.Fresh.{fresh-version, count, root, root-current, view-root, view-rest, sound-fresh}
 use Rattle.fcp.proofs.Sizes.{file-fits}
 use Rattle.judge_target.specs.Target.{allowedAt}
 use Rattle.card.proofs.Steps.{cond-by}
 use Rattle.sound.proofs.FullTable.{root-above}
 use Rattle.recreation.specs.Recreation.{rightOf, Welcomes, allowing, WelcomeSomewhere}
 
-all-fits : fitsRecord allowing ≡ true
-unfolding malformedAt nextOf someGroup wellFormed fitsRecord
-all-fits = refl
+all-formed : wellFormed compact allowing ≡ true
+unfolding malformedAt nextOf someGroup compactFormed wellFormed
+all-formed = refl
 
-all-grants : (x : Sets) (r : List ℕ) → grantedOf allowing (rightOf r) x ≡ true
-unfolding anyBelow countBelow holdsOf scAt slotsOf nextOf groupLength someGroup malformedAt wellFormed holdsAt allowsOf grantedOf
+all-fits : (v : ℕ) → knownVersion v ≡ true → fitsRecord v compact allowing ≡ true
+all-fits v known = fits-says v compact allowing .1 (record {
+  some = omega arith;
+  short = omega (arith, longest-least v known);
+  known = known-form v known;
+  formed = all-formed;
+})
+
+all-grants : (x : Sets) (r : List ℕ) → grantedOf compact allowing (rightOf r) x ≡ true
+unfolding anyBelow countBelow holdsOf scAt slotsOf nextOf groupLength someGroup holdsAt allowsOf compactGrants grantedOf
 all-grants x r =
-    cond-by (λ (right : Right). grantedOf allowing right x ≡ true) (eqb (kindOf r) df) CreateDf CreateEf (λ q. refl) (λ q. refl)
+    cond-by (λ (right : Right). grantedOf compact allowing right x ≡ true) (eqb (kindOf r) df) CreateDf CreateEf (λ q. refl) (λ q. refl)
 
--- a fresh card with that rule
-module _ (n total : ℕ) (least : 2 ≤ n) (most : n ≤ 1023) (some : 1 ≤ total) (within : total ≤ 64 * (n - 1)) where
+-- a fresh card of a version with that rule
+module _ (v n total : ℕ) (known : knownVersion v ≡ true) (least : 2 ≤ n) (most : n ≤ 1023) (some : 1 ≤ total) (within : total ≤ 64 * (n - 1)) where
   card : List ℕ
-  card = fresh n total allowing
+  card = fresh v n total compact allowing
 
   whole : Sound card
   unfolding card
-  whole = sound-fresh n total allowing least most some within all-fits
+  whole = sound-fresh v n total compact allowing least most some within (all-fits v known)
 
   slots : countOf card ≡ n
   unfolding card
-  slots = count n total allowing least most some within (omega arith) all-fits
+  slots = count v n total compact allowing least most some within (all-fits v known)
 
   -- its root's record, and no other
-  at-root : viewAt card 0 ≡ viewMade (rootHead total) []
+  at-root : viewAt card 0 ≡ viewMade (rootHead total compact) []
   unfolding card
-  at-root = view-root n total allowing least most some within (omega arith) all-fits
+  at-root = view-root v n total compact allowing least most some within (all-fits v known)
 
   free : (t : ℕ) → t < n → (t ≡ 0 → ⊥) → viewAt card t ≡ gone
   unfolding card
-  free = view-rest n total allowing least most some within (omega arith) all-fits
+  free = view-rest v n total compact allowing least most some within (all-fits v known)
 
   here : currentDfOf card ≡ 0
   unfolding card
-  here = root-current n total allowing least most some within (omega arith) all-fits
+  here = root-current v n total compact allowing least most some within (all-fits v known)
 
-  its-root : recAt card 0 ≡ recordBytes (rootHead total) [] allowing
+  its-root : recAt card 0 ≡ recordBytes v (rootHead total compact) [] allowing
   unfolding card
-  its-root = root n total allowing least most some within (omega arith) all-fits
+  its-root = root v n total compact allowing least most some within (all-fits v known)
 
   nobody : (t : ℕ) → t < n → File (viewAt card) t → ⊥
   nobody t l f = f .0 (ap (λ (x : View). x .kind) (free t l (f .1)))
@@ -94,16 +106,21 @@ module _ (n total : ℕ) (least : 2 ≤ n) (most : n ≤ 1023) (some : 1 ≤ tot
       (λ z. ap (λ (x : View). x .name) (free t l z))
       (same-or t 0)
 
-  welcomes : (img r : List ℕ) (x : Sets) → Sound img → (identifierOf r ≡ 0x3F00 → ⊥) → sizeOf r + 64 ≤ total
+  welcomes : (img r : List ℕ) (x : Sets) → versionOf img ≡ v → (identifierOf r ≡ 0x3F00 → ⊥) → sizeOf r + 64 ≤ total
       → Welcomes img card r (record { sets = x; channels = 0 })
-  unfolding allowedAt up
-  welcomes img r x sound other fits = record {
-    version = whole .header .version ∙ sym (sound .header .version);
+  unfolding card allowedAt up
+  welcomes img r x same other fits = record {
+    version = fresh-version v n total compact allowing least most some within (all-fits v known) ∙ sym same;
     alone = refl;
     empty = λ t l f p. nobody t (rw slots at l) f;
-    active = rw here (ap lifeOf (ap lifeCycleOf its-root ∙ life-made (rootHead total) [] allowing) ∙ activated-is);
+    active = rw here (ap lifeOf (ap lifeCycleOf its-root ∙ life-made v (rootHead total compact) [] allowing) ∙ activated-is);
     above = λ k a b. absurd (omega (arith, a, b, level));
-    right = rw (here, ap ruleOf its-root ∙ rule-made (rootHead total) [] allowing (omega arith)) (all-grants x r);
+    right = rw (
+      here,
+      ap formOf its-root ∙ form-made v (rootHead total compact) [] allowing,
+      ap ruleOf its-root ∙ rule-made v (rootHead total compact) [] allowing (omega arith),
+    )
+    (all-grants x r);
     room = rw (here, slots) (omega (arith, all-room, fits));
     identifier = λ k l e. other
         (sym e ∙ ap (λ (j : ℕ). viewAt card (up (viewAt card) j (currentDfOf card)) .identifier) (none-above k l)
@@ -142,7 +159,7 @@ not-3F00 img sound s low file e =
 pub welcome-somewhere : WelcomeSomewhere
 unfolding card
 welcome-somewhere img s x sound low used z = (
-  whole 1023 65408 (omega arith) (omega arith) (omega arith) (omega arith),
-  welcomes 1023 65408 (omega arith) (omega arith) (omega arith) (omega arith) img (recAt img s) x sound (not-3F00 img sound s low (used, z))
-  (file-fits img sound s low used z),
+  whole (versionOf img) 1023 65408 (sound .header .version) (omega arith) (omega arith) (omega arith) (omega arith),
+  welcomes (versionOf img) 1023 65408 (sound .header .version) (omega arith) (omega arith) (omega arith) (omega arith) img (recAt img s) x
+      refl (not-3F00 img sound s low (used, z)) (file-fits img sound s low used z),
 )

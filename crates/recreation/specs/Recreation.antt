@@ -14,6 +14,7 @@ use Rattle.rules.specs.declared.Sets.{Sets}
 use Rattle.rules.specs.Descriptor.{df}
 use Rattle.rules.specs.Life.{newLife, lifeOf, activated, terminated}
 use Rattle.image.specs.Layout.{versionOf, countOf, currentDfOf, recAt, kindOf, lifeCycleOf, identifierOf, sizeOf, nameOf}
+use Rattle.access.specs.Access.{compact}
 use Rattle.sound.specs.Table.{File, viewAt, up}
 use Rattle.sound.specs.Sound.{Sound}
 use Rattle.sound.specs.Kinship.{freeSlot, roomFor}
@@ -90,13 +91,14 @@ abbrev pub SelectTold : Type 0
 SelectTold = (img c : List ℕ) (st : State) (response : List ℕ) (n : ℕ) → Sound img → Told img c st response n
     → toldBy img c st response n ≡ templateOf (recAt img (found img c))
 
--- the other card can be had: every file of any card but its root is welcome on a fresh card of 1,023 slots whose root allows everything
+-- the other card can be had: every file of any card but its root is welcome on a fresh card of that version and 1,023 slots whose root
+-- allows everything
 abbrev pub allowing : List ℕ
 allowing = 0x7F ∷ 0 ∷ 0 ∷ 0 ∷ 0 ∷ 0 ∷ 0 ∷ 0 ∷ []
 
-abbrev pub largest : List ℕ
-largest = fresh 1023 65408 allowing
+abbrev pub largest : ℕ → List ℕ
+largest v = fresh v 1023 65408 compact allowing
 
 abbrev pub WelcomeSomewhere : Type 0
 WelcomeSomewhere = (img : List ℕ) (s : ℕ) (x : Sets) → Sound img → s < countOf img → (kindOf (recAt img s) ≡ 0 → ⊥) → (s ≡ 0 → ⊥)
-    → Sound largest × Welcomes img largest (recAt img s) (record { sets = x; channels = 0 })
+    → Sound (largest (versionOf img)) × Welcomes img (largest (versionOf img)) (recAt img s) (record { sets = x; channels = 0 })

@@ -11,33 +11,35 @@ use borrow.Author.Tests.{lt-ltb, le-ltb, lt-leb, leb-true}
 use Rattle.laws.specs.Lists.{splice}
 use Rattle.laws.proofs.Says.{and-says}
 use Rattle.numbers.specs.Numbers.{u16At, u32At}
+use Rattle.access.specs.Access.{compact}
+use Rattle.maker.specs.declared.Edition.{Edition}
 use Rattle.maker.specs.declared.Made.{Made}
 use Rattle.maker.specs.declared.Made.the-variants.{Done, BadLength, BadTotal, BadRule}
-use Rattle.maker.specs.Making.{slotsIn, fitsLength, madeOf, madeNumber, leftBy}
+use Rattle.maker.specs.Making.{slotsIn, fitsLength, fitsBuffer, madeOf, madeNumber, leftBy}
 use Rattle.sound.specs.Effects.{fresh}
 use Rattle.text.specs.Written.{Wrote, big}
 use Rattle.text.proofs.Written.{from-start}
 use Rattle.replay_text.specs.Text.{bad}
-use Rattle.replay_text.specs.Replay.{rootRule, runOf, goodHeader, performOf, replayOf}
+use Rattle.replay_text.specs.Replay.{rootRule, firstEdition, runOf, goodHeader, performOf, replayOf}
 
 -- what is written, by the maker's answer
 by-made : List ℕ → List ℕ → Made → List ℕ
-by-made s img m = cond (eqb (madeNumber m) 0) (runOf (length s) s 11 (leftBy m img (u32At s 7) rootRule)) bad
+by-made s img m = cond (eqb (madeNumber m) 0) (runOf (length s) s 11 (leftBy m img firstEdition (u32At s 7) compact rootRule)) bad
 
-perform-made : (s img : List ℕ) (m : Made) → madeOf img (u32At s 7) rootRule ≡ m → by-made s img m ≡ performOf s img
+perform-made : (s img : List ℕ) (m : Made) → madeOf img firstEdition (u32At s 7) compact rootRule ≡ m → by-made s img m ≡ performOf s img
 unfolding performOf by-made
 perform-made s img m e =
-    ap (λ (t : Made). cond (eqb (madeNumber t) 0) (runOf (length s) s 11 (leftBy t img (u32At s 7) rootRule)) bad) (sym e)
+    ap (λ (t : Made). cond (eqb (madeNumber t) 0) (runOf (length s) s 11 (leftBy t img firstEdition (u32At s 7) compact rootRule)) bad) (sym e)
 
-module _ (s img : List ℕ) (total : ℕ) (r : Made) (et : total ≡ u32At s 7) (er : r ≡ madeOf img total rootRule) where
-  made-is : (m : Made) → r ≡ m → madeOf img (u32At s 7) rootRule ≡ m
-  made-is m e = ap (λ (n : ℕ). madeOf img n rootRule) (sym et) ∙ sym er ∙ e
+module _ (s img : List ℕ) (total : ℕ) (r : Made) (et : total ≡ u32At s 7) (er : r ≡ madeOf img firstEdition total compact rootRule) where
+  made-is : (m : Made) → r ≡ m → madeOf img firstEdition (u32At s 7) compact rootRule ≡ m
+  made-is m e = ap (λ (n : ℕ). madeOf img firstEdition n compact rootRule) (sym et) ∙ sym er ∙ e
 
-  pub performed : (y : List ℕ) → r ≡ Done → y ≡ leftBy r img total rootRule → runOf (length s) s 11 y ≡ performOf s img
+  pub performed : (y : List ℕ) → r ≡ Done → y ≡ leftBy r img firstEdition total compact rootRule → runOf (length s) s 11 y ≡ performOf s img
   unfolding by-made
   performed y e h =
       ap (λ (x : List ℕ). runOf (length s) s 11 x)
-      (h ∙ ap (λ (m : Made). leftBy m img total rootRule) e ∙ ap (λ (n : ℕ). leftBy Done img n rootRule) et)
+      (h ∙ ap (λ (m : Made). leftBy m img firstEdition total compact rootRule) e ∙ ap (λ (n : ℕ). leftBy Done img firstEdition n compact rootRule) et)
       ∙ perform-made s img Done (made-is Done e)
 
   pub no-length : r ≡ BadLength → bad ≡ performOf s img
@@ -55,20 +57,21 @@ module _ (s img : List ℕ) (total : ℕ) (r : Made) (et : total ≡ u32At s 7) 
 -- only the length of the buffer counts
 by-length : (s a b : List ℕ) (m : Made) → length a ≡ length b → by-made s a m ≡ by-made s b m
 unfolding by-made
-by-length s a b Done e = ap (λ (n : ℕ). runOf (length s) s 11 (fresh (slotsIn n) (u32At s 7) rootRule)) e
+by-length s a b Done e = ap (λ (n : ℕ). runOf (length s) s 11 (fresh 1 (slotsIn n) (u32At s 7) compact rootRule)) e
 by-length s a b BadLength e = refl
 by-length s a b BadTotal e = refl
 by-length s a b BadRule e = refl
 
-made-length : (a b : List ℕ) (total : ℕ) (rule : List ℕ) → length a ≡ length b → madeOf a total rule ≡ madeOf b total rule
+made-length : (a b : List ℕ) (e : Edition) (total form : ℕ) (rule : List ℕ) → length a ≡ length b
+    → madeOf a e total form rule ≡ madeOf b e total form rule
 unfolding madeOf
-made-length a b total rule e = rw e
+made-length a b e total form rule q = rw q
 
 perform-length : (s a b : List ℕ) → length a ≡ length b → performOf s a ≡ performOf s b
 perform-length s a b e =
-    sym (perform-made s a (madeOf a (u32At s 7) rootRule) refl)
-    ∙ by-length s a b (madeOf a (u32At s 7) rootRule) e
-    ∙ perform-made s b (madeOf a (u32At s 7) rootRule) (sym (made-length a b (u32At s 7) rootRule e))
+    sym (perform-made s a (madeOf a firstEdition (u32At s 7) compact rootRule) refl)
+    ∙ by-length s a b (madeOf a firstEdition (u32At s 7) compact rootRule) e
+    ∙ perform-made s b (madeOf a firstEdition (u32At s 7) compact rootRule) (sym (made-length a b firstEdition (u32At s 7) compact rootRule e))
 
 -- more slots than the maker takes
 too-many : (n : ℕ) → 1023 < n → fitsLength (16 + 64 * n) ≡ false
@@ -82,7 +85,7 @@ too-many n h =
     and-false false = refl
 
 refuses : (s : List ℕ) (n : ℕ) → 1023 < n → bad ≡ performOf s (replicate (16 + 64 * n) 0)
-unfolding by-made madeOf
+unfolding by-made madeOf fitsBuffer
 refuses s n h =
     perform-made s (replicate (16 + 64 * n) 0) BadLength
     (rw (length-replicate {A = ℕ} (16 + 64 * n) 0, too-many n h))

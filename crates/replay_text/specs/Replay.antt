@@ -8,6 +8,8 @@ use lib.Dec.{eqb, ltb, leb}
 use lib.ListN.{length, getD, replicate}
 use Rattle.laws.specs.Lists.{part}
 use Rattle.numbers.specs.Numbers.{u16At, u32At}
+use Rattle.maker.specs.declared.Edition.{Edition}
+use Rattle.access.specs.Access.{compact}
 use Rattle.sound.specs.Sound.{soundb}
 use Rattle.verdict.specs.declared.State.{State}
 use Rattle.maker.specs.Making.{madeOf, madeNumber, leftBy}
@@ -28,6 +30,10 @@ full = record {
 abbrev pub rootRule : List ℕ
 rootRule = 0x7F ∷ 0 ∷ 0 ∷ 0 ∷ 0 ∷ 0 ∷ 0 ∷ 0 ∷ []
 
+-- a card of version 1, at every level of 02, whose root's rule is compact
+abbrev pub firstEdition : Edition
+firstEdition = record { version = 1 }
+
 -- the command whose length stands at `at`, and where the next begins
 abbrev pub sentAt : List ℕ → ℕ → List ℕ
 sentAt s at = part s (at + 2) (u16At s at)
@@ -41,7 +47,7 @@ cutShort s at = ltb (length s) (at + 2) || ltb (length s) (endOf s at)
 
 -- a response that is long enough for all that a command tells, and is never shown
 abbrev pub lent : ℕ
-lent = 53
+lent = 67
 
 -- what that command gives on an image: its word, and the image afterwards
 unfoldable pub wordAt : List ℕ → ℕ → List ℕ → ℕ
@@ -74,8 +80,8 @@ goodHeader s =
 -- a fresh card made in the buffer img, and the commands on it; or the maker refuses
 unfoldable pub performOf : List ℕ → List ℕ → List ℕ
 performOf s img =
-    cond (eqb (madeNumber (madeOf img (u32At s 7) rootRule)) 0)
-    (runOf (length s) s 11 (leftBy (madeOf img (u32At s 7) rootRule) img (u32At s 7) rootRule))
+    cond (eqb (madeNumber (madeOf img firstEdition (u32At s 7) compact rootRule)) 0)
+    (runOf (length s) s 11 (leftBy (madeOf img firstEdition (u32At s 7) compact rootRule) img firstEdition (u32At s 7) compact rootRule))
     bad
 
 -- over 32,768 bytes; a bad header; a card of N slots

@@ -11,6 +11,7 @@ ghost use Rattle.replay_text.specs.Text.{lineOf, bad, cut};
 ghost use Rattle.replay_text.specs.Replay.{full, lent, goodHeader, cutShort, sentAt, endOf, wordAt, imageAt, runOf};
 ghost use Rattle.replay_text.specs.Replay.{performOf, replayOf};
 use card::Reply;
+use maker::Edition;
 use maker::Made;
 use rules::Sets;
 use verdict::State;
@@ -71,7 +72,7 @@ fn step(image: &mut [u8], command: &[u8]) -> u16
     ensures { λ r. ⌜ (r ≡ answerWord (replyOf (now (image .entry)) (now (command .entry)) full lent))
         × (now (image .exit) ≡ imageOf (now (image .entry)) (now (command .entry)) full lent) ⌝ }
 {
-    let mut response = [0u8; 53];
+    let mut response = [0u8; 67];
     let sets = Sets {
         messaging: 0xFFFF,
         external: 0xFFFF,
@@ -81,7 +82,7 @@ fn step(image: &mut [u8], command: &[u8]) -> u16
         sets: sets,
         channels: 0,
     };
-    let reply = card::command(image, command, &mut response[..53], state);
+    let reply = card::command(image, command, &mut response[..67], state);
     match reply {
         Reply::Word { word, told } => word,
         Reply::Damaged => 0,
@@ -155,7 +156,7 @@ fn perform(s: &[u8], image: &mut [u8], out: &mut [u8]) -> usize
     ensures { λ r. ⌜ Wrote r (now (out .entry)) (now (out .exit)) (performOf (now (s .entry)) (now (image .entry))) ⌝ }
 {
     let total = numbers::u32_at(s, 7);
-    let made = maker::fresh::make(image, total, &[0x7F, 0, 0, 0, 0, 0, 0, 0]);
+    let made = maker::fresh::make(image, Edition { version: 1 }, total, 0, &[0x7F, 0, 0, 0, 0, 0, 0, 0]);
     match made {
         Made::Done => run(s, image, out),
         Made::BadLength => put_bad(out),

@@ -1,17 +1,35 @@
 -- Every row computes, whole calls among them.
-use mathlib.Core.Path.{refl}
-use Rattle.image.specs.Layout.{headBytes, field, recordBytes}
+use mathlib.Core.Path.{_≡_, refl}
+use mathlib.Core.Bool.{false≢true}
+use Prim.Native.Nat.{ℕ, zero, suc}
+use native.Mathlib.Omega.{arith}
+use Rattle.rules.specs.declared.Sets.{Sets}
+use Rattle.image.specs.Layout.{longestRule, formsOf, knownVersion, headBytes, field, recordBytes}
+use Rattle.image.proofs.Versions.{known-low}
 use Rattle.sound.specs.Effects.{freshHeader, fresh}
-use Rattle.rows.specs.Rows.{BothSides}
+use Rattle.rows.specs.Rows.{rows, allGive, allSay, BothSides}
 use Rattle.rows.specs.Tries.{SelectTries}
 use Rattle.rows.specs.Lives.{LivesTold}
 use Rattle.rows.specs.Templates.{TemplatesTold, FilesRemade}
+use Rattle.rows.specs.Forms.{FormsTold, FormsOpen, FormsJudged, FormsKept, FormsRemade}
 use Rattle.rows.specs.Fresh.{FreshBytes}
 use Rattle.rows.proofs.Opened.{a-call}
 
-pub both-sides : BothSides
+-- on a card of each version
+first-rows : (x : Sets) → allGive (rows 1 x) ≡ allSay (rows 1 x)
 unfolding a-call
-both-sides x = refl
+first-rows x = refl
+
+second-rows : (x : Sets) → allGive (rows 2 x) ≡ allSay (rows 2 x)
+unfolding a-call
+second-rows x = refl
+
+pub both-sides : BothSides
+unfolding knownVersion formsOf
+both-sides zero known x = absurd (false≢true known)
+both-sides (suc zero) known x = first-rows x
+both-sides (suc (suc zero)) known x = second-rows x
+both-sides (suc (suc (suc v))) known x = absurd (omega (arith, known-low (suc (suc (suc v))) known))
 
 pub select-tries : SelectTries
 unfolding a-call
@@ -29,6 +47,26 @@ pub files-remade : FilesRemade
 unfolding a-call
 files-remade x = refl
 
+pub forms-told : FormsTold
+unfolding a-call
+forms-told = (refl, refl)
+
+pub forms-open : FormsOpen
+unfolding a-call
+forms-open = (refl, refl, refl, refl)
+
+pub forms-judged : FormsJudged
+unfolding a-call
+forms-judged = refl
+
+pub forms-kept : FormsKept
+unfolding a-call
+forms-kept = (refl, refl)
+
+pub forms-remade : FormsRemade
+unfolding a-call
+forms-remade = refl
+
 pub fresh-bytes : FreshBytes
-unfolding headBytes field recordBytes freshHeader fresh
+unfolding longestRule headBytes field recordBytes freshHeader fresh
 fresh-bytes = refl

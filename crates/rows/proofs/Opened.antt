@@ -8,12 +8,17 @@ use Rattle.rules.specs.Condition.{met, fulfilled, oneOf, allOf, holdsOf}
 use Rattle.rules.specs.Descriptor.{classOf, hasRecords}
 use Rattle.rules.specs.Group.{scAt, slotsOf, nextOf, groupLength, someGroup}
 use Rattle.rules.specs.Life.{lifeOf, knownLife, newLife, canActivate}
-use Rattle.rules.specs.Rule.{malformedAt, wellFormed, fitsRecord, holdsAt, allowsOf, grantedOf}
+use Rattle.rules.specs.Rule.{malformedAt, compactFormed, holdsAt, allowsOf, compactGrants}
+use Rattle.expanded.specs.Object.{objectsFrom, objectsOf as objectsIn, every, some, several}
+use Rattle.expanded.specs.Condition.{formedPlain, isTemplate as isNesting, formed, scOf, holdsPlain, holds}
+use Rattle.expanded.specs.Expanded.{isAm, amAfter, inPlace, goesOn, expandedFormed, opens, opensOne, expandedGrants}
+use Rattle.access.specs.Access.{wellFormed, fitsRecord, grantedOf}
 use Rattle.rules.specs.Value.{goodIdentifier, wholeRecords, goodLength}
-use Rattle.create_data.specs.Data.{isTemplate, bothGood, nameGood, newFile, dfOf, sizedEf, efOf, fileOf, dataOf}
-use Rattle.create_data.specs.Form.{lacks, has, onePrivate, firstForm, dfForm, efForm}
+use Rattle.create_data.specs.Data.{isTemplate, ruleGood, bothGood, nameGood, newFile, dfOf, sizedEf, efOf, fileOf, dataOf}
+use Rattle.create_data.specs.Form.{lacks, has, onePrivate, oneRule, ruleIn, formIn, firstForm, dfForm, efForm}
 use Rattle.template.specs.Objects.{objectAt, takenAt, takenBelow, objectsOf}
 use Rattle.template.specs.Values.{pairOf, recordLengthOf as recordLengthIn, numberOf, fitsName}
+use Rattle.image.specs.Layout.{longestRule, formsOf, knownVersion, formOf}
 use Rattle.image.specs.Layout.{versionOf, countOf, currentDfOf, currentEfOf, recAt, kindOf, descriptorOf, lifeCycleOf, identifierOf}
 use Rattle.image.specs.Layout.{parentOf, levelOf, recordLengthOf, sizeOf, fieldAt, nameOf, ruleOf, headBytes, field, recordBytes}
 use Rattle.image.specs.Layout.{putRecord, withLife, setLife, setCurrent}
@@ -30,7 +35,7 @@ use Rattle.judge_target.specs.Steps.{followed}
 use Rattle.judge_target.specs.Target.{currentFile, allowedAt, itself, selected}
 use Rattle.apdu.specs.Apdu.{isTerminate, isKnown, wantsAlone, otherChannel, crowded, wantsTemplate, goodParameters, fitParameters}
 use Rattle.apdu.specs.Apdu.{hasData, isSeven, isEight, fitLength, onOtherChannel}
-use Rattle.fcp.specs.Template.{recordBytesOf, sizeTag, bodyOf, templateOf, withC6}
+use Rattle.fcp.specs.Template.{recordBytesOf, ruleTag, sizeTag, bodyOf, templateOf, withC6}
 use Rattle.effect.specs.Told.{chosen}
 use Rattle.judge_create.specs.Creation.{takesFiles}
 use Rattle.judge_commands.specs.Commands.{selectWord, selecting, mayDelete}
@@ -39,8 +44,10 @@ use Rattle.card.specs.Command.{fits, dueOf, replyOf, imageOf, responseOf}
 
 unfoldable pub a-call : Unit {0}
 unfolding part splice sameList implies either allBelow anyBelow firstBelow sumBelow countBelow u16At u32At met fulfilled oneOf allOf
-    holdsOf classOf hasRecords scAt slotsOf nextOf groupLength someGroup lifeOf knownLife newLife canActivate malformedAt wellFormed
-    fitsRecord holdsAt allowsOf grantedOf goodIdentifier wholeRecords goodLength isTemplate bothGood nameGood newFile dfOf sizedEf efOf
+    holdsOf classOf hasRecords scAt slotsOf nextOf groupLength someGroup lifeOf knownLife newLife canActivate malformedAt
+    compactFormed holdsAt allowsOf compactGrants objectsFrom objectsIn every some several formedPlain isNesting formed scOf holdsPlain
+    holds isAm amAfter inPlace goesOn expandedFormed opens opensOne expandedGrants longestRule formsOf knownVersion formOf wellFormed
+    fitsRecord grantedOf oneRule ruleIn formIn ruleGood ruleTag goodIdentifier wholeRecords goodLength isTemplate bothGood nameGood newFile dfOf sizedEf efOf
     fileOf dataOf lacks has onePrivate firstForm dfForm efForm objectAt takenAt takenBelow objectsOf pairOf recordLengthIn numberOf
     fitsName versionOf countOf currentDfOf currentEfOf recAt kindOf descriptorOf lifeCycleOf identifierOf parentOf levelOf
     recordLengthOf sizeOf fieldAt nameOf ruleOf headBytes field recordBytes putRecord withLife setLife setCurrent created clearBelow

@@ -4,6 +4,7 @@ use Prim.Native.Nat.{ℕ}
 use mathlib.Core.List.{List, [], _∷_}
 use Rattle.rules.specs.declared.Sets.{Sets}
 use Rattle.image.specs.Layout.{recAt, lifeCycleOf, countOf, currentDfOf, setLife}
+use Rattle.access.specs.Access.{compact}
 use Rattle.sound.specs.Table.{viewAt}
 use Rattle.sound.specs.Kinship.{roomFor}
 use Rattle.sound.specs.Effects.{fresh}
@@ -28,9 +29,9 @@ room img = roomFor (countOf img) (viewAt img) (currentDfOf img)
 abbrev pub life : List ℕ → ℕ → ℕ
 life img s = lifeCycleOf (recAt img s)
 
--- a fresh card of n slots whose root allows everything
-abbrev pub card : ℕ → ℕ → List ℕ
-card n total = fresh n total (0x7F ∷ 0 ∷ 0 ∷ 0 ∷ 0 ∷ 0 ∷ 0 ∷ 0 ∷ [])
+-- a fresh card of a version and n slots whose root allows everything
+abbrev pub card : ℕ → ℕ → ℕ → List ℕ
+card v n total = fresh v n total compact (0x7F ∷ 0 ∷ 0 ∷ 0 ∷ 0 ∷ 0 ∷ 0 ∷ 0 ∷ [])
 
 -- CREATE FILE of a transparent EF that allows everything: its identifier, its life cycle, a size under 256
 abbrev pub createFile : ℕ → ℕ → ℕ → ℕ → List ℕ
@@ -68,11 +69,11 @@ terminateCard = 0x00 ∷ 0xFE ∷ 0x00 ∷ 0x00 ∷ []
 
 -- a card of two slots whose one file, the root, has a life cycle; one of three whose current EF, in slot 1, has it; one of four whose
 -- current DF, in slot 1, has it, with room for a file of one byte
-abbrev pub rootIn : ℕ → List ℕ
-rootIn l = setLife (card 2 64) 0 l
+abbrev pub rootIn : ℕ → ℕ → List ℕ
+rootIn v l = setLife (card v 2 64) 0 l
 
-abbrev pub efIn : Sets → ℕ → List ℕ
-efIn x l = setLife (left x (card 3 128) (createEf 64)) 1 l
+abbrev pub efIn : ℕ → Sets → ℕ → List ℕ
+efIn v x l = setLife (left x (card v 3 128) (createEf 64)) 1 l
 
-abbrev pub dfIn : Sets → ℕ → List ℕ
-dfIn x l = setLife (left x (card 4 192) (createDf 0x7F 0x10 65)) 1 l
+abbrev pub dfIn : ℕ → Sets → ℕ → List ℕ
+dfIn v x l = setLife (left x (card v 4 192) (createDf 0x7F 0x10 65)) 1 l

@@ -25,4 +25,4 @@ bytes =
 
 -- (proofs/Computed, `fresh-bytes`)
 abbrev pub FreshBytes : Type 0
-FreshBytes = card 2 64 ≡ bytes
+FreshBytes = card 1 2 64 ≡ bytes

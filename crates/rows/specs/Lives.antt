@@ -15,15 +15,15 @@ both x img c s rest = word x img c ∷ life (left x img c) s ∷ rest
 -- that has it, and TERMINATE of it; SELECT and TERMINATE CARD USAGE where the root has it
 abbrev pub livesBy : Sets → ℕ → List ℕ
 livesBy x l =
-    both x (card 3 128) (createFile 0x6F 0x07 l 64) 1
-    (word x (efIn x l) (selectFile 0x6F 0x07)
-    ∷ both x (efIn x l) activateFile 1
-    (both x (efIn x l) deactivateFile 1
-    (both x (efIn x l) terminateEf 1
-    (word x (dfIn x l) (createFile 0x6F 0x07 0x05 1)
-    ∷ both x (dfIn x l) terminateDf 1
-    (word x (rootIn l) (selectFile 0x3F 0x00)
-    ∷ both x (rootIn l) terminateCard 0
+    both x (card 1 3 128) (createFile 0x6F 0x07 l 64) 1
+    (word x (efIn 1 x l) (selectFile 0x6F 0x07)
+    ∷ both x (efIn 1 x l) activateFile 1
+    (both x (efIn 1 x l) deactivateFile 1
+    (both x (efIn 1 x l) terminateEf 1
+    (word x (dfIn 1 x l) (createFile 0x6F 0x07 0x05 1)
+    ∷ both x (dfIn 1 x l) terminateDf 1
+    (word x (rootIn 1 l) (selectFile 0x3F 0x00)
+    ∷ both x (rootIn 1 l) terminateCard 0
     [])))))
 
 abbrev pub lives : Sets → List (List ℕ)

@@ -1,6 +1,6 @@
 -- Both sides of each line (01): what the definitions give, beside what 01 says; one table, one theorem.
 -- The sets of the caller are any sets, so that "exactly" and "never" are said of all of them; W2 and W3 are also said
--- with numbers, so that they do not rest on our own reading of a bit. W7 and W10 are whole calls on cards that can exist.
+-- with numbers, so that they do not rest on our own reading of a bit. W7 and W10 are whole calls on cards that can exist, of version v.
 use Prim.Native.Nat.{ℕ}
 use mathlib.Core.Path.{_≡_}
 use mathlib.Core.Bool.{Bool, true, false, _&&_, _||_}
@@ -11,7 +11,8 @@ use Rattle.rules.specs.declared.Right.the-variants.{CreateDf, CreateEf}
 use Rattle.rules.specs.Descriptor.{classOf, structureOf, df, ef, neither}
 use Rattle.rules.specs.Value.{goodLength}
 use Rattle.rules.specs.Condition.{bit, holdsOf}
-use Rattle.rules.specs.Rule.{grantedOf}
+use Rattle.image.specs.Layout.{knownVersion}
+use Rattle.access.specs.Access.{compact, grantedOf}
 use Rattle.rows.specs.Calls.{word, left, room, life, card, createEf, activateFile, rootIn, efIn}
 
 -- a row: the number of its line, what the definitions give, what 01 says
@@ -46,8 +47,8 @@ linear = 2
 abbrev pub cyclic : ℕ
 cyclic = 6
 
-abbrev pub rows : Sets → List Row
-rows x =
+abbrev pub rows : ℕ → Sets → List Row
+rows v x =
     -- W1: SC 00 holds with empty sets, FF doesn't with full sets
     test 1 (holdsOf 0x00 empty) true
     ∷ test 1 (holdsOf 0xFF full) false
@@ -68,15 +69,15 @@ rows x =
     ∷ test 4 (holdsOf 0x80 x) false
     ∷ test 4 (holdsOf 0x1F x) false
     -- W5: rule 06 00 FF: DF creation yes, EF creation no
-    ∷ test 5 (grantedOf (0x06 ∷ 0x00 ∷ 0xFF ∷ []) CreateDf x) true
-    ∷ test 5 (grantedOf (0x06 ∷ 0x00 ∷ 0xFF ∷ []) CreateEf x) false
+    ∷ test 5 (grantedOf compact (0x06 ∷ 0x00 ∷ 0xFF ∷ []) CreateDf x) true
+    ∷ test 5 (grantedOf compact (0x06 ∷ 0x00 ∷ 0xFF ∷ []) CreateEf x) false
     -- W6: 02 FF 02 00: EF creation yes
-    ∷ test 6 (grantedOf (0x02 ∷ 0xFF ∷ 0x02 ∷ 0x00 ∷ []) CreateEf x) true
+    ∷ test 6 (grantedOf compact (0x02 ∷ 0xFF ∷ 0x02 ∷ 0x00 ∷ []) CreateEf x) true
     -- W7: room 256: size 192 fits and leaves 0, 193 gives 6A84
-    ∷ number 7 (room (card 5 256)) 256
-    ∷ number 7 (word x (card 5 256) (createEf 192)) 0x9000
-    ∷ number 7 (room (left x (card 5 256) (createEf 192))) 0
-    ∷ number 7 (word x (card 5 256) (createEf 193)) 0x6A84
+    ∷ number 7 (room (card v 5 256)) 256
+    ∷ number 7 (word x (card v 5 256) (createEf 192)) 0x9000
+    ∷ number 7 (room (left x (card v 5 256) (createEf 192))) 0
+    ∷ number 7 (word x (card v 5 256) (createEf 193)) 0x6A84
     -- W8: 78 DF, 41 transparent, 42 linear, 46 cyclic, 79 and 21 neither
     ∷ number 8 (classOf 0x78) df
     ∷ number 8 (classOf 0x41) ef ∷ number 8 (structureOf 0x41) transparent
@@ -90,16 +91,16 @@ rows x =
     ∷ test 9 (goodLength 0x42 1 254) true
     ∷ test 9 (goodLength 0x42 1 255) false
     -- W10: 04 activates to 05, so does 06 (02 Ticket 1), 0C answers 6985
-    ∷ number 10 (word x (rootIn 0x04) activateFile) 0x9000
-    ∷ number 10 (life (left x (rootIn 0x04) activateFile) 0) 0x05
-    ∷ number 10 (word x (rootIn 0x06) activateFile) 0x9000
-    ∷ number 10 (life (left x (rootIn 0x06) activateFile) 0) 0x05
-    ∷ number 10 (word x (rootIn 0x0C) activateFile) 0x6985
-    ∷ number 10 (word x (efIn x 0x04) activateFile) 0x9000
-    ∷ number 10 (life (left x (efIn x 0x04) activateFile) 1) 0x05
-    ∷ number 10 (word x (efIn x 0x06) activateFile) 0x9000
-    ∷ number 10 (life (left x (efIn x 0x06) activateFile) 1) 0x05
-    ∷ number 10 (word x (efIn x 0x0C) activateFile) 0x6985
+    ∷ number 10 (word x (rootIn v 0x04) activateFile) 0x9000
+    ∷ number 10 (life (left x (rootIn v 0x04) activateFile) 0) 0x05
+    ∷ number 10 (word x (rootIn v 0x06) activateFile) 0x9000
+    ∷ number 10 (life (left x (rootIn v 0x06) activateFile) 0) 0x05
+    ∷ number 10 (word x (rootIn v 0x0C) activateFile) 0x6985
+    ∷ number 10 (word x (efIn v x 0x04) activateFile) 0x9000
+    ∷ number 10 (life (left x (efIn v x 0x04) activateFile) 1) 0x05
+    ∷ number 10 (word x (efIn v x 0x06) activateFile) 0x9000
+    ∷ number 10 (life (left x (efIn v x 0x06) activateFile) 1) 0x05
+    ∷ number 10 (word x (efIn v x 0x0C) activateFile) 0x6985
     ∷ []
 
 abbrev pub allGive : List Row → List ℕ
@@ -110,6 +111,6 @@ abbrev pub allSay : List Row → List ℕ
 allSay [] = []
 allSay (r ∷ rs) = r .says ∷ allSay rs
 
--- in every row the definitions give what 01 says (proofs/Computed, `both-sides`)
+-- in every row the definitions give what 01 says, on a card of any version that is known (proofs/Computed, `both-sides`)
 abbrev pub BothSides : Type 0
-BothSides = (x : Sets) → allGive (rows x) ≡ allSay (rows x)
+BothSides = (v : ℕ) → knownVersion v ≡ true → (x : Sets) → allGive (rows v x) ≡ allSay (rows v x)

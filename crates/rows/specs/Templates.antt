@@ -36,13 +36,13 @@ createNamed =
 
 -- a card with 7F10 in slot 1 and in it 6F07, the current EF, in slot 2; one with 6F08; one with 7F11
 abbrev pub tree : Sets → List ℕ
-tree x = left x (left x (card 4 192) (createDf 0x7F 0x10 65)) (createEf 1)
+tree x = left x (left x (card 1 4 192) (createDf 0x7F 0x10 65)) (createEf 1)
 
 abbrev pub records : Sets → List ℕ
-records x = left x (card 3 128) createRecords
+records x = left x (card 1 3 128) createRecords
 
 abbrev pub named : Sets → List ℕ
-named x = left x (card 4 192) createNamed
+named x = left x (card 1 4 192) createNamed
 
 abbrev pub asked : Sets → List (List ℕ)
 asked x =
@@ -96,7 +96,7 @@ TemplatesTold = (x : Sets) → asked x ≡ answers
 
 -- a file made again in a DF of another card, by what SELECT told of it: the word, and the record, in slot 2
 abbrev pub elsewhere : Sets → List ℕ
-elsewhere x = left x (card 5 256) (createDf 0x7F 0x20 150)
+elsewhere x = left x (card 1 5 256) (createDf 0x7F 0x20 150)
 
 abbrev pub toldOf : Sets → List ℕ → ℕ → List ℕ → List ℕ
 toldOf x img n c = responseOf img c (with x) (replicate n 0xAA)

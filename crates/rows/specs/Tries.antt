@@ -20,7 +20,7 @@ after x img (c ∷ rest) = after x (left x img c) rest
 -- DF 7F11, which is current
 abbrev pub nested : Sets → List ℕ
 nested x =
-    after x (card 9 512)
+    after x (card 1 9 512)
     (createDf 0x7F 0x10 200
     ∷ selectFile 0x3F 0x00 ∷ createByte 0x2F 0x00
     ∷ createDf 0x7F 0x20 32

@@ -6,13 +6,12 @@ use mathlib.Core.List.{List}
 use Prim.Native.Nat.{ℕ, zero, suc, _+_, _-_, _<_, _≤_}
 use native.Mathlib.Omega.{arith}
 use lib.ListN.{length, getD}
-use lib.Dec.{eqb, leb, ltb}
-use borrow.Author.Tests.{lt-ltb, le-ltb, eqb-true, leb-true, le-leb}
-use Rattle.laws.proofs.Says.{and-says}
+use lib.Dec.{ltb}
+use borrow.Author.Tests.{lt-ltb, le-ltb, leb-true}
 use Rattle.rules.specs.declared.Sets.{Sets}
 use Rattle.rules.specs.Condition.{holdsOf}
 use Rattle.rules.specs.Group.{b7, b6, b5, b4, b3, b2, b1, slotsOf, nextOf, groupLength, Lengths, someFrom, someGroup}
-use Rattle.rules.specs.Rule.{malformedAt, wellFormed, fitsRecord, holdsAt, allowsOf}
+use Rattle.rules.specs.Rule.{malformedAt, compactFormed, holdsAt, allowsOf}
 
 pub further : (rule : List ℕ) (at : ℕ) → at < nextOf rule at
 unfolding nextOf
@@ -55,17 +54,17 @@ pub formed-start : (rule : List ℕ) → Formed rule 0
 formed-start rule = record { left = left-start (malformedAt rule) rule }
 
 module _ {rule : List ℕ} {at : ℕ} (inv : Formed rule at) where
-  pub formed-end : length rule ≤ at → true ≡ wellFormed rule
-  unfolding wellFormed
+  pub formed-end : length rule ≤ at → true ≡ compactFormed rule
+  unfolding compactFormed
   formed-end h = sym (ap not (left-end (inv .left) h))
 
-  pub formed-high : at < length rule → 127 < getD rule at 0 → false ≡ wellFormed rule
-  unfolding wellFormed malformedAt
+  pub formed-high : at < length rule → 127 < getD rule at 0 → false ≡ compactFormed rule
+  unfolding compactFormed malformedAt
   formed-high h a = sym (ap not (left-yes (inv .left) h (rw (lt-ltb 127 (getD rule at 0) a))))
 
   module _ {to : ℕ} (h : at < length rule) (e : to ≡ nextOf rule at) where
-    pub formed-past : length rule < to → false ≡ wellFormed rule
-    unfolding wellFormed malformedAt
+    pub formed-past : length rule < to → false ≡ compactFormed rule
+    unfolding compactFormed malformedAt
     formed-past n =
         sym (ap not (left-yes (inv .left) h (rw (lt-ltb (length rule) (nextOf rule at) (rw e at n)) (or-true (ltb 127 (getD rule at 0))))))
 
@@ -87,15 +86,13 @@ short-group am n a e = go (ltb am 128) refl e
     go false p q = absurd (omega arith)
 
 -- one group, by the table of lengths: i is the first AM byte, x what the table says of it
-pub one-formed : (rule table : List ℕ) (i x : ℕ) → Lengths table → 1 ≤ length rule → length rule ≤ 16 → i ≡ getD rule 0 0 → i < 256
-    → x ≡ getD table i 0
-    → x ≡ length rule → true ≡ fitsRecord rule
-unfolding fitsRecord nextOf
-one-formed rule table i x t a b q l e h =
-    rw (le-leb 1 (length rule) a, le-leb (length rule) 16 b)
-    (formed-end
+pub one-formed : (rule table : List ℕ) (i x : ℕ) → Lengths table → 1 ≤ length rule → i ≡ getD rule 0 0 → i < 256 → x ≡ getD table i 0
+    → x ≡ length rule → true ≡ compactFormed rule
+unfolding nextOf
+one-formed rule table i x t a q l e h =
+    formed-end
     (formed-next (formed-start rule) {to = length rule} (omega arith) (rw q at (fills .1)) (omega (arith, fills .0, q)) (omega arith))
-    (omega arith))
+    (omega arith)
   where
     fills : (i ≤ 127) × (length rule ≡ 1 + b7 i + b6 i + b5 i + b4 i + b3 i + b2 i + b1 i)
     fills = short-group i (length rule) a (sym h ∙ e ∙ t .right i l)
@@ -129,8 +126,3 @@ module _ {rule : List ℕ} {k : ℕ} {x : Sets} {at : ℕ} (inv : Allowing rule 
     allowing-next {to} t e = record { left = left-next (inv .left) to h (holds-is rule k x at el er t) e }
 
 pub ruleset allowing = (allowing-start, allowing-end, allowing-yes, allowing-next)
-
--- a rule that fits a record has at most 16 bytes
-pub fits-short : (rule : List ℕ) → fitsRecord rule ≡ true → length rule ≤ 16
-unfolding fitsRecord
-fits-short rule e = leb-true (length rule) 16 ((simp and-says at e) .1 .0)

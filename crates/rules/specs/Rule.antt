@@ -1,9 +1,9 @@
 -- A compact rule: which are well formed, and what one decides (01 "Descriptor and rules").
 use Prim.Native.Nat.{ℕ}
-use mathlib.Core.Bool.{Bool, not, _&&_, _||_}
+use mathlib.Core.Bool.{Bool, not, _||_}
 use mathlib.Core.List.{List}
 use lib.ListN.{length, getD}
-use lib.Dec.{ltb, leb}
+use lib.Dec.{ltb}
 use Rattle.rules.specs.declared.Right.{Right}
 use Rattle.rules.specs.declared.Right.the-variants.{DeleteSelf, Terminate, Activate, Deactivate, CreateDf, CreateEf, DeleteChild}
 use Rattle.rules.specs.declared.Sets.{Sets}
@@ -15,12 +15,8 @@ unfoldable pub malformedAt : List ℕ → ℕ → Bool
 malformedAt rule at = ltb 127 (getD rule at 0) || ltb (length rule) (nextOf rule at)
 
 -- AM b8 set is malformed; groups fill the rule exactly
-unfoldable pub wellFormed : List ℕ → Bool
-wellFormed rule = not (someGroup (malformedAt rule) rule)
-
--- 1-16 bytes, well formed
-unfoldable pub fitsRecord : List ℕ → Bool
-fitsRecord rule = leb 1 (length rule) && (leb (length rule) 16 && wellFormed rule)
+unfoldable pub compactFormed : List ℕ → Bool
+compactFormed rule = not (someGroup (malformedAt rule) rule)
 
 -- the group at `at` has a condition in slot k, and it holds
 unfoldable pub holdsAt : List ℕ → ℕ → Sets → ℕ → Bool
@@ -41,6 +37,6 @@ slotOf CreateDf = 4
 slotOf CreateEf = 5
 slotOf DeleteChild = 6
 
--- what a rule decides on a right
-unfoldable pub grantedOf : List ℕ → Right → Sets → Bool
-grantedOf rule right x = allowsOf rule (slotOf right) x
+-- what a compact rule decides on a right
+unfoldable pub compactGrants : List ℕ → Right → Sets → Bool
+compactGrants rule right x = allowsOf rule (slotOf right) x

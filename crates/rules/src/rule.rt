@@ -1,9 +1,10 @@
-// Compact access rules (01 "Descriptor and rules"): what is well formed, and what a rule decides. `granted`
-// is the only way anyone asks a rule.
+// Compact access rules (01 "Descriptor and rules"): what is well formed, and what a rule decides. Rules of any form are
+// asked through `access`, and there alone.
 ghost use mathlib.Core.Path.{_≡_};
-ghost use Prim.Native.Nat.{_<_};
+ghost use Prim.Native.Nat.{_<_, _≤_};
+ghost use lib.ListN.{length};
 ghost use Rattle.rules.specs.Group.{Lengths};
-ghost use Rattle.rules.specs.Rule.{wellFormed, fitsRecord, slotOf, grantedOf, allowsOf};
+ghost use Rattle.rules.specs.Rule.{compactFormed, slotOf, compactGrants, allowsOf};
 use crate::Right;
 use crate::Sets;
 use crate::condition;
@@ -11,7 +12,7 @@ use crate::group;
 
 // Whether the groups fill the rule exactly, with b8 clear in each AM byte.
 pub fn well_formed(rule: &[u8]) -> bool
-    ensures { λ r. ⌜ r ≡ wellFormed (now (rule .entry)) ⌝ }
+    ensures { λ r. ⌜ r ≡ compactFormed (now (rule .entry)) ⌝ }
 {
     let mut at: usize = 0;
     while at < rule.len() {
@@ -27,19 +28,6 @@ pub fn well_formed(rule: &[u8]) -> bool
     true
 }
 
-// Whether a rule may stand in a record: 1 to 16 bytes, well formed.
-pub fn fits_record(rule: &[u8]) -> bool
-    ensures { λ r. ⌜ r ≡ fitsRecord (now (rule .entry)) ⌝ }
-{
-    if rule.len() < 1 {
-        return false;
-    }
-    if 16 < rule.len() {
-        return false;
-    }
-    well_formed(rule)
-}
-
 // A byte as an index or a length, with its bound.
 fn wide(x: u8) -> usize
     ensures { λ r. ⌜ (r ≡ x) × (r < 256) ⌝ }
@@ -48,16 +36,10 @@ fn wide(x: u8) -> usize
 }
 
 // The same with the table of lengths: one group, as most rules are, is one look.
-pub fn fits_by(rule: &[u8], lengths: &[u8; 256]) -> bool
-    requires { ⌜ Lengths (now lengths) ⌝ }
-    ensures { λ r. ⌜ r ≡ fitsRecord (now (rule .entry)) ⌝ }
+pub fn formed_by(rule: &[u8], lengths: &[u8; 256]) -> bool
+    requires { ⌜ (1 ≤ length (now rule)) × Lengths (now lengths) ⌝ }
+    ensures { λ r. ⌜ r ≡ compactFormed (now (rule .entry)) ⌝ }
 {
-    if 1 > rule.len() {
-        return false;
-    }
-    if 16 < rule.len() {
-        return false;
-    }
     let am = wide(rule[0]);
     if wide(lengths[am]) == rule.len() {
         return true;
@@ -99,7 +81,7 @@ fn allows(rule: &[u8], k: usize, sets: Sets) -> bool
 
 // What the rule decides on a right, under what has been authenticated.
 pub fn granted(rule: &[u8], right: Right, sets: Sets) -> bool
-    ensures { λ r. ⌜ r ≡ grantedOf (now (rule .entry)) right sets ⌝ }
+    ensures { λ r. ⌜ r ≡ compactGrants (now (rule .entry)) right sets ⌝ }
 {
     allows(rule, slot_of(right), sets)
 }

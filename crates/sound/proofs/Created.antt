@@ -13,10 +13,11 @@ use Rattle.laws.proofs.Firsts.{first-is}
 use Rattle.laws.specs.Walks.{FirstAt}
 use Rattle.rules.specs.Descriptor.{classOf, isDf, isEf}
 use Rattle.image.specs.declared.Head.{Head}
-use Rattle.image.specs.Layout.{Within, recAt, putRecord, kindOf, recordBytes, countOf, currentDfOf, none}
+use Rattle.image.specs.Layout.{versionOf, Within, recAt, putRecord, kindOf, recordBytes, countOf, currentDfOf, none}
 use Rattle.image.proofs.Records.{record-same, record-other}
 use Rattle.image.proofs.Made.{length-made}
 use Rattle.image.proofs.Headers.{header-put, same-front}
+use Rattle.access.proofs.Fits.{fits-short}
 use Rattle.sound.specs.Table.{View, File, up, hasIdentifier, viewAt, viewOf}
 use Rattle.sound.specs.Own.{Own}
 use Rattle.sound.specs.Kin.{Kin}
@@ -83,29 +84,29 @@ module _ (img : List ℕ) (s : ℕ) (h : Head) (name rule : List ℕ) (sound : S
         room = omega (arith, r);
       }
 
-  whole : length (recordBytes h name rule) ≡ 64
-  whole = length-made h name rule (c .good .name-short) (c .good .rule-short)
+  whole : length (recordBytes (versionOf img) h name rule) ≡ 64
+  whole = length-made (versionOf img) h name rule (c .good .name-short) (fits-short _ _ rule (c .good .formed))
 
   within : (t : ℕ) → t < countOf img → Within img t
   within = sound-within img sound
 
   after : List ℕ
-  after = putRecord img s (recordBytes h name rule)
+  after = putRecord img s (recordBytes (versionOf img) h name rule)
 
-  here : recAt after s ≡ recordBytes h name rule
+  here : recAt after s ≡ recordBytes (versionOf img) h name rule
   unfolding after
-  here = record-same img s (recordBytes h name rule) (within s (found .low)) whole
+  here = record-same img s (recordBytes (versionOf img) h name rule) (within s (found .low)) whole
 
   there : (t : ℕ) → t < countOf img → (t ≡ s → ⊥) → recAt after t ≡ recAt img t
   unfolding after
-  there t l z = record-other img s (recordBytes h name rule) (within s (found .low)) whole t (within t l) z
+  there t l z = record-other img s (recordBytes (versionOf img) h name rule) (within s (found .low)) whole t (within t l) z
 
-  own : (t : ℕ) → t < countOf img → (t ≡ s) ⊎ (t ≡ s → ⊥) → Own (recAt after t)
-  own t l (inl e) = rw (e, here) (own-made h name rule (c .good))
+  own : (t : ℕ) → t < countOf img → (t ≡ s) ⊎ (t ≡ s → ⊥) → Own (versionOf img) (recAt after t)
+  own t l (inl e) = rw (e, here) (own-made (versionOf img) h name rule (c .good))
   own t l (inr z) = rw (there t l z) (sound .records t l)
 
   seen : viewAt after s ≡ viewMade h name
-  seen = ap viewOf here ∙ view-made h name rule
+  seen = ap viewOf here ∙ view-made (versionOf img) h name rule
 
   kin : Kin (countOf img) (viewAt after)
   kin =
@@ -139,5 +140,5 @@ module _ (img : List ℕ) (s : ℕ) (h : Head) (name rule : List ℕ) (sound : S
   unfolding created after
   sound-created =
       sound-set img after (cond (eqb (h .kind) 1) s (currentDfOf img)) (cond (eqb (h .kind) 1) none s) sound
-      (same-front img after (header-put img s (recordBytes h name rule) (within s (found .low)) whole))
+      (same-front img after (header-put img s (recordBytes (versionOf img) h name rule) (within s (found .low)) whole))
       (λ t l. own t l (same-or t s)) kin current

@@ -8,7 +8,7 @@ use native.Mathlib.Omega.{arith}
 use lib.Dec.{eqb}
 use borrow.Author.Tests.{eq-eqb, ne-eqb}
 use Rattle.laws.proofs.Says.{same-or, untrue}
-use Rattle.image.specs.Layout.{recAt, kindOf, parentOf, freeBytes, countOf, currentDfOf, currentEfOf, none}
+use Rattle.image.specs.Layout.{versionOf, recAt, kindOf, parentOf, freeBytes, countOf, currentDfOf, currentEfOf, none}
 use Rattle.image.proofs.Headers.{same-front}
 use Rattle.sound.specs.Table.{View, File, up, viewAt, viewOf}
 use Rattle.sound.specs.Own.{Own}
@@ -71,8 +71,8 @@ module _ (img : List ℕ) (d : ℕ) (sound : Sound img) (c : Deletes img d) wher
       not-deep : AtOrBeneath (viewAt img) d t → ⊥
       not-deep b = omega (arith, b .deep, level)
 
-  own : (t : ℕ) → t < countOf img → (b : Bool) → p t ≡ b → Own (recAt after t)
-  own t l true e = rw (clear t l e) own-free
+  own : (t : ℕ) → t < countOf img → (b : Bool) → p t ≡ b → Own (versionOf img) (recAt after t)
+  own t l true e = rw (clear t l e) (own-free (versionOf img))
   own t l false e = rw (kept t l e) (sound .records t l)
 
   same : (t : ℕ) → t < countOf img → (b : Bool) → p t ≡ b → (viewAt after t ≡ viewAt img t) ⊎ (viewAt after t ≡ gone)

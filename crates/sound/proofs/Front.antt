@@ -5,9 +5,8 @@ use mathlib.Core.List.{List}
 use Prim.Native.Nat.{ℕ, _<_, _≤_}
 use native.Mathlib.Omega.{arith}
 use lib.ListN.{length}
-use Rattle.numbers.proofs.Reading.{u16At-same}
 use Rattle.image.specs.Layout.{Sized, Within, recAt, countOf, versionOf, currentDfOf, currentEfOf, setCurrent}
-use Rattle.image.proofs.Headers.{SameFront, same-count, front-refl, front-trans, front-current, df-current, ef-current, record-current}
+use Rattle.image.proofs.Headers.{SameFront, same-version, same-count, front-refl, front-trans, front-current, df-current, ef-current, record-current}
 use Rattle.sound.specs.Table.{View, viewAt, viewOf}
 use Rattle.sound.specs.Own.{Own}
 use Rattle.sound.specs.Kin.{Kin}
@@ -21,14 +20,13 @@ pub sound-within : (img : List ℕ) → Sound img → (t : ℕ) → t < countOf 
 sound-within img sound t l = omega (arith, sound .header .long, sound .header .most)
 
 pub header-front : (a b : List ℕ) → SameFront a b → Header a → Header b
-unfolding versionOf
 header-front a b front h =
     let c = same-count a b front in
     record {
       mark-0 = front .start 0 (omega arith) ∙ h .mark-0;
       mark-1 = front .start 1 (omega arith) ∙ h .mark-1;
       mark-2 = front .start 2 (omega arith) ∙ h .mark-2;
-      version = u16At-same b a 3 3 (front .start 3 (omega arith)) (front .start 4 (omega arith)) ∙ h .version;
+      version = rw (same-version a b front) (h .version);
       least = rw c (h .least);
       most = rw c (h .most);
       zeros = λ k l. front .tail k l ∙ h .zeros k l;
@@ -45,15 +43,15 @@ current-same n a b df ef c same = record {
 }
 
 -- an image with a sound one's header is sound when its records are
-pub sound-front : (a b : List ℕ) → Sound a → SameFront a b → ((s : ℕ) → s < countOf a → Own (recAt b s)) → Kin (countOf a) (viewAt b)
+pub sound-front : (a b : List ℕ) → Sound a → SameFront a b → ((s : ℕ) → s < countOf a → Own (versionOf a) (recAt b s)) → Kin (countOf a) (viewAt b)
     → Current (countOf a) (viewAt b) (currentDfOf b) (currentEfOf b) → Sound b
 sound-front a b sound front own kin cur =
     let e = same-count a b front in
-    record { header = header-front a b front (sound .header); records = λ s l. own s (rw e at l); kin = rw e kin; current = rw e cur }
+    record { header = header-front a b front (sound .header); records = rw (same-version a b front) (λ s l. own s (rw e at l)); kin = rw e kin; current = rw e cur }
 
 -- .. and so it is with another current DF and EF that may be current
 pub sound-set :
-    (a b : List ℕ) (df ef : ℕ) → Sound a → SameFront a b → ((s : ℕ) → s < countOf a → Own (recAt b s)) → Kin (countOf a) (viewAt b)
+    (a b : List ℕ) (df ef : ℕ) → Sound a → SameFront a b → ((s : ℕ) → s < countOf a → Own (versionOf a) (recAt b s)) → Kin (countOf a) (viewAt b)
     → Current (countOf a) (viewAt b) df ef → Sound (setCurrent b df ef)
 sound-set a b df ef sound front own kin cur =
     let h = sound .header in

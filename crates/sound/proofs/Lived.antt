@@ -8,10 +8,11 @@ use native.Mathlib.Omega.{arith}
 use lib.ListN.{length, getD}
 use Rattle.laws.proofs.Says.{same-or}
 use Rattle.rules.specs.Life.{knownLife}
-use Rattle.image.specs.Layout.{withLife, Within, recAt, kindOf, countOf, setLife}
+use Rattle.image.specs.Layout.{longestRule, versionOf, withLife, Within, recAt, kindOf, countOf, setLife}
+use Rattle.image.proofs.Versions.{longest-within}
 use Rattle.image.proofs.Places.{length-record}
 use Rattle.image.proofs.Headers.{SameHeader, header-life, same-front, same-df, same-ef}
-use Rattle.image.proofs.Lives.{byte-kept, life-set, kind-kept, descriptor-kept, identifier-kept, parent-kept, level-kept}
+use Rattle.image.proofs.Lives.{byte-kept, life-set, kind-kept, descriptor-kept, form-kept, identifier-kept, parent-kept, level-kept}
 use Rattle.image.proofs.Lives.{record-length-kept, size-kept, name-kept, rule-kept, life-same, life-other}
 use Rattle.sound.specs.Table.{View, viewAt, viewOf}
 use Rattle.sound.specs.Own.{Padded, Used, Own}
@@ -20,28 +21,27 @@ use Rattle.sound.proofs.Kept.{kin-same}
 use Rattle.sound.proofs.Front.{sound-front, sound-within, current-same}
 
 module _ (r : List ℕ) (x : ℕ) (whole : length r ≡ 64) where
-  padded-kept : (n : ℕ) → 3 ≤ n → Padded r n → Padded (withLife r x) n
-  padded-kept n a p = record {
+  padded-kept : (most n : ℕ) → 3 ≤ n → Padded most r n → Padded most (withLife r x) n
+  padded-kept most n a p = record {
     short = rw (byte-kept r x whole n (inr a)) (p .short);
     zeros = rw (byte-kept r x whole n (inr a)) (λ k l. byte-kept r x whole (n + 1 + getD r n 0 + k) (inr (omega arith)) ∙ p .zeros k l);
   }
 
-  used-kept : Used r → knownLife x ≡ true → Used (withLife r x)
-  used-kept u g = record {
+  used-kept : (v : ℕ) → Used v r → knownLife x ≡ true → Used v (withLife r x)
+  used-kept v u g = record {
     class = rw (descriptor-kept r x whole, kind-kept r x whole) (u .class);
     life = rw (life-set r x whole) g;
-    zero = byte-kept r x whole 3 (inr (omega arith)) ∙ u .zero;
     identifier = rw (identifier-kept r x whole) (u .identifier);
     size = rw (size-kept r x whole) (u .size);
     length = rw (descriptor-kept r x whole, record-length-kept r x whole, size-kept r x whole) (u .length);
-    name = padded-kept 16 (omega arith) (u .name);
+    name = padded-kept 16 16 (omega arith) (u .name);
     nameless = λ e. byte-kept r x whole 16 (inr (omega arith)) ∙ u .nameless (sym (kind-kept r x whole) ∙ e);
-    rule = padded-kept 33 (omega arith) (u .rule);
-    formed = rw (rule-kept r x whole (u .rule .short)) (u .formed);
-    spare = λ k l. byte-kept r x whole (50 + k) (inr (omega arith)) ∙ u .spare k l;
+    rule = padded-kept (longestRule v) 33 (omega arith) (u .rule);
+    formed = rw (form-kept r x whole, rule-kept r x whole (omega (arith, u .rule .short, longest-within v))) (u .formed);
+    spare = λ k l. byte-kept r x whole (34 + longestRule v + k) (inr (omega arith)) ∙ u .spare k l;
   }
 
-  view-kept : Padded r 16 → viewOf (withLife r x) ≡ viewOf r
+  view-kept : Padded 16 r 16 → viewOf (withLife r x) ≡ viewOf r
   view-kept p =
       rw (
         kind-kept r x whole,
@@ -64,10 +64,10 @@ module _ (img : List ℕ) (s x : ℕ) (sound : Sound img) (low : s < countOf img
   here : recAt (setLife img s x) s ≡ withLife (recAt img s) x
   here = life-same img s x (within s low)
 
-  own : (t : ℕ) → t < countOf img → (t ≡ s) ⊎ (t ≡ s → ⊥) → Own (recAt (setLife img s x) t)
+  own : (t : ℕ) → t < countOf img → (t ≡ s) ⊎ (t ≡ s → ⊥) → Own (versionOf img) (recAt (setLife img s x) t)
   own t l (inl e) = rw (e, here) (record {
     free = λ z. absurd (used (sym (kind-kept (recAt img s) x whole) ∙ z));
-    used = λ z. used-kept (recAt img s) x whole (sound .records s low .used used) good;
+    used = λ z. used-kept (recAt img s) x whole (versionOf img) (sound .records s low .used used) good;
   })
   own t l (inr z) = rw (life-other img s x (within s low) t (within t l) z) (sound .records t l)
 

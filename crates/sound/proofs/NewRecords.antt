@@ -8,10 +8,11 @@ use lib.ListN.{length, getD, getD-replicate}
 use Rattle.laws.specs.Lists.{part}
 use Rattle.numbers.specs.Numbers.{u16At, u32At}
 use Rattle.image.specs.declared.Head.{Head}
-use Rattle.image.specs.Layout.{kindOf, identifierOf, parentOf, levelOf, sizeOf, nameOf, fieldAt, recordBytes, freeBytes}
-use Rattle.image.proofs.Made.{kind-made, descriptor-made, life-made, zero-made, identifier-made, parent-made, level-made}
+use Rattle.image.specs.Layout.{longestRule, kindOf, identifierOf, parentOf, levelOf, sizeOf, nameOf, fieldAt, recordBytes, freeBytes}
+use Rattle.image.proofs.Made.{kind-made, descriptor-made, life-made, form-made, identifier-made, parent-made, level-made}
 use Rattle.image.proofs.Made.{record-length-made, size-made, name-made, rule-made, name-length-made, name-zeros-made, rule-length-made}
 use Rattle.image.proofs.Made.{rule-zeros-made, spare-made}
+use Rattle.access.proofs.Fits.{fits-short}
 use Rattle.sound.specs.Table.{View, viewOf}
 use Rattle.sound.specs.Own.{Padded, Own}
 use Rattle.sound.specs.Effects.{GoodRecord}
@@ -28,45 +29,44 @@ viewMade h name = record {
   name = name;
 }
 
-module _ (h : Head) (name rule : List ℕ) where
-  pub view-made : viewOf (recordBytes h name rule) ≡ viewMade h name
+module _ (v : ℕ) (h : Head) (name rule : List ℕ) where
+  pub view-made : viewOf (recordBytes v h name rule) ≡ viewMade h name
   view-made =
       rw (
-        kind-made h name rule,
-        identifier-made h name rule,
-        parent-made h name rule,
-        level-made h name rule,
-        size-made h name rule,
-        name-made h name rule,
+        kind-made v h name rule,
+        identifier-made v h name rule,
+        parent-made v h name rule,
+        level-made v h name rule,
+        size-made v h name rule,
+        name-made v h name rule,
       )
 
-  name-padded : length name ≤ 16 → Padded (recordBytes h name rule) 16
+  name-padded : length name ≤ 16 → Padded 16 (recordBytes v h name rule) 16
   name-padded a = record {
-    short = omega (arith, name-length-made h name rule a);
-    zeros = rw (name-length-made h name rule a) (name-zeros-made h name rule a);
+    short = omega (arith, name-length-made v h name rule a);
+    zeros = rw (name-length-made v h name rule a) (name-zeros-made v h name rule a);
   }
 
-  rule-padded : length name ≤ 16 → length rule ≤ 16 → Padded (recordBytes h name rule) 33
+  rule-padded : length name ≤ 16 → length rule ≤ longestRule v → Padded (longestRule v) (recordBytes v h name rule) 33
   rule-padded a b = record {
-    short = omega (arith, rule-length-made h name rule a b);
-    zeros = rw (rule-length-made h name rule a b) (rule-zeros-made h name rule a b);
+    short = omega (arith, rule-length-made v h name rule a b);
+    zeros = rw (rule-length-made v h name rule a b) (rule-zeros-made v h name rule a b);
   }
 
-  pub own-made : GoodRecord h name rule → Own (recordBytes h name rule)
-  own-made g = record {
-    free = λ e. absurd (g .some (sym (kind-made h name rule) ∙ e));
+  pub own-made : GoodRecord v h name rule → Own v (recordBytes v h name rule)
+  own-made g = let short = fits-short v (h .form) rule (g .formed) in record {
+    free = λ e. absurd (g .some (sym (kind-made v h name rule) ∙ e));
     used = λ z. record {
-      class = rw (descriptor-made h name rule, kind-made h name rule) (g .class);
-      life = rw (life-made h name rule) (g .life);
-      zero = zero-made h name rule;
-      identifier = rw (identifier-made h name rule) (g .identifier);
-      size = rw (size-made h name rule) (g .size);
-      length = rw (descriptor-made h name rule, record-length-made h name rule, size-made h name rule) (g .records);
+      class = rw (descriptor-made v h name rule, kind-made v h name rule) (g .class);
+      life = rw (life-made v h name rule) (g .life);
+      identifier = rw (identifier-made v h name rule) (g .identifier);
+      size = rw (size-made v h name rule) (g .size);
+      length = rw (descriptor-made v h name rule, record-length-made v h name rule, size-made v h name rule) (g .records);
       name = name-padded (g .name-short);
-      nameless = λ e. name-length-made h name rule (g .name-short) ∙ g .nameless (sym (kind-made h name rule) ∙ e);
-      rule = rule-padded (g .name-short) (g .rule-short);
-      formed = rw (rule-made h name rule (g .name-short)) (g .formed);
-      spare = spare-made h name rule (g .name-short) (g .rule-short);
+      nameless = λ e. name-length-made v h name rule (g .name-short) ∙ g .nameless (sym (kind-made v h name rule) ∙ e);
+      rule = rule-padded (g .name-short) short;
+      formed = rw (form-made v h name rule, rule-made v h name rule (g .name-short)) (g .formed);
+      spare = spare-made v h name rule (g .name-short) short;
     };
   }
 
@@ -75,6 +75,6 @@ pub view-free : viewOf freeBytes ≡ gone
 unfolding kindOf identifierOf parentOf levelOf sizeOf nameOf fieldAt part u16At u32At
 view-free = refl
 
-pub own-free : Own freeBytes
+pub own-free : (v : ℕ) → Own v freeBytes
 unfolding kindOf
-own-free = record { free = λ e k l. getD-replicate 64 (0 + k) 0 0 (omega arith); used = λ z. absurd (z refl) }
+own-free v = record { free = λ e k l. getD-replicate 64 (0 + k) 0 0 (omega arith); used = λ z. absurd (z refl) }

@@ -16,35 +16,34 @@ use Rattle.sound.specs.Kinship.{atOrBeneath, isChild, isChildNamed}
 use Rattle.sound.proofs.Climbing.{above-says}
 use Rattle.sound.specs.Theorems.{SoundSays, SoundOnce}
 
-pub padded-says : (r : List ℕ) (n : ℕ) → (paddedb r n ≡ true) ↔ Padded r n
+pub padded-says : (most : ℕ) (r : List ℕ) (n : ℕ) → (paddedb most r n ≡ true) ↔ Padded most r n
 unfolding paddedb zerosb
-padded-says r n = simp says ((λ h. record { short = h .0; zeros = h .1 }), (λ p. (p .short, p .zeros)))
+padded-says most r n = simp says ((λ h. record { short = h .0; zeros = h .1 }), (λ p. (p .short, p .zeros)))
 
-pub used-says : (r : List ℕ) → (usedb r ≡ true) ↔ Used r
+pub used-says : (v : ℕ) (r : List ℕ) → (usedb v r ≡ true) ↔ Used v r
 unfolding usedb classedb measuredb nameb ruledb zerosb
-used-says r = simp (says, padded-says) (
+used-says v r = simp (says, padded-says) (
   (λ h. record {
     class = h .0 .0;
     life = h .0 .1 .0;
-    zero = h .0 .1 .1 .0;
-    identifier = h .0 .1 .1 .1;
+    identifier = h .0 .1 .1;
     size = h .1 .0 .0;
     length = h .1 .0 .1;
     name = h .1 .1 .0 .0;
     nameless = h .1 .1 .0 .1;
-    rule = h .1 .1 .1 .0 .0;
-    formed = h .1 .1 .1 .0 .1;
-    spare = h .1 .1 .1 .1;
+    rule = h .1 .1 .1 .0;
+    formed = h .1 .1 .1 .1 .0;
+    spare = h .1 .1 .1 .1 .1;
   }),
   (λ u. (
-    (u .class, (u .life, (u .zero, u .identifier))),
-    ((u .size, u .length), ((u .name, u .nameless), ((u .rule, u .formed), u .spare))),
+    (u .class, (u .life, u .identifier)),
+    ((u .size, u .length), ((u .name, u .nameless), (u .rule, (u .formed, u .spare)))),
   )),
 )
 
-pub own-says : (r : List ℕ) → (ownb r ≡ true) ↔ Own r
+pub own-says : (v : ℕ) (r : List ℕ) → (ownb v r ≡ true) ↔ Own v r
 unfolding ownb zerosb
-own-says r = simp (says, used-says) ((λ h. record { free = h .0; used = h .1 }), (λ o. (o .free, o .used)))
+own-says v r = simp (says, used-says) ((λ h. record { free = h .0; used = h .1 }), (λ o. (o .free, o .used)))
 
 pub kin-says : (n : ℕ) (v : ℕ → View) → (kinb n v ≡ true) ↔ Kin n v
 unfolding kinb rootb placedb placedAt siblingsb siblingsAt apartAt aboveb aboveAt namesb namesAt sameName chargesb chargesAt

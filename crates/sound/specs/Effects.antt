@@ -11,21 +11,21 @@ use Rattle.numbers.specs.Numbers.{be16}
 use Rattle.rules.specs.Descriptor.{classOf, df, ef}
 use Rattle.rules.specs.Life.{knownLife, activatedByte}
 use Rattle.rules.specs.Value.{goodIdentifier, goodLength}
-use Rattle.rules.specs.Rule.{fitsRecord}
 use Rattle.image.specs.declared.Head.{Head}
-use Rattle.image.specs.Layout.{countOf, currentDfOf, currentEfOf, none, recordBytes, putRecord, clearRecord, setCurrent}
+use Rattle.image.specs.Layout.{versionOf, countOf, currentDfOf, currentEfOf, none, recordBytes, putRecord, clearRecord, setCurrent}
+use Rattle.access.specs.Access.{fitsRecord}
 use Rattle.sound.specs.Table.{File, viewAt}
 use Rattle.sound.specs.Kinship.{freeSlot, identifierFree, nameFree, fitsRoom, atOrBeneath}
 
 -- CREATE: the new record in slot s; a new DF becomes current with no EF, a new EF becomes current EF
 unfoldable pub created : List ℕ → ℕ → Head → List ℕ → List ℕ → List ℕ
 created img s h name rule =
-    setCurrent (putRecord img s (recordBytes h name rule))
+    setCurrent (putRecord img s (recordBytes (versionOf img) h name rule))
     (cond (eqb (h .kind) df) s (currentDfOf img))
     (cond (eqb (h .kind) df) none s)
 
--- what the data of a new file must satisfy by themselves
-pub record GoodRecord (h : Head) (name rule : List ℕ) : Type 0 where
+-- what the data of a new file must satisfy by themselves, on a card of a version
+pub record GoodRecord (v : ℕ) (h : Head) (name rule : List ℕ) : Type 0 where
   pub class : classOf (h .descriptor) ≡ h .kind
   pub some : h .kind ≡ 0 → ⊥
   pub life : knownLife (h .life) ≡ true
@@ -34,12 +34,11 @@ pub record GoodRecord (h : Head) (name rule : List ℕ) : Type 0 where
   pub records : goodLength (h .descriptor) (h .«record_length») (h .size) ≡ true
   pub name-short : length name ≤ 16
   pub nameless : h .kind ≡ ef → length name ≡ 0
-  pub rule-short : length rule ≤ 16
-  pub formed : fitsRecord rule ≡ true
+  pub formed : fitsRecord v (h .form) rule ≡ true
 
 -- what CREATE has checked and found when it takes slot s, the lowest free one
 pub record Creates (img : List ℕ) (s : ℕ) (h : Head) (name rule : List ℕ) : Type 0 where
-  pub good : GoodRecord h name rule
+  pub good : GoodRecord (versionOf img) h name rule
   pub parent : h .parent ≡ currentDfOf img
   pub level : h .level ≡ viewAt img (currentDfOf img) .level + 1
   pub identifier : identifierFree (countOf img) (viewAt img) (currentDfOf img) (h .identifier) ≡ true
@@ -69,11 +68,12 @@ pub record Deletes (img : List ℕ) (d : ℕ) : Type 0 where
   pub child : viewAt img d .parent ≡ currentDfOf img
 
 -- the root of a fresh card: descriptor 38, life cycle 05
-abbrev pub rootHead : ℕ → Head
-rootHead total = record {
+abbrev pub rootHead : ℕ → ℕ → Head
+rootHead total form = record {
   kind = df;
   descriptor = 0x38;
   life = activatedByte;
+  form = form;
   identifier = 0x3F00;
   parent = 0;
   level = 0;
@@ -81,12 +81,12 @@ rootHead total = record {
   size = total;
 }
 
--- the header of a fresh card of n slots: root current, no EF
-unfoldable pub freshHeader : ℕ → List ℕ
-freshHeader n =
+-- the header of a fresh card of a version and n slots: root current, no EF
+unfoldable pub freshHeader : ℕ → ℕ → List ℕ
+freshHeader v n =
     (0x55 ∷ 0x46 ∷ 0x54 ∷ [])
-    ++ be16 1 ++ be16 n ++ be16 0 ++ be16 none ++ replicate 5 0
+    ++ be16 v ++ be16 n ++ be16 0 ++ be16 none ++ replicate 5 0
 
 -- the maker: the header, the root with no name, all else free
-unfoldable pub fresh : ℕ → ℕ → List ℕ → List ℕ
-fresh n total rule = freshHeader n ++ (recordBytes (rootHead total) [] rule ++ replicate (64 * (n - 1)) 0)
+unfoldable pub fresh : ℕ → ℕ → ℕ → ℕ → List ℕ → List ℕ
+fresh v n total form rule = freshHeader v n ++ (recordBytes v (rootHead total form) [] rule ++ replicate (64 * (n - 1)) 0)

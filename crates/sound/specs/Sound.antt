@@ -3,14 +3,14 @@
 -- (proofs/Says, `sound-says`).
 use mathlib.Core.Path.{_≡_}
 use mathlib.Core.List.{List}
-use mathlib.Core.Bool.{Bool, not, _&&_}
+use mathlib.Core.Bool.{Bool, true, not, _&&_}
 use Prim.Native.Nat.{ℕ, _+_, _*_, _<_, _≤_}
 use lib.Dec.{eqb, ltb, leb}
 use lib.ListN.{length, getD}
 use Rattle.laws.specs.Walks.{allBelow}
 use Rattle.laws.specs.Tests.{implies}
 use Rattle.rules.specs.Descriptor.{df, ef}
-use Rattle.image.specs.Layout.{markAt, versionOf, countOf, currentDfOf, currentEfOf, none, recAt}
+use Rattle.image.specs.Layout.{markAt, knownVersion, versionOf, countOf, currentDfOf, currentEfOf, none, recAt}
 use Rattle.sound.specs.Table.{View, viewAt}
 use Rattle.sound.specs.Own.{Own, ownb, zerosb}
 use Rattle.sound.specs.Kin.{Kin, kinb}
@@ -24,8 +24,8 @@ pub record Header (img : List ℕ) : Type 0 where
   pub mark-0 : markAt img 0 ≡ 0x55
   pub mark-1 : markAt img 1 ≡ 0x46
   pub mark-2 : markAt img 2 ≡ 0x54
-  -- version 1
-  pub version : versionOf img ≡ 1
+  -- version 1 or 2
+  pub version : knownVersion (versionOf img) ≡ true
   -- five zero bytes
   pub zeros : (k : ℕ) → k < 5 → getD img (11 + k) 0 ≡ 0
 
@@ -37,12 +37,12 @@ headerb img =
     && (eqb (markAt img 0) 0x55
     && (eqb (markAt img 1) 0x46
     && (eqb (markAt img 2) 0x54
-    && (eqb (versionOf img) 1
+    && (knownVersion (versionOf img)
     && zerosb img 11 5))))))
 
--- each record is good by itself
+-- each record is good by itself, as the version lays it down
 unfoldable pub recordsb : List ℕ → ℕ → Bool
-recordsb img n = allBelow n (λ s. ownb (recAt img s))
+recordsb img n = allBelow n (λ s. ownb (versionOf img) (recAt img s))
 
 -- the current DF slot holds a DF; the current EF, if any, is its child EF
 pub record Current (n : ℕ) (v : ℕ → View) (d e : ℕ) : Type 0 where
@@ -62,7 +62,7 @@ currentb n v d e =
 
 pub record Sound (img : List ℕ) : Type 0 where
   pub header : Header img
-  pub records : (s : ℕ) → s < countOf img → Own (recAt img s)
+  pub records : (s : ℕ) → s < countOf img → Own (versionOf img) (recAt img s)
   pub kin : Kin (countOf img) (viewAt img)
   pub current : Current (countOf img) (viewAt img) (currentDfOf img) (currentEfOf img)
 

@@ -8,8 +8,8 @@ use Prim.Native.Nat.{ℕ, _+_, _*_, _-_, _<_, _≤_}
 use Rattle.laws.specs.declared.Found.the-variants.{Nothing}
 use Rattle.laws.specs.Settled.{Settles}
 use Rattle.rules.specs.Descriptor.{df}
-use Rattle.rules.specs.Rule.{fitsRecord}
 use Rattle.image.specs.Layout.{countOf}
+use Rattle.access.specs.Access.{fitsRecord}
 use Rattle.sound.specs.Table.{viewAt}
 use Rattle.sound.specs.Sound.{Sound, soundb}
 use Rattle.sound.specs.Kinship.{freeSlot, roomFor}
@@ -23,10 +23,11 @@ SoundSays = (img : List ℕ) → (soundb img ≡ true) ↔ Sound img
 abbrev pub SoundOnce : Type 0
 SoundOnce = (img : List ℕ) → Settles Bool (λ r. r ≡ soundb img)
 
--- a fresh card is sound: N 2 to 1,023, a total of 1 to 64(N-1), a rule of 1 to 16 bytes that is well formed
+-- a fresh card of a version is sound: N 2 to 1,023, a total of 1 to 64(N-1), a form and a rule that fit a record of that version
+-- (whose form is then known, and the version with it)
 abbrev pub SoundFresh : Type 0
-SoundFresh = (n total : ℕ) (rule : List ℕ) → 2 ≤ n → n ≤ 1023 → 1 ≤ total → total ≤ 64 * (n - 1) → fitsRecord rule ≡ true
-    → Sound (fresh n total rule)
+SoundFresh = (v n total form : ℕ) (rule : List ℕ) → 2 ≤ n → n ≤ 1023 → 1 ≤ total → total ≤ 64 * (n - 1)
+    → fitsRecord v form rule ≡ true → Sound (fresh v n total form rule)
 
 -- a full table never refuses: where some directory has room for a size and 64, a record is free
 abbrev pub SlotExists : Type 0

@@ -13,7 +13,7 @@ use Rattle.laws.proofs.Splices.{length-part, getD-part}
 use Rattle.laws.proofs.Walks.{all-each}
 use Rattle.numbers.specs.Numbers.{u32At}
 use Rattle.numbers.proofs.Reading.{u16At-same}
-use Rattle.image.specs.Layout.{Sized, recAt, kindOf, nameOf, fieldAt}
+use Rattle.image.specs.Layout.{Sized, versionOf, recAt, kindOf, nameOf, fieldAt}
 use Rattle.image.proofs.Places.{length-record}
 use Rattle.image.proofs.Records.{within-sized}
 use Rattle.sound.specs.Own.{Padded, Own, ownb}
@@ -22,23 +22,24 @@ use Rattle.sound.proofs.Says.{own-says}
 use Rattle.sound_names.specs.Key.{nameKey, nameKeyAt}
 
 -- a good record's name is short, and zero-padded
-padded-own : (r : List ℕ) → Own r → (kindOf r ≡ 0) ⊎ (kindOf r ≡ 0 → ⊥) → Padded r 16
-padded-own r o (inl e) =
+padded-own : (v : ℕ) (r : List ℕ) → Own v r → (kindOf r ≡ 0) ⊎ (kindOf r ≡ 0 → ⊥) → Padded 16 r 16
+padded-own v r o (inl e) =
     record {
       short = omega (arith, o .free e 16 (omega arith));
       zeros = λ k l. ap (λ (i : ℕ). getD r i 0) (omega arith) ∙ o .free e (16 + 1 + getD r 16 0 + k) (omega arith);
     }
-padded-own r o (inr z) = o .used z .name
+padded-own v r o (inr z) = o .used z .name
 
-pub name-padded : (img : List ℕ) (n s : ℕ) → recordsb img n ≡ true → s < n → Padded (recAt img s) 16
+pub name-padded : (img : List ℕ) (n s : ℕ) → recordsb img n ≡ true → s < n → Padded 16 (recAt img s) 16
 unfolding recordsb
 name-padded img n s h l =
-    padded-own (recAt img s) (own-says (recAt img s) .0 (all-each (λ s. ownb (recAt img s)) n s l h)) (same-or (kindOf (recAt img s)) 0)
+    let own = own-says (versionOf img) (recAt img s) .0 (all-each (λ s. ownb (versionOf img) (recAt img s)) n s l h) in
+    padded-own (versionOf img) (recAt img s) own (same-or (kindOf (recAt img s)) 0)
 
 pub name-short : (img : List ℕ) (n s : ℕ) → recordsb img n ≡ true → s < n → getD (recAt img s) 16 0 ≤ 16
 name-short img n s h l = name-padded img n s h l .short
 
-module _ (r q : List ℕ) (long : length r ≡ 64) (long' : length q ≡ 64) (pad : Padded r 16) (pad' : Padded q 16)
+module _ (r q : List ℕ) (long : length r ≡ 64) (long' : length q ≡ 64) (pad : Padded 16 r 16) (pad' : Padded 16 q 16)
     (same : nameOf r ≡ nameOf q) where
   same-length : getD r 16 0 ≡ getD q 16 0
   unfolding nameOf fieldAt

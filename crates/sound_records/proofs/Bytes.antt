@@ -3,23 +3,28 @@
 use mathlib.Core.Path.{_≡_, refl, sym, _∙_, ap}
 use mathlib.Core.Bool.{Bool, true, false, not, _&&_, and-true, and-false, false≢true}
 use mathlib.Core.List.{List}
+use mathlib.Core.Logic.{_↔_}
 use Prim.Native.Nat.{ℕ, zero, suc, _+_, _*_, _-_, _<_, _≤_}
 use native.Mathlib.Omega.{arith}
 use lib.ListN.{length, getD, take, drop}
 use lib.Dec.{eqb, leb}
-use borrow.Author.Tests.{eqb-true, eq-eqb, ne-eqb, not-true, not-false, le-leb, lt-leb}
+use borrow.Author.Tests.{eqb-true, eq-eqb, ne-eqb, not-true, not-false, le-leb, lt-leb, leb-true}
 use Rattle.laws.specs.Lists.{part}
+use Rattle.laws.specs.Walks.{allBelow}
 use Rattle.laws.specs.Tests.{implies, either}
-use Rattle.laws.proofs.Chains.{got-and, ungot-and}
-use Rattle.laws.proofs.Says.{and-says, implies-says}
+use Rattle.laws.proofs.Splices.{length-part}
+use Rattle.laws.proofs.Chains.{got-and, ungot-and, called-and, refused-and}
+use Rattle.laws.proofs.Says.{and-says, implies-says, untrue}
 use Rattle.numbers.specs.Numbers.{u16At, u32At}
 use Rattle.rules.specs.Value.{goodIdentifier, wholeRecords, goodLength}
 use Rattle.rules.specs.Descriptor.{classOf, ef, Classes, hasRecords}
-use Rattle.rules.specs.Rule.{fitsRecord}
-use Rattle.image.specs.Layout.{recAt, countOf, versionOf, kindOf, descriptorOf, recordLengthOf, sizeOf, ruleOf, fieldAt}
+use Rattle.image.specs.Layout.{longestRule, formsOf, knownVersion, formOf, recAt, countOf, versionOf, kindOf, descriptorOf, recordLengthOf, sizeOf, ruleOf, fieldAt}
+use Rattle.image.proofs.Versions.{longest-within}
 use Rattle.image.proofs.Places.{record-in}
+use Rattle.access.specs.Access.{wellFormed, fitsRecord}
+use Rattle.access.proofs.Fits.{fits-says}
 use Rattle.sound.specs.Own.{zerosb, paddedb, ownb, measuredb, nameb, ruledb}
-use Rattle.sound.specs.Sound.{headerb}
+use Rattle.sound.specs.Sound.{headerb, recordsb}
 use Rattle.sound_records.proofs.Zeros.{agree, zeros-each, zeros-part, zeros-both, zeros-start, zeros-more}
 
 pub identifier-last : (v w : ℕ) {b : Bool} → v ≡ w → b ≡ goodIdentifier v → b ≡ goodIdentifier w
@@ -79,7 +84,7 @@ module _ (r : List ℕ) (x : Bool) (g : x ≡ zerosb r 16 17) where
   named-empty : getD r 0 0 ≡ 2 → nameb r ≡ true → zerosb r 16 17 ≡ true
   unfolding nameb paddedb kindOf
   named-empty k z =
-      let p = and-says (paddedb r 16) (implies (eqb (kindOf r) ef) (eqb (getD r 16 0) 0)) .0 z in
+      let p = and-says (paddedb 16 r 16) (implies (eqb (kindOf r) ef) (eqb (getD r 16 0) 0)) .0 z in
       let q = and-says (leb (getD r 16 0) 16) (zerosb r (17 + getD r 16 0) (16 - getD r 16 0)) .0 (p .0) in
       let o : getD r 16 0 ≡ 0 = eqb-true (getD r 16 0) 0
       (implies-says (eqb (kindOf r) ef) (eqb (getD r 16 0) 0) .0 (p .1) (eq-eqb (getD r 0 0) 2 k)) in
@@ -98,44 +103,108 @@ module _ (r : List ℕ) (x : Bool) (g : x ≡ zerosb r 16 17) where
     named-df h k b z = rw (← e, le-leb n 16 h, ne-eqb (getD r 0 0) 2 k) (z ∙ sym (and-true (zerosb r (17 + n) (16 - n))))
 
 -- the rule: n is its length
-module _ (r : List ℕ) (n : ℕ) (f : n ≡ getD r 33 0) where
-  pub ruled-none : n < 1 → false ≡ (ruledb r && zerosb r 50 14)
-  unfolding ruledb ruleOf fieldAt part fitsRecord
-  ruled-none h =
-      let z : getD r 33 0 ≡ 0 = omega arith in
-      rw z (sym (ap (λ (b : Bool). b && zerosb r 50 14) (and-false (paddedb r 33))))
+record Ruled (v : ℕ) (r : List ℕ) (n : ℕ) : Type 0 where
+  some : 1 ≤ n
+  short : n ≤ longestRule v
+  known : formOf r < formsOf v
+  zeros : zerosb r (34 + n) (30 - n) ≡ true
+  formed : wellFormed (formOf r) (take n (drop 34 r)) ≡ true
 
-  pub ruled-long : 16 < n → false ≡ (ruledb r && zerosb r 50 14)
+module _ (v : ℕ) (r : List ℕ) (whole : length r ≡ 64) (n : ℕ) (f : n ≡ getD r 33 0) where
+  rule-long : n ≤ longestRule v → length (ruleOf r) ≡ n
+  unfolding ruleOf fieldAt
+  rule-long h = rw (← f) (length-part r 34 n (omega (arith, longest-within v)))
+
+  rule-is : ruleOf r ≡ take n (drop 34 r)
+  unfolding ruleOf fieldAt part
+  rule-is = rw (← f) refl
+
+  ruled-says : (ruledb v r ≡ true) ↔ Ruled v r n
   unfolding ruledb paddedb
-  ruled-long h = rw (← f, lt-leb n 16 h)
+  ruled-says = (
+    λ z.
+        let a = and-says (paddedb (longestRule v) r 33) _ .0 z in
+        let p = and-says (leb (getD r 33 0) (longestRule v)) _ .0 (a .0) in
+        let b = and-says (fitsRecord v (formOf r) (ruleOf r)) _ .0 (a .1) in
+        let short : n ≤ longestRule v = rw f (leb-true _ _ (p .0)) in
+        let fits = fits-says v (formOf r) (ruleOf r) .0 (b .0) in
+        record {
+          some = omega (arith, fits .some, rule-long short);
+          short = short;
+          known = fits .known;
+          zeros =
+              zeros-both r (34 + n) (longestRule v - n) (34 + longestRule v) (30 - longestRule v) (34 + n) (30 - n)
+              (omega arith) (omega arith) (omega (arith, longest-within v)) (rw f (p .1)) (b .1);
+          formed = ap (wellFormed (formOf r)) (sym rule-is) ∙ fits .formed;
+        },
+    λ u.
+        let within = longest-within v in
+        let pad = zeros-part r (34 + n) (30 - n) (34 + n) (longestRule v - n) (omega arith) (omega (arith, u .short)) (u .zeros) in
+        let spare = zeros-part r (34 + n) (30 - n) (34 + longestRule v) (30 - longestRule v) (omega (arith, u .short)) (omega arith) (u .zeros) in
+        let fits = fits-says v (formOf r) (ruleOf r) .1 (record {
+          some = omega (arith, u .some, rule-long (u .short));
+          short = omega (arith, u .short, rule-long (u .short));
+          known = u .known;
+          formed = ap (wellFormed (formOf r)) rule-is ∙ u .formed;
+        }) in
+        and-says _ _ .1
+        (and-says _ _ .1 (le-leb (getD r 33 0) (longestRule v) (omega (arith, u .short)), rw (← f) pad), and-says _ _ .1 (fits, spare)),
+  )
 
-  module _ (h : n ≤ 16) (p : Bool) (e : p ≡ zerosb r (34 + n) (30 - n)) where
-    pub ruled-tail : not p ≡ true → false ≡ (ruledb r && zerosb r 50 14)
-    unfolding ruledb paddedb
-    ruled-tail t =
-        agree false (ruledb r && zerosb r 50 14) (λ z. absurd (false≢true z)) (λ z. sym (not-true p t) ∙ e ∙ whole z)
-      where
-        whole : (ruledb r && zerosb r 50 14) ≡ true → zerosb r (34 + n) (30 - n) ≡ true
-        whole z =
-            let a = and-says (ruledb r) (zerosb r 50 14) .0 z in
-            let b = and-says (paddedb r 33) (fitsRecord (ruleOf r)) .0 (a .0) in
-            let c = and-says (leb (getD r 33 0) 16) (zerosb r (34 + getD r 33 0) (16 - getD r 33 0)) .0 (b .0) in
-            zeros-both r (34 + n) (16 - n) 50 14 (34 + n) (30 - n) (omega arith) (omega arith) (omega arith) (rw f (c .1)) (a .1)
+  refuted : (Ruled v r n → ⊥) → false ≡ ruledb v r
+  refuted un = sym (untrue (ruledb v r) (λ z. un (ruled-says .0 z)))
 
-    pub ruled-is : not p ≡ false → (b : Bool) → b ≡ fitsRecord (take (34 + n - 34) (drop 34 r)) → b ≡ (ruledb r && zerosb r 50 14)
-    unfolding ruledb paddedb ruleOf fieldAt part
-    ruled-is t b g =
-        let k : 34 + n - 34 ≡ n = omega arith in
-        let z = sym e ∙ not-false p t in
-        let pad = zeros-part r (34 + n) (30 - n) (34 + n) (16 - n) (omega arith) (omega arith) z in
-        let spare = zeros-part r (34 + n) (30 - n) 50 14 (omega arith) (omega arith) z in
-        rw (← f, le-leb n 16 h, pad, spare)
-        (g ∙ ap (λ (m : ℕ). fitsRecord (take m (drop 34 r))) k ∙ sym (and-true (fitsRecord (take n (drop 34 r)))))
+  pub ruled-none : n < 1 → false ≡ ruledb v r
+  ruled-none h = refuted (λ u. omega (arith, u .some))
+
+  module _ {m : ℕ} (most : m ≡ longestRule v) where
+    pub ruled-long : m < n → false ≡ ruledb v r
+    ruled-long h = refuted (λ u. omega (arith, u .short))
+
+    module _ (short : n ≤ m) {k : ℕ} (forms : k ≡ formsOf v) where
+      pub ruled-unknown : k ≤ getD r 3 0 → false ≡ ruledb v r
+      unfolding formOf
+      ruled-unknown h = refuted (λ u. omega (arith, u .known))
+
+      module _ {p : Bool} (e : p ≡ zerosb r (34 + n) (30 - n)) where
+        pub ruled-tail : not p ≡ true → false ≡ ruledb v r
+        ruled-tail t = refuted (λ u. false≢true (sym (not-true p t) ∙ e ∙ u .zeros))
+
+        pub ruled-is : 1 ≤ n → getD r 3 0 < k → not p ≡ false → (b : Bool) → b ≡ wellFormed (getD r 3 0) (take (34 + n - 34) (drop 34 r))
+            → b ≡ ruledb v r
+        unfolding formOf
+        ruled-is some known t b g =
+            let c : 34 + n - 34 ≡ n = omega arith in
+            let formed = g ∙ ap (λ (i : ℕ). wellFormed (getD r 3 0) (take i (drop 34 r))) c in
+            agree b (ruledb v r)
+            (λ z. ruled-says .1 (record {
+              some = some;
+              short = omega arith;
+              known = omega arith;
+              zeros = sym e ∙ not-false p t;
+              formed = sym formed ∙ z;
+            }))
+            (λ z. formed ∙ ruled-says .0 z .formed)
+
+pub ruleset ruling = (ruled-none, ruled-long, ruled-unknown, ruled-tail, ruled-is)
 
 -- a record of the image, tested as a part of it
-pub own-part : (img : List ℕ) (s : ℕ) (b : Bool) → b ≡ ownb (take (16 + 64 * s + 64 - (16 + 64 * s)) (drop (16 + 64 * s) img))
-    → b ≡ ownb (recAt img s)
-own-part img s b h = h ∙ ap ownb (record-in img s)
+pub own-part : (img : List ℕ) (v s : ℕ) (b : Bool) → b ≡ ownb v (take (16 + 64 * s + 64 - (16 + 64 * s)) (drop (16 + 64 * s) img))
+    → b ≡ ownb v (recAt img s)
+own-part img v s b h = h ∙ ap (ownb v) (record-in img s)
+
+-- all records, by a version that was read: v is that number
+pub records-by : (img : List ℕ) (v n : ℕ) {x : Bool} → v ≡ versionOf img → x ≡ allBelow n (λ t. ownb v (recAt img t)) → x ≡ recordsb img n
+unfolding recordsb
+records-by img v n e h = h ∙ ap (λ (w : ℕ). allBelow n (λ t. ownb w (recAt img t))) e
+
+-- a version that was read: v is that number, r whether it is known
+module _ (v w : ℕ) (e : v ≡ w) (q : Bool) {r : Bool} (k : r ≡ knownVersion v) {x : Bool} where
+  pub known-not : not r ≡ true → x ≡ false → x ≡ (knownVersion w && q)
+  known-not t h = refused-and (knownVersion w) q (k ∙ ap knownVersion e) t h
+
+  pub known-and : not r ≡ false → x ≡ q → x ≡ (knownVersion w && q)
+  known-and t h = called-and (knownVersion w) q (k ∙ ap knownVersion e) t h
 
 -- a slot count that was read: n is that number
 pub header-short : (img : List ℕ) → length img < 16 → false ≡ headerb img
@@ -150,7 +219,7 @@ pub header-at : (img : List ℕ) (n : ℕ) (x : Bool) → n ≡ countOf img
     &&
     (leb n 1023
     &&
-    (eqb (getD img 0 0) 0x55 && (eqb (getD img 1 0) 0x46 && (eqb (getD img 2 0) 0x54 && (eqb (u16At img 3) 1 && zerosb img 11 5)))))))
+    (eqb (getD img 0 0) 0x55 && (eqb (getD img 1 0) 0x46 && (eqb (getD img 2 0) 0x54 && (knownVersion (versionOf img) && zerosb img 11 5)))))))
     → x ≡ headerb img
-unfolding headerb versionOf
+unfolding headerb
 header-at img n x e h = rw (← e) h

@@ -166,7 +166,17 @@ module _ (r : List ℕ) where
     name-last t b f =
         last-part r (17 + n) 8 25 8 (17 + n) (16 - n) b (omega arith) (omega arith) (omega arith) (omega arith) (passed (17 + n) 8 a e t) f
 
-  -- after a rule of n bytes
+  -- after a rule of n bytes, more than 16
+  module _ (n : ℕ) (low : 16 < n) (h : n ≤ 22) (a : Bool) (e : a ≡ zerosb r (34 + n) 8) where
+    pub long-first : not a ≡ true → false ≡ zerosb r (34 + n) (30 - n)
+    long-first t = part-fails r (34 + n) (30 - n) (34 + n) 8 a (omega arith) (omega arith) e t
+
+    pub long-last : not a ≡ false → (d : Bool) → d ≡ zerosb r 56 8 → d ≡ zerosb r (34 + n) (30 - n)
+    long-last t d i =
+        let to-56 = zeros-part r (34 + n) 8 (34 + n) (22 - n) (omega arith) (omega arith) (passed (34 + n) 8 a e t) in
+        last-part r (34 + n) (22 - n) 56 8 (34 + n) (30 - n) d (omega arith) (omega arith) (omega arith) (omega arith) to-56 i
+
+  -- after a rule of n bytes, at most 16
   module _ (n : ℕ) (h : n ≤ 16) (a : Bool) (e : a ≡ zerosb r (34 + n) 8) where
     pub rule-first : not a ≡ true → false ≡ zerosb r (34 + n) (30 - n)
     rule-first t = part-fails r (34 + n) (30 - n) (34 + n) 8 a (omega arith) (omega arith) e t

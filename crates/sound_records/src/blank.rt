@@ -2,7 +2,7 @@
 // name and of a rule, the end of a used record. Every command tests every record, and a way out for each byte
 // costs more than the bytes: long stretches are tested in words of eight bytes, which may overlap, or as a whole.
 ghost use mathlib.Core.Path.{_≡_};
-ghost use Prim.Native.Nat.{_+_, _-_, _≤_};
+ghost use Prim.Native.Nat.{_+_, _-_, _<_, _≤_};
 ghost use lib.ListN.{length};
 ghost use Rattle.sound.specs.Own.{zerosb};
 
@@ -73,12 +73,28 @@ pub fn after_name(r: &[u8], n: usize) -> bool
     eight(r, 25)
 }
 
-// Whether the bytes after a rule of n bytes are zero, up to the end of the record. The words lie so that no
-// length of the rule is a case of its own.
-pub fn after_rule(r: &[u8], n: usize) -> bool
-    requires { ⌜ (length (now r) ≡ 64) × (n ≤ 16) ⌝ }
+// Whether the bytes after a rule of more than 16 bytes are zero, up to the end of the record.
+fn after_long_rule(r: &[u8], n: usize) -> bool
+    requires { ⌜ (length (now r) ≡ 64) × ((16 < n) × (n ≤ 30)) ⌝ }
     ensures { λ b. ⌜ b ≡ zerosb (now (r .entry)) (34 + n) (30 - n) ⌝ }
 {
+    if n > 22 {
+        return zeros(r, 34 + n, 30 - n);
+    }
+    if !eight(r, 34 + n) {
+        return false;
+    }
+    eight(r, 56)
+}
+
+// The same of a rule of any length. In a rule of at most 16 bytes the words lie so that no length is a case of its own.
+pub fn after_rule(r: &[u8], n: usize) -> bool
+    requires { ⌜ (length (now r) ≡ 64) × (n ≤ 30) ⌝ }
+    ensures { λ b. ⌜ b ≡ zerosb (now (r .entry)) (34 + n) (30 - n) ⌝ }
+{
+    if n > 16 {
+        return after_long_rule(r, n);
+    }
     if !eight(r, 34 + n) {
         return false;
     }

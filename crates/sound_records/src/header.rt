@@ -29,7 +29,7 @@ pub fn agrees(image: &[u8]) -> bool
     if image[2] != 0x54 {
         return false;
     }
-    if numbers::u16_at(image, 3) != 1 {
+    if !image::version::is_known(image::fields::version(image)) {
         return false;
     }
     blank::zeros(image, 11, 5)

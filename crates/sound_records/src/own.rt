@@ -9,11 +9,11 @@ ghost use Rattle.rules.specs.Descriptor.{Classes};
 ghost use Rattle.rules.specs.Group.{Lengths};
 ghost use Rattle.rules.specs.Value.{wholeRecords};
 ghost use Rattle.image.specs.Layout.{Sized, Within, recAt, recordLengthOf, sizeOf};
-ghost use Rattle.sound.specs.Own.{zerosb, classedb, measuredb, nameb, ruledb, usedb, ownb};
+ghost use Rattle.sound.specs.Own.{classedb, measuredb, nameb, ruledb, usedb, ownb};
 ghost use Rattle.sound.specs.Sound.{recordsb};
 use crate::blank;
 
-// Kind, descriptor, life cycle, zero byte, identifier.
+// Kind, descriptor, life cycle, identifier.
 fn classed(r: &[u8], classes: &[u8; 256]) -> bool
     requires { ⌜ length (now r) ≡ 64 ⌝ }
     requires { ⌜ Classes (now classes) ⌝ }
@@ -24,9 +24,6 @@ fn classed(r: &[u8], classes: &[u8; 256]) -> bool
         return false;
     }
     if !rules::life_cycle::is_known(r[2]) {
-        return false;
-    }
-    if r[3] != 0 {
         return false;
     }
     rules::value::good_identifier(numbers::u16_at(r, 4))
@@ -76,31 +73,34 @@ fn name_fits(r: &[u8]) -> bool
     blank::after_name(r, n)
 }
 
-// The rule, and zeros after it to the end.
-fn ruled(r: &[u8], lengths: &[u8; 256]) -> bool
+// The rule, as long as the version has room for it and of one of its forms, and zeros after it to the end.
+fn ruled(r: &[u8], v: u32, lengths: &[u8; 256]) -> bool
     requires { ⌜ length (now r) ≡ 64 ⌝ }
     requires { ⌜ Lengths (now lengths) ⌝ }
-    ensures { λ b. ⌜ b ≡ (ruledb (now (r .entry)) && zerosb (now (r .entry)) 50 14) ⌝ }
+    ensures { λ b. ⌜ b ≡ ruledb v (now (r .entry)) ⌝ }
 {
     let n = numbers::wide(r[33]) as usize;
     if n < 1 {
         return false;
     }
-    if n > 16 {
+    if image::version::longest_rule(v) < n {
+        return false;
+    }
+    if image::version::forms(v) <= r[3] {
         return false;
     }
     if !blank::after_rule(r, n) {
         return false;
     }
     let to = 34 + n;
-    rules::rule::fits_by(&r[34..to], lengths)
+    access::formed_by(r[3], &r[34..to], lengths)
 }
 
-// Whether a used record is good by itself.
-fn used(r: &[u8], classes: &[u8; 256], lengths: &[u8; 256]) -> bool
+// Whether a used record of a version is good by itself.
+fn used(r: &[u8], v: u32, classes: &[u8; 256], lengths: &[u8; 256]) -> bool
     requires { ⌜ length (now r) ≡ 64 ⌝ }
     requires { ⌜ Classes (now classes) × Lengths (now lengths) ⌝ }
-    ensures { λ b. ⌜ b ≡ usedb (now (r .entry)) ⌝ }
+    ensures { λ b. ⌜ b ≡ usedb v (now (r .entry)) ⌝ }
 {
     if !classed(r, classes) {
         return false;
@@ -111,30 +111,30 @@ fn used(r: &[u8], classes: &[u8; 256], lengths: &[u8; 256]) -> bool
     if !name_fits(r) {
         return false;
     }
-    ruled(r, lengths)
+    ruled(r, v, lengths)
 }
 
 // Whether 64 bytes are a free record, or a used one that is good by itself.
-fn good(r: &[u8], classes: &[u8; 256], lengths: &[u8; 256]) -> bool
+fn good(r: &[u8], v: u32, classes: &[u8; 256], lengths: &[u8; 256]) -> bool
     requires { ⌜ length (now r) ≡ 64 ⌝ }
     requires { ⌜ Classes (now classes) × Lengths (now lengths) ⌝ }
-    ensures { λ b. ⌜ b ≡ ownb (now (r .entry)) ⌝ }
+    ensures { λ b. ⌜ b ≡ ownb v (now (r .entry)) ⌝ }
 {
     if r[0] == 0 {
         return blank::record(r);
     }
-    used(r, classes, lengths)
+    used(r, v, classes, lengths)
 }
 
 // Whether the record in slot s is.
-fn good_at(image: &[u8], s: usize, classes: &[u8; 256], lengths: &[u8; 256]) -> bool
+fn good_at(image: &[u8], v: u32, s: usize, classes: &[u8; 256], lengths: &[u8; 256]) -> bool
     requires { ⌜ Within (now image) s ⌝ }
     requires { ⌜ Classes (now classes) × Lengths (now lengths) ⌝ }
-    ensures { λ b. ⌜ b ≡ ownb (recAt (now (image .entry)) s) ⌝ }
+    ensures { λ b. ⌜ b ≡ ownb v (recAt (now (image .entry)) s) ⌝ }
 {
     let from = 16 + 64 * s;
     let to = from + 64;
-    good(&image[from..to], classes, lengths)
+    good(&image[from..to], v, classes, lengths)
 }
 
 // Whether each record is good by itself.
@@ -142,11 +142,12 @@ pub fn records(image: &[u8], n: usize) -> bool
     requires { ⌜ Sized (now image) n ⌝ }
     ensures { λ b. ⌜ b ≡ recordsb (now (image .entry)) n ⌝ }
 {
+    let v = image::fields::version(image);
     let classes = rules::descriptor::classes();
     let lengths = rules::group::lengths();
     let mut s = 0;
     while s < n {
-        if !good_at(image, s, &classes, &lengths) {
+        if !good_at(image, v, s, &classes, &lengths) {
             return false;
         }
         s += 1;

@@ -26,7 +26,7 @@ same-length c = search needs
 returns : tie.Need-returns
 returns c = (
   by-case madeNumber (c .enum-told .given .1) (c .before .before .before .before .make .ensures .0),
-  left-by _ _ _ _ _ _
+  left-by _ _ _ _ _ _ _ _
       (c .before .before .before .before .make .ensures .1) (c .before .before .before .before .make .ensures .0),
 )
 
@@ -36,7 +36,7 @@ same-length-2 c = search needs
 returns-2 : tie.Need-returns-2
 returns-2 c = (
   by-case madeNumber (c .enum-told2 .given .1) (c .before .before .before .before .make .ensures .0),
-  left-by _ _ _ _ _ _
+  left-by _ _ _ _ _ _ _ _
       (c .before .before .before .before .make .ensures .1) (c .before .before .before .before .make .ensures .0),
 )
 
@@ -46,7 +46,7 @@ same-length-3 c = search needs
 returns-3 : tie.Need-returns-3
 returns-3 c = (
   by-case madeNumber (c .enum-told3 .given .1) (c .before .before .before .before .make .ensures .0),
-  left-by _ _ _ _ _ _
+  left-by _ _ _ _ _ _ _ _
       (c .before .before .before .before .make .ensures .1) (c .before .before .before .before .make .ensures .0),
 )
 
@@ -56,7 +56,7 @@ same-length-4 c = search needs
 returns-4 : tie.Need-returns-4
 returns-4 c = (
   by-case madeNumber (c .enum-told4 .given .1) (c .before .before .before .before .make .ensures .0),
-  left-by _ _ _ _ _ _
+  left-by _ _ _ _ _ _ _ _
       (c .before .before .before .before .make .ensures .1) (c .before .before .before .before .make .ensures .0),
 )
 

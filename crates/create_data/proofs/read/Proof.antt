@@ -23,8 +23,8 @@ file-requires c κs = subst (Held _) (sym (c .all .ensures)) (held _)
 
 returns-2 : tie.Need-returns-2
 returns-2 c =
-    let e = template-read _ (c .before .before .before .is-template .ensures) (c .before .before .if1 .left) (c .before .all .ensures)
-    (c .file .ensures) in (e, subst (Good _) (sym e) (good _))
+    let e = template-read _ _ (c .before .before .before .is-template .ensures) (c .before .before .if1 .left) (c .before .all .ensures)
+    (c .file .ensures) in (e, subst (Good _ _) (sym e) (good _ _))
 
 pub read-spec : {M : Type 1} → statement M
 read-spec = tie.close (tie.spec is-template-requires returns all-requires file-requires returns-2)

@@ -43,13 +43,10 @@ put-mark-requires-2 c κs = (
 enum-told-3 : tie.Need-enum-told-3
 enum-told-3 c = search needs
 
-slice-aggregate-put-mark-3 : tie.Need-slice-aggregate-put-mark-3
-slice-aggregate-put-mark-3 c = search needs
-
-put-mark-requires-3 : tie.Need-put-mark-requires-3
-put-mark-requires-3 c κs = (
-  next-small _ (c .before .before .before .before .before .before .before .before .before .pre .0) _
-      (c .before .before .before .before .before .before .all .ensures),
+put-later-requires : tie.Need-put-later-requires
+put-later-requires c κs = (
+  next-small _ (c .before .before .before .before .before .before .before .before .pre .0) _
+      (c .before .before .before .before .before .all .ensures),
   search needs,
 )
 
@@ -76,9 +73,9 @@ same-length-3 c = search needs
 
 returns-3 : tie.Need-returns-3
 returns-3 c =
-    reading-put _ _ _ _ (c .before .before .before .before .before .before .before .before .before .all .ensures)
-    (c .before .before .before .before .before .before .before .read .ensures .0)
-    (c .before .before .before .before .before .enum-told3 .given .1) (c .before .before .put-mark3 .ensures)
+    reading-put _ _ _ _ (c .before .before .before .before .before .before .before .before .all .ensures)
+    (c .before .before .before .before .before .before .read .ensures .0)
+    (c .before .before .before .before .enum-told3 .given .1) (c .before .before .put-later .ensures)
 
 pub put-reading-spec : {M : Type 1} → statement M
 put-reading-spec =
@@ -94,8 +91,7 @@ put-reading-spec =
     slice-aggregate-put-mark-2
     put-mark-requires-2
     enum-told-3
-    slice-aggregate-put-mark-3
-    put-mark-requires-3
+    put-later-requires
     same-length
     returns
     same-length-2

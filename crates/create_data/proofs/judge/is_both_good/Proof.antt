@@ -11,7 +11,7 @@ good-identifier-requires : tie.Need-good-identifier-requires
 good-identifier-requires c κs = search needs
 
 returns : tie.Need-returns
-returns c = identifier-bad _ _ (c .before .before .identifier-in .ensures) (c .before .good-identifier .ensures) (c .if1 .taken)
+returns c = identifier-bad _ _ _ (c .before .before .identifier-in .ensures) (c .before .good-identifier .ensures) (c .if1 .taken)
 
 byte-in-requires : tie.Need-byte-in-requires
 byte-in-requires c κs = search needs
@@ -21,7 +21,7 @@ is-new-requires c κs = search needs
 
 returns-2 : tie.Need-returns-2
 returns-2 c =
-    life-bad _ _ (c .before .before .before .before .before .identifier-in .ensures)
+    life-bad _ _ _ (c .before .before .before .before .before .identifier-in .ensures)
     (c .before .before .before .before .good-identifier .ensures) (c .before .before .before .if1 .left)
     (c .before .before .byte-in .ensures) (c .before .is-new .ensures) (c .if2 .taken)
 
@@ -30,7 +30,7 @@ is-rule-good-requires c κs = search needs
 
 returns-3 : tie.Need-returns-3
 returns-3 c =
-    rule-left _ _ (c .before .before .before .before .before .before .identifier-in .ensures)
+    rule-left _ _ _ (c .before .before .before .before .before .before .identifier-in .ensures)
     (c .before .before .before .before .before .good-identifier .ensures) (c .before .before .before .before .if1 .left)
     (c .before .before .before .byte-in .ensures) (c .before .before .is-new .ensures) (c .before .if2 .left) (c .is-rule-good .ensures)
 

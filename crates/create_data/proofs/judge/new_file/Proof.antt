@@ -13,17 +13,29 @@ identifier-in-requires c κs = search needs
 byte-in-requires-2 : tie.Need-byte-in-requires-2
 byte-in-requires-2 c κs = search needs
 
-element-copy-out-t14 : tie.Need-element-copy-out-t14
-element-copy-out-t14 c = search needs
+form-in-requires : tie.Need-form-in-requires
+form-in-requires c κs = search needs
 
-element-copy-out-t17 : tie.Need-element-copy-out-t17
-element-copy-out-t17 c = search needs
+element-copy-out-t16 : tie.Need-element-copy-out-t16
+element-copy-out-t16 c = search needs
 
-element-copy-out-t14-2 : tie.Need-element-copy-out-t14-2
-element-copy-out-t14-2 c = search needs
+element-copy-out-t19 : tie.Need-element-copy-out-t19
+element-copy-out-t19 c = search needs
 
-element-copy-out-t17-2 : tie.Need-element-copy-out-t17-2
-element-copy-out-t17-2 c = search needs
+rule-in-requires : tie.Need-rule-in-requires
+rule-in-requires c κs = search needs
+
+mul-t19 : tie.Need-mul-t19
+mul-t19 c = search needs
+
+element-copy-out-t16-2 : tie.Need-element-copy-out-t16-2
+element-copy-out-t16-2 c = search needs
+
+mul-t22 : tie.Need-mul-t22
+mul-t22 c = search needs
+
+element-copy-out-t25 : tie.Need-element-copy-out-t25
+element-copy-out-t25 c = search needs
 
 returns : tie.Need-returns
 unfolding newFile
@@ -36,8 +48,12 @@ new-file-spec =
     byte-in-requires
     identifier-in-requires
     byte-in-requires-2
-    element-copy-out-t14
-    element-copy-out-t17
-    element-copy-out-t14-2
-    element-copy-out-t17-2
+    form-in-requires
+    element-copy-out-t16
+    element-copy-out-t19
+    rule-in-requires
+    mul-t19
+    element-copy-out-t16-2
+    mul-t22
+    element-copy-out-t25
     returns)

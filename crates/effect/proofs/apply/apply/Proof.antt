@@ -17,11 +17,14 @@ enum-known-verdict-3 : tie.Need-enum-known-verdict-3
 enum-known-verdict-3 c = search needs
 
 sent-requires : tie.Need-sent-requires
-sent-requires c κs = create-sent _ _ _ _ (c .before .before .before .before .before .pre) _ (c .before .verdict3 .given .1) .name
+sent-requires c κs =
+    let f = create-sent _ _ _ _ (c .before .before .before .before .before .pre) _ (c .before .verdict3 .given .1) .name in
+    (f .order, f .inside)
 
 sent-requires-2 : tie.Need-sent-requires-2
 sent-requires-2 c κs =
-    create-sent _ _ _ _ (c .before .before .before .before .before .before .pre) _ (c .before .before .verdict3 .given .1) .rule
+    let f = create-sent _ _ _ _ (c .before .before .before .before .before .before .pre) _ (c .before .before .verdict3 .given .1) .rule in
+    (f .order, f .inside)
 
 create-requires : tie.Need-create-requires
 create-requires c κs =

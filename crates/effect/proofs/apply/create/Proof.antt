@@ -1,6 +1,6 @@
 -- `apply::create`: the record, then what is current.
 use mathlib.Core.Path.{refl}
-use Rattle.effect.proofs.Writes.{created-df, created-ef}
+use Rattle.effect.proofs.Writes.{rule-fits, created-df, created-ef}
 use borrow.Author.Needs.{needs}
 use Rattle.effect.proofs.apply.create.Statement.{statement}
 use Rattle.effect.proofs.apply.create.Tie as tie
@@ -14,8 +14,11 @@ cast-df c = search needs
 cast-new : tie.Need-cast-new
 cast-new c = search needs
 
+version-requires : tie.Need-version-requires
+version-requires c κs = search needs
+
 put-record-requires : tie.Need-put-record-requires
-put-record-requires c κs = search needs
+put-record-requires c κs = (search needs, (search needs, search rule-fits))
 
 set-current-requires : tie.Need-set-current-requires
 set-current-requires c κs = search needs
@@ -42,6 +45,7 @@ create-spec =
     current-df-requires
     cast-df
     cast-new
+    version-requires
     put-record-requires
     set-current-requires
     same-length

@@ -36,7 +36,7 @@ add-result-3 c = search needs
 returns : tie.Need-returns
 returns c =
     let a = c .before .before .before .before .before .before .args in
-    let e : length (now (c .rule .result)) ≤ 16 = search rule-fits in
+    let e : length (now (c .rule .result)) ≤ 30 = search rule-fits in
     (search long-from, omega arith)
 
 pub length-of-spec : {M : Type 1} → statement M

@@ -41,8 +41,8 @@ returns : tie.Need-returns
 unfolding field
 returns c =
     let start = c .before .before .before .before .before .before .before .before .before .before .before .before .before .before in
-    let p : start .args .at + 17 ≤ length (now (start .args .image)) = start .pre .0 in
-    let q : length (now (start .args .v)) ≤ 16 = start .pre .1 in
+    let p : start .args .at + 1 + start .args .most ≤ length (now (start .args .image)) = start .pre .0 in
+    let q : length (now (start .args .v)) ≤ start .args .most = start .pre .1 .0 in
     splice-step _ _ _ _ _ _ _
     (splice-step _ _ _ _ _ _ _
     (c .before .before .before .before .before .before .before .before .before .before .put8 .ensures)

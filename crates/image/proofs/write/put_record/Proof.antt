@@ -1,10 +1,5 @@
--- `write::put_record` writes the head, the name, the rule and the last zeros: 16, 17, 17 and 14 bytes.
-use mathlib.Core.Path.{refl}
-use native.Mathlib.Omega.{arith}
-use denote.Ref.{now}
-use Rattle.laws.proofs.Splices.{splice-step}
-use Rattle.image.specs.Layout.{putRecord, recordBytes}
-use Rattle.image.proofs.Made.{length-head, length-to-rule, length-to-pad}
+-- `write::put_record` writes the head, the name, the rule and the last zeros.
+use Rattle.image.proofs.Made.{record-put}
 use borrow.Author.Needs.{needs}
 use Rattle.image.proofs.write.put_record.Statement.{statement}
 use Rattle.image.proofs.write.put_record.Tie as tie
@@ -14,6 +9,9 @@ mul-at c = search needs
 
 add-at : tie.Need-add-at
 add-at c = search needs
+
+longest-rule-requires : tie.Need-longest-rule-requires
+longest-rule-requires c κs = search needs
 
 put-head-requires : tie.Need-put-head-requires
 put-head-requires c κs = search needs
@@ -33,6 +31,12 @@ put-field-requires-2 c κs = search needs
 add-zero-out : tie.Need-add-zero-out
 add-zero-out c = search needs
 
+add-zero-out-2 : tie.Need-add-zero-out-2
+add-zero-out-2 c = search needs
+
+sub-zero-out : tie.Need-sub-zero-out
+sub-zero-out c = search needs
+
 zero-out-requires : tie.Need-zero-out-requires
 zero-out-requires c κs = search needs
 
@@ -40,24 +44,7 @@ same-length : tie.Need-same-length
 same-length c = search needs
 
 returns : tie.Need-returns
-unfolding putRecord recordBytes
-returns c =
-    let a =
-    c .before .before .before .before .before .before .before .before .before .before .before .before .before .before .before .before
-    .before .before .before .args in
-    let p =
-    c .before .before .before .before .before .before .before .before .before .before .before .before .before .before .before .before
-    .before .before .before .pre in
-    let l16 = length-head (a .h) in
-    let l33 = length-to-rule (a .h) (now (a .name)) (p .1 .0) in
-    let l50 = length-to-pad (a .h) (now (a .name)) (now (a .rule)) (p .1 .0) (p .1 .1) in
-    splice-step _ _ _ _ _ _ _
-    (splice-step _ _ _ _ _ _ _
-    (splice-step _ _ _ _ _ _ _
-    (c .before .before .before .before .before .before .before .before .before .before .before .before .before .before .put-head .ensures)
-    (omega arith) (omega arith) (c .before .before .before .before .before .before .before .before .before .before .put-field .ensures))
-    (omega arith) (omega arith) (c .before .before .before .before .before .before .put-field2 .ensures))
-    (omega arith) (omega arith) (c .before .before .zero-out .ensures)
+returns c = search record-put
 
 pub put-record-spec : {M : Type 1} → statement M
 put-record-spec =
@@ -65,12 +52,15 @@ put-record-spec =
     (tie.spec
     mul-at
     add-at
+    longest-rule-requires
     put-head-requires
     add-put-field
     put-field-requires
     add-put-field-2
     put-field-requires-2
     add-zero-out
+    add-zero-out-2
+    sub-zero-out
     zero-out-requires
     same-length
     returns)

@@ -16,6 +16,9 @@ part-name-end c = search needs
 cast-put-header : tie.Need-cast-put-header
 cast-put-header c = search needs
 
+cast-put-header-2 : tie.Need-cast-put-header-2
+cast-put-header-2 c = search needs
+
 put-header-requires : tie.Need-put-header-requires
 put-header-requires c κs = search needs
 
@@ -45,6 +48,7 @@ put-fresh-spec =
     part-name-start
     part-name-end
     cast-put-header
+    cast-put-header-2
     put-header-requires
     put-record-requires
     sub-zero-out

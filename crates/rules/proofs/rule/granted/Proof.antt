@@ -1,5 +1,5 @@
 -- `rule::granted`: the slot of the right is asked for.
-use Rattle.rules.specs.Rule.{grantedOf}
+use Rattle.rules.specs.Rule.{compactGrants}
 use borrow.Author.Needs.{needs}
 use Rattle.rules.proofs.rule.granted.Statement.{statement}
 use Rattle.rules.proofs.rule.granted.Tie as tie
@@ -11,7 +11,7 @@ allows-requires : tie.Need-allows-requires
 allows-requires c κs = search needs
 
 returns : tie.Need-returns
-unfolding grantedOf
+unfolding compactGrants
 returns c = cc
 
 pub granted-spec : {M : Type 1} → statement M

@@ -1,7 +1,7 @@
 -- `header::agrees`: length, slot count, mark, version and zero bytes, in that order.
 use mathlib.Core.Path.{refl}
 use Rattle.laws.proofs.Chains.{ungot-and, got-and, ne-and, eq-and, gt-and, le-and}
-use Rattle.sound_records.proofs.Bytes.{header-short, header-at}
+use Rattle.sound_records.proofs.Bytes.{header-short, header-at, known-not, known-and}
 use borrow.Author.Needs.{needs}
 use Rattle.sound_records.proofs.header.agrees.Statement.{statement}
 use Rattle.sound_records.proofs.header.agrees.Tie as tie
@@ -45,17 +45,20 @@ shared-slice-read-if7 c = search needs
 returns-7 : tie.Need-returns-7
 returns-7 c = search (header-at, ungot-and, got-and, ne-and, eq-and, gt-and, le-and, refl) depth 30
 
-u16-at-requires : tie.Need-u16-at-requires
-u16-at-requires c κs = search needs
+version-requires : tie.Need-version-requires
+version-requires c κs = search needs
+
+is-known-requires : tie.Need-is-known-requires
+is-known-requires c κs = search needs
 
 returns-8 : tie.Need-returns-8
-returns-8 c = search (header-at, ungot-and, got-and, ne-and, eq-and, gt-and, le-and, refl) depth 30
+returns-8 c = search (header-at, known-not, known-and, ungot-and, got-and, ne-and, eq-and, gt-and, le-and, refl) depth 30
 
 zeros-requires : tie.Need-zeros-requires
 zeros-requires c κs = search needs
 
 returns-9 : tie.Need-returns-9
-returns-9 c = search (header-at, ungot-and, got-and, ne-and, eq-and, gt-and, le-and, refl) depth 30
+returns-9 c = search (header-at, known-not, known-and, ungot-and, got-and, ne-and, eq-and, gt-and, le-and, refl) depth 30
 
 pub agrees-spec : {M : Type 1} → statement M
 agrees-spec =
@@ -74,7 +77,8 @@ agrees-spec =
     returns-6
     shared-slice-read-if7
     returns-7
-    u16-at-requires
+    version-requires
+    is-known-requires
     returns-8
     zeros-requires
     returns-9)

@@ -1,4 +1,4 @@
--- `own::classed`: kind, descriptor, life cycle, zero byte, identifier, in that order.
+-- `own::classed`: kind, descriptor, life cycle, identifier, in that order.
 use mathlib.Core.Path.{refl}
 use Rattle.laws.proofs.Chains.{calls, ne-and, eq-and}
 use Rattle.image.specs.Layout.{descriptorOf, kindOf, lifeCycleOf, identifierOf}
@@ -37,22 +37,15 @@ returns-2 : tie.Need-returns-2
 unfolding classedb descriptorOf kindOf lifeCycleOf identifierOf
 returns-2 c = search (class-not, class-and, calls, ne-and, eq-and, identifier-last, refl) depth 30
 
-shared-slice-read-if3 : tie.Need-shared-slice-read-if3
-shared-slice-read-if3 c = search needs
-
-returns-3 : tie.Need-returns-3
-unfolding classedb descriptorOf kindOf lifeCycleOf identifierOf
-returns-3 c = search (class-not, class-and, calls, ne-and, eq-and, identifier-last, refl) depth 30
-
 u16-at-requires : tie.Need-u16-at-requires
 u16-at-requires c κs = search needs
 
 good-identifier-requires : tie.Need-good-identifier-requires
 good-identifier-requires c κs = search needs
 
-returns-4 : tie.Need-returns-4
+returns-3 : tie.Need-returns-3
 unfolding classedb descriptorOf kindOf lifeCycleOf identifierOf
-returns-4 c = search (class-not, class-and, calls, ne-and, eq-and, identifier-last, refl) depth 30
+returns-3 c = search (class-not, class-and, calls, ne-and, eq-and, identifier-last, refl) depth 30
 
 pub classed-spec : {M : Type 1} → statement M
 classed-spec =
@@ -67,8 +60,6 @@ classed-spec =
     shared-slice-read-is-known
     is-known-requires
     returns-2
-    shared-slice-read-if3
-    returns-3
     u16-at-requires
     good-identifier-requires
-    returns-4)
+    returns-3)

@@ -1,5 +1,5 @@
--- `own::ruled`: zeros from the end of the rule on, then the rule itself.
-use Rattle.sound_records.proofs.Bytes.{ruled-none, ruled-long, ruled-tail, ruled-is}
+-- `own::ruled`: how long the rule is, its form, zeros from its end on, then the rule itself.
+use Rattle.sound_records.proofs.Bytes.{ruling}
 use borrow.Author.Needs.{needs}
 use Rattle.sound_records.proofs.own.ruled.Statement.{statement}
 use Rattle.sound_records.proofs.own.ruled.Tie as tie
@@ -14,34 +14,49 @@ cast-n : tie.Need-cast-n
 cast-n c = search needs
 
 returns : tie.Need-returns
-returns c = search ruled-none
+returns c = search ruling
+
+longest-rule-requires : tie.Need-longest-rule-requires
+longest-rule-requires c κs = search needs
 
 returns-2 : tie.Need-returns-2
-returns-2 c = search ruled-long
+returns-2 c = search ruling
+
+forms-requires : tie.Need-forms-requires
+forms-requires c κs = search needs
+
+shared-slice-read-if3 : tie.Need-shared-slice-read-if3
+shared-slice-read-if3 c = search needs
+
+returns-3 : tie.Need-returns-3
+returns-3 c = search ruling
 
 after-rule-requires : tie.Need-after-rule-requires
 after-rule-requires c κs = search needs
 
-returns-3 : tie.Need-returns-3
-returns-3 c = search ruled-tail
+returns-4 : tie.Need-returns-4
+returns-4 c = search ruling
 
 add-to : tie.Need-add-to
 add-to c = search needs
 
-sub-fits-by : tie.Need-sub-fits-by
-sub-fits-by c = search needs
+shared-slice-read-formed-by : tie.Need-shared-slice-read-formed-by
+shared-slice-read-formed-by c = search needs
 
-part-fits-by-start : tie.Need-part-fits-by-start
-part-fits-by-start c = search needs
+sub-formed-by : tie.Need-sub-formed-by
+sub-formed-by c = search needs
 
-part-fits-by-end : tie.Need-part-fits-by-end
-part-fits-by-end c = search needs
+part-formed-by-start : tie.Need-part-formed-by-start
+part-formed-by-start c = search needs
 
-fits-by-requires : tie.Need-fits-by-requires
-fits-by-requires c κs = search needs
+part-formed-by-end : tie.Need-part-formed-by-end
+part-formed-by-end c = search needs
 
-returns-4 : tie.Need-returns-4
-returns-4 c = search ruled-is
+formed-by-requires : tie.Need-formed-by-requires
+formed-by-requires c κs = search needs
+
+returns-5 : tie.Need-returns-5
+returns-5 c = search ruling
 
 pub ruled-spec : {M : Type 1} → statement M
 ruled-spec =
@@ -51,12 +66,17 @@ ruled-spec =
     wide-requires
     cast-n
     returns
+    longest-rule-requires
     returns-2
-    after-rule-requires
+    forms-requires
+    shared-slice-read-if3
     returns-3
+    after-rule-requires
+    returns-4
     add-to
-    sub-fits-by
-    part-fits-by-start
-    part-fits-by-end
-    fits-by-requires
-    returns-4)
+    shared-slice-read-formed-by
+    sub-formed-by
+    part-formed-by-start
+    part-formed-by-end
+    formed-by-requires
+    returns-5)

@@ -1,0 +1,35 @@
+-- Access rules of every form, by the number of the form that a record keeps: 0 compact (01 "Descriptor and rules"), 1 expanded
+-- (02 Ticket 3). What a rule decides, and which may stand in a record.
+use Prim.Native.Nat.{ℕ}
+use mathlib.Core.Bool.{Bool, false, cond, _&&_}
+use mathlib.Core.List.{List}
+use lib.ListN.{length}
+use lib.Dec.{eqb, ltb, leb}
+use Rattle.rules.specs.declared.Right.{Right}
+use Rattle.rules.specs.declared.Sets.{Sets}
+use Rattle.rules.specs.Rule.{compactFormed, compactGrants}
+use Rattle.expanded.specs.Expanded.{expandedFormed, expandedGrants}
+use Rattle.image.specs.Layout.{longestRule, formsOf}
+
+abbrev pub compact : ℕ
+compact = 0
+
+abbrev pub expanded : ℕ
+expanded = 1
+
+-- a rule is well formed, by its form
+unfoldable pub wellFormed : ℕ → List ℕ → Bool
+wellFormed form rule =
+    cond (eqb form compact) (compactFormed rule)
+    (cond (eqb form expanded) (expandedFormed rule) false)
+
+-- it may stand in a record of a version: 1 byte to as many as the version has for it, in a form that the version has, well formed
+unfoldable pub fitsRecord : ℕ → ℕ → List ℕ → Bool
+fitsRecord v form rule =
+    leb 1 (length rule) && (leb (length rule) (longestRule v) && (ltb form (formsOf v) && wellFormed form rule))
+
+-- what a rule decides on a right; a form that nobody knows denies
+unfoldable pub grantedOf : ℕ → List ℕ → Right → Sets → Bool
+grantedOf form rule right x =
+    cond (eqb form compact) (compactGrants rule right x)
+    (cond (eqb form expanded) (expandedGrants rule right x) false)

@@ -1,0 +1,20 @@
+-- The form goes with the object that has the rule.
+use Rattle.laws.proofs.Branches.{answers}
+use Rattle.create_data.specs.Form.{formIn}
+use borrow.Author.Needs.{needs}
+use Rattle.create_data.proofs.form.form_in.Statement.{statement}
+use Rattle.create_data.proofs.form.form_in.Tie as tie
+
+is-absent-requires : tie.Need-is-absent-requires
+is-absent-requires c κs = search needs
+
+returns : tie.Need-returns
+unfolding formIn
+returns c = search answers
+
+returns-2 : tie.Need-returns-2
+unfolding formIn
+returns-2 c = search answers
+
+pub form-in-spec : {M : Type 1} → statement M
+form-in-spec = tie.close (tie.spec is-absent-requires returns returns-2)

@@ -1,0 +1,4 @@
+pub mod Objects
+pub mod Nested
+pub mod Rows
+pub mod Alike
