@@ -65,7 +65,7 @@ extern "C" {
 #define HULL_COMMAND_NUMBERS 3u
 #define HULL_REPORT_NUMBERS 4u
 
-/* Stack that a call takes at most. The compiled library takes 34408 bytes; the rest is left for other builds of it. */
+/* Stack that a call takes at most. The compiled library takes 35128 bytes; the rest is left for other builds of it. */
 #define HULL_STACK_BYTES 40960u
 
 /* What card the maker makes: today the version of its image. A later version of this library joins a variant to it in
@@ -158,8 +158,8 @@ uint32_t hull_make(uint8_t *image, size_t image_length, uint32_t kind, uint32_t 
  *   8A  the life cycle, the byte that the card holds, 0C among them
  *   8C  the access rule if it is compact, or AB if it is expanded
  *   80  an EF's size, or 81 a DF's total, two bytes
- * With a C6 behind 81, which a card does not keep, it is the data of a CREATE that makes the same file again, unless the
- * file is the root or terminated. */
+ * With a C6 behind 81, which a card does not keep, it is the data of a CREATE that makes the same file again on a card of
+ * its version, unless the file is the root or terminated. */
 uint32_t hull_command(uint8_t *image, size_t image_length, const uint8_t *command, size_t command_length,
                       uint8_t *response, size_t response_length,
                       uint16_t messaging, uint16_t external, uint16_t user, uint8_t channels,

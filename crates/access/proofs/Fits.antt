@@ -1,6 +1,6 @@
 -- What it says that a rule may stand in a record: how long it is, its form, that it is well formed.
-use mathlib.Core.Path.{_≡_, refl, sym, ap, _∙_}
-use mathlib.Core.Bool.{Bool, true, false, _&&_}
+use mathlib.Core.Path.{_≡_, refl}
+use mathlib.Core.Bool.{Bool, true, false}
 use mathlib.Core.List.{List}
 use mathlib.Core.Logic.{_↔_}
 use Prim.Native.Nat.{ℕ, _<_, _≤_}
@@ -11,7 +11,7 @@ use borrow.Author.Tests.{le-leb, lt-leb, lt-ltb, le-ltb, leb-true}
 use Rattle.laws.proofs.Says.{and-says}
 use Rattle.laws.proofs.Chains.{and-on, and-off}
 use Rattle.image.specs.Layout.{longestRule, formsOf}
-use Rattle.image.proofs.Versions.{longest-within, forms-few}
+use Rattle.image.proofs.Versions.{forms-few}
 use Rattle.access.specs.Access.{wellFormed, fitsRecord}
 
 pub record Fits (v form : ℕ) (rule : List ℕ) : Type 0 where
@@ -35,12 +35,8 @@ module _ (v form : ℕ) (rule : List ℕ) where
             and-says _ _ .1 (le-leb _ _ (f .short), and-says _ _ .1 (lt-ltb form (formsOf v) (f .known), f .formed))),
   )
 
-  -- the bounds that the layout has of it
   pub fits-short : fitsRecord v form rule ≡ true → length rule ≤ longestRule v
   fits-short e = fits-says .0 e .short
-
-  pub fits-within : fitsRecord v form rule ≡ true → length rule ≤ 30
-  fits-within e = omega (arith, fits-short e, longest-within v)
 
   pub fits-form : fitsRecord v form rule ≡ true → form < 2
   fits-form e = omega (arith, fits-says .0 e .known, forms-few v)

@@ -1,6 +1,7 @@
 -- Access rules of every form, by the number of the form that a record keeps: 0 compact (01 "Descriptor and rules"), 1 expanded
 -- (02 Ticket 3). What a rule decides, and which may stand in a record.
 use Prim.Native.Nat.{ℕ}
+use mathlib.Core.Path.{_≡_}
 use mathlib.Core.Bool.{Bool, false, cond, _&&_}
 use mathlib.Core.List.{List}
 use lib.ListN.{length}
@@ -9,6 +10,7 @@ use Rattle.rules.specs.declared.Right.{Right}
 use Rattle.rules.specs.declared.Sets.{Sets}
 use Rattle.rules.specs.Rule.{compactFormed, compactGrants}
 use Rattle.expanded.specs.Expanded.{expandedFormed, expandedGrants}
+use Rattle.expanded.specs.Writing.{expandedWriting}
 use Rattle.image.specs.Layout.{longestRule, formsOf}
 
 abbrev pub compact : ℕ
@@ -16,6 +18,10 @@ compact = 0
 
 abbrev pub expanded : ℕ
 expanded = 1
+
+-- the tag of the object that a rule of a form stands in, where CREATE takes it and SELECT tells it
+abbrev pub tagOf : ℕ → ℕ
+tagOf form = cond (eqb form compact) 0x8C 0xAB
 
 -- a rule is well formed, by its form
 unfoldable pub wellFormed : ℕ → List ℕ → Bool
@@ -33,3 +39,8 @@ unfoldable pub grantedOf : ℕ → List ℕ → Right → Sets → Bool
 grantedOf form rule right x =
     cond (eqb form compact) (compactGrants rule right x)
     (cond (eqb form expanded) (expandedGrants rule right x) false)
+
+-- the two writings of a rule, asked in the one way (proofs/Alike, `writings-alike`)
+abbrev pub WritingsAlike : Type 0
+WritingsAlike = (rule : List ℕ) (right : Right) (x : Sets)
+    → grantedOf expanded (expandedWriting rule) right x ≡ grantedOf compact rule right x

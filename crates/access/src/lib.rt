@@ -4,7 +4,7 @@ ghost use mathlib.Core.Path.{_≡_};
 ghost use Prim.Native.Nat.{_≤_};
 ghost use lib.ListN.{length};
 ghost use Rattle.rules.specs.Group.{Lengths};
-ghost use Rattle.access.specs.Access.{wellFormed, fitsRecord, grantedOf};
+ghost use Rattle.access.specs.Access.{tagOf, wellFormed, fitsRecord, grantedOf};
 use rules::Right;
 use rules::Sets;
 
@@ -12,6 +12,16 @@ use rules::Sets;
 pub const COMPACT: u8 = 0;
 
 pub const EXPANDED: u8 = 1;
+
+// The tag of the object that a rule stands in.
+pub fn tag_of(form: u8) -> u8
+    ensures { λ r. ⌜ r ≡ tagOf form ⌝ }
+{
+    if form == COMPACT {
+        return 0x8C;
+    }
+    0xAB
+}
 
 // Whether a rule is well formed.
 fn well_formed(form: u8, rule: &[u8]) -> bool

@@ -59,7 +59,8 @@ module _ (img c : List ℕ) (sound : Sound img) where
     created-record t l =
         record-current _ _ _ put-long t (omega (arith, put .long, within t l .0))
         ∙ ⊎-elim
-        (λ e. ap (λ (x : ℕ). recAt (putRecord img s (recordBytes (versionOf img) h name rule)) x) e ∙ record-same img s _ (within s low) whole
+        (λ e. ap (λ (x : ℕ). recAt (putRecord img s (recordBytes (versionOf img) h name rule)) x) e
+        ∙ record-same img s _ (within s low) whole
         ∙ sym (rw (eq-eqb t s e)))
         (λ z. record-other img s _ (within s low) whole t (within t l) z ∙ sym (rw (ne-eqb t s z)))
         (same-or t s)

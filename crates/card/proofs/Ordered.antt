@@ -50,7 +50,8 @@ abbrev pub Ordered : List ℕ → List ℕ → Verdict → Type 0
 Ordered img c (Refuse w) = Unit {0}
 Ordered img c (Select d e w) = instruction c ≡ 0xA4
 Ordered img c (Create x) =
-    (instruction c ≡ 0xE0) × (x .slot ≡ slotIn (freeSlot (countOf img) (viewAt img))) × (x .head .life ≡ sentLife (dataOf (versionOf img) (sentData c)))
+    (instruction c ≡ 0xE0) × (x .slot ≡ slotIn (freeSlot (countOf img) (viewAt img)))
+    × (x .head .life ≡ sentLife (dataOf (versionOf img) (sentData c)))
 Ordered img c (Delete x) = (instruction c ≡ 0xE4) × (childNamed (countOf img) (viewAt img) (currentDfOf img) (sentIdentifier c) ≡ At x)
 Ordered img c (SetLife x life) = (instruction c ≡ 0xE0 → ⊥) × (life ≡ writtenBy (instruction c)) × (terminatedAt img x ≡ true → ⊥)
 

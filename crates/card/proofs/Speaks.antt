@@ -67,7 +67,8 @@ plan-speaks : (img : List ℕ) (n d : ℕ) (c : List ℕ) (st : State) → Speak
 unfolding planFor lifePlan
 plan-speaks img n d c st =
     chosen-by Speaks (instruction c) _ _ _ (λ e. (refl, λ a. selecting-spoken img d _))
-    (λ z. chosen-by Speaks (instruction c) _ _ _ (λ e. (refl, λ a. creating-spoken img d _ (dataOf (versionOf img) (sentData c)) (and-says _ _ .0 a .0)))
+    (λ z. chosen-by Speaks (instruction c) _ _ _ (λ e.
+    (refl, λ a. creating-spoken img d _ (dataOf (versionOf img) (sentData c)) (and-says _ _ .0 a .0)))
     (λ z. chosen-by Speaks (instruction c) _ _ _ (λ e. (refl, λ a. tt))
     (λ z. chosen-by Speaks (instruction c) _ _ _ (λ e. (refl, λ a. tt))
     (λ z. chosen-by Speaks (instruction c) _ _ _ (λ e. (refl, λ a. tt))
@@ -105,7 +106,8 @@ unfolding planFor lifePlan selecting
 plan-acts img n d c st =
     chosen-by ActsThen (instruction c) _ _ _
     (λ e a. cond-by Acts (eqb (viewAt img (slotIn (selected img n d _)) .kind) df) _ _ (λ q. tt) (λ q. tt))
-    (λ z. chosen-by ActsThen (instruction c) _ _ _ (λ e a. creating-acts img d _ (dataOf (versionOf img) (sentData c)) (and-says _ _ .0 a .0))
+    (λ z. chosen-by ActsThen (instruction c) _ _ _
+    (λ e a. creating-acts img d _ (dataOf (versionOf img) (sentData c)) (and-says _ _ .0 a .0))
     (λ z. chosen-by ActsThen (instruction c) _ _ _ (λ e a. tt)
     (λ z. chosen-by ActsThen (instruction c) _ _ _ (λ e a. tt)
     (λ z. chosen-by ActsThen (instruction c) _ _ _ (λ e a. tt)

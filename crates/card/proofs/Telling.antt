@@ -179,7 +179,8 @@ module _ (img c : List ℕ) (sound : Sound img) where
   module _ (long : 5 ≤ length c) (sets : Sets) where
     -- the new record of a kind, by the right that it needs
     record-tells : (kind : ℕ) (right : Right) (x : NewFile) → GoodFile (versionOf img) (sentData c) x → x .name .end - x .name .start ≤ 16
-        → GoodRecord (versionOf img) (newHead img (currentDfOf img) kind x) (bytesAt (sentData c) (x .name)) (bytesAt (sentData c) (x .rule))
+        → GoodRecord (versionOf img) (newHead img (currentDfOf img) kind x) (bytesAt (sentData c) (x .name))
+        (bytesAt (sentData c) (x .rule))
         → allHold (admission img (countOf img) (currentDfOf img) right (x .identifier) (bytesAt (sentData c) (x .name)) (x .size) sets)
         ≡ true
         → Tells img c (Create (newRecord img (currentDfOf img) (slotIn (freeSlot (countOf img) (viewAt img))) kind x))
@@ -203,7 +204,8 @@ module _ (img c : List ℕ) (sound : Sound img) where
         })
 
     -- how long the name is
-    name-long : (x : NewFile) → GoodFile (versionOf img) (sentData c) x → length (bytesAt (sentData c) (x .name)) ≡ x .name .end - x .name .start
+    name-long : (x : NewFile) → GoodFile (versionOf img) (sentData c) x
+        → length (bytesAt (sentData c) (x .name)) ≡ x .name .end - x .name .start
     name-long x g = part-long (sentData c) (x .name .start) (x .name .end) (g .name-low) (g .name-high)
 
     new-tells : (new : Data) → Good (versionOf img) (sentData c) new

@@ -25,7 +25,8 @@ abbrev pub Tells : List ℕ → List ℕ → Verdict → Type 0
 Tells img c (Refuse w) = Unit {0}
 Tells img c (Select d e w) = Current (countOf img) (viewAt img) d e
 Tells img c (Create x) =
-    FileSent (versionOf img) (countOf img) c x × Creates img (x .slot) (x .head) (bytesAt (sentData c) (x .name)) (bytesAt (sentData c) (x .rule))
+    FileSent (versionOf img) (countOf img) c x × Creates img (x .slot) (x .head) (bytesAt (sentData c) (x .name))
+    (bytesAt (sentData c) (x .rule))
 Tells img c (Delete s) = Deletes img s
 Tells img c (SetLife s life) = Stands img (countOf img) s × (knownLife life ≡ true)
 

@@ -21,7 +21,8 @@ recordAfter img c (Refuse word) t = recAt img t
 recordAfter img c (Select d e word) t = recAt img t
 -- CREATE: the record in the new slot
 recordAfter img c (Create x) t =
-    cond (eqb t (x .slot)) (recordBytes (versionOf img) (x .head) (bytesAt (sentData c) (x .name)) (bytesAt (sentData c) (x .rule))) (recAt img t)
+    cond (eqb t (x .slot)) (recordBytes (versionOf img) (x .head) (bytesAt (sentData c) (x .name)) (bytesAt (sentData c) (x .rule)))
+    (recAt img t)
 -- DELETE: the file and all beneath it become zero records
 recordAfter img c (Delete s) t = cond (atOrBeneath (viewAt img) s t) freeBytes (recAt img t)
 -- a life-cycle command: one byte of one record

@@ -88,20 +88,20 @@ abbrev pub ResponseStays : Type 0
 ResponseStays = (img c : List ℕ) (st : State) (response : List ℕ)
     → PastStays response (responseOf img c st response) (answerTold (replyOf img c st (length response)))
 
--- a sound image stays sound; the length of any image stays
+-- a sound image stays sound; the version and the length of any image stay
 abbrev pub StaysSound : Type 0
 StaysSound = (img c : List ℕ) (st : State) (lent : ℕ) → Sound img → Sound (imageOf img c st lent)
 
--- .. and its version; so a card of version 1 stays compact
 abbrev pub VersionStays : Type 0
-VersionStays = (img c : List ℕ) (st : State) (lent : ℕ) → Sound img → versionOf (imageOf img c st lent) ≡ versionOf img
-
-abbrev pub StaysCompact : Type 0
-StaysCompact = (img c : List ℕ) (st : State) (lent s : ℕ) → Sound img → versionOf img ≡ 1 → s < countOf img
-    → formOf (recAt (imageOf img c st lent) s) ≡ compact
+VersionStays = (img c : List ℕ) (st : State) (lent : ℕ) → versionOf (imageOf img c st lent) ≡ versionOf img
 
 abbrev pub LengthStays : Type 0
 LengthStays = (img c : List ℕ) (st : State) (lent : ℕ) → length (imageOf img c st lent) ≡ length img
+
+-- so a card of version 1 stays compact (02 Ticket 3)
+abbrev pub StaysCompact : Type 0
+StaysCompact = (img c : List ℕ) (st : State) (lent s : ℕ) → Sound img → versionOf img ≡ 1 → s < countOf img
+    → formOf (recAt (imageOf img c st lent) s) ≡ compact
 
 -- Demand 2: where all steps hold, the reply is the word of the effect, the image has it, and what it tells stands at the start of the
 -- response; else the reply is the word of the first that fails, and image and response are as they came

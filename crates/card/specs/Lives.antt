@@ -40,4 +40,5 @@ OnlyCreated = (img c : List ℕ) (st : State) (lent s : ℕ) → s < countOf img
 abbrev pub KeptAsGiven : Type 0
 KeptAsGiven = (img c : List ℕ) (st : State) (lent : ℕ) → instruction c ≡ 0xE0 → answerWord (replyOf img c st lent) ≡ 0x9000
     → let new : ℕ = lifeAt (imageOf img c st lent) (slotIn (freeSlot (countOf img) (viewAt img))) in
-    ((t : DfData (versionOf img) (sentData c)) → new ≡ first (t .life)) × ((t : EfData (versionOf img) (sentData c)) → new ≡ first (t .life))
+    ((t : DfData (versionOf img) (sentData c)) → new ≡ first (t .life))
+    × ((t : EfData (versionOf img) (sentData c)) → new ≡ first (t .life))

@@ -16,6 +16,7 @@ use Rattle.rules.specs.Descriptor.{structureOf, hasRecords}
 use Rattle.rules.specs.Life.{newLife}
 use Rattle.rules.specs.Value.{goodIdentifier, wholeRecords, goodLength}
 use Rattle.image.specs.Layout.{longestRule, formsOf}
+use Rattle.access.proofs.Fits.{fits-says}
 use Rattle.access.specs.Access.{wellFormed, fitsRecord}
 use Rattle.template.specs.Values.{firstOf, pairOf, recordLengthOf, numberOf, fitsName}
 use Rattle.create_data.specs.Grammar.{Optional, absent, sent, valueOf, Ruled, ruleOf, ruleForm, first, number, Long}
@@ -98,14 +99,9 @@ identifier-says n = (
 
 pub rule-says : (v form : ℕ) (r : List ℕ)
     → (fitsRecord v form r ≡ true) ↔ (Long 1 (longestRule v) r × (form < formsOf v) × (wellFormed form r ≡ true))
-unfolding fitsRecord
 rule-says v form r = (
-  λ e.
-      let p = each e in
-      let q = each (p .1) in
-      let t = each (q .1) in
-      ((le-says _ _ .0 (p .0), le-says _ _ .0 (q .0)), ltb-true form (formsOf v) (t .0), t .1),
-  λ f. and (le-says _ _ .1 (f .0 .0)) (and (le-says _ _ .1 (f .0 .1)) (and (lt-ltb form (formsOf v) (f .1)) (f .2))),
+  λ e. let f = fits-says v form r .0 e in ((f .some, f .short), f .known, f .formed),
+  λ f. fits-says v form r .1 (record { some = f .0 .0; short = f .0 .1; known = f .1; formed = f .2 }),
 )
 
 -- what DF and EF share; the rule is there once

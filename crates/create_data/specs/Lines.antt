@@ -102,6 +102,11 @@ abbrev pub groups : ℕ → List ℕ → List ℕ
 groups zero rest = rest
 groups (suc n) rest = 0x01 ∷ 0x00 ∷ groups n rest
 
+-- so many SC_DOs with user authentication 1
+abbrev pub users : ℕ → List ℕ → List ℕ
+users zero rest = rest
+users (suc n) rest = 0x9E ∷ 0x01 ∷ 0x11 ∷ users n rest
+
 -- what is sent to a card of each version
 abbrev pub ruledSent : List (List ℕ)
 ruledSent =
@@ -111,6 +116,10 @@ ruledSent =
     ∷ ruledBy (object 0x8C (0x01 ∷ 0x00 ∷ []) ++ object 0xAB always) ∷ ruledBy []
     -- 8C of 16 bytes and of 17
     ∷ ruledBy (object 0x8C (groups 8 [])) ∷ ruledBy (object 0x8C (groups 7 (0x03 ∷ 0x00 ∷ 0x00 ∷ [])))
+    -- 8C of 30 bytes and of 31; AB of 30 bytes and of 31
+    ∷ ruledBy (object 0x8C (groups 15 [])) ∷ ruledBy (object 0x8C (groups 14 (0x03 ∷ 0x00 ∷ 0x00 ∷ [])))
+    ∷ ruledBy (object 0xAB (0x80 ∷ 0x01 ∷ 0x01 ∷ users 9 []))
+    ∷ ruledBy (object 0xAB (0x80 ∷ 0x01 ∷ 0x01 ∷ users 8 (0x90 ∷ 0 ∷ 0x90 ∷ 0 ∷ [])))
     ∷ []
 
 -- the rule's form and its end
@@ -118,8 +127,11 @@ abbrev pub ruledFile : ℕ → ℕ → Data
 ruledFile form end = Ef (file 0x41 0x6F07 form 0 15 end 9)
 
 pub rule-lines :
-    (answers 1 ruledSent ≡ Bad ∷ Bad ∷ Bad ∷ Bad ∷ ruledFile compact 31 ∷ Bad ∷ [])
-    × (answers 2 ruledSent ≡ ruledFile expanded 20 ∷ Bad ∷ Bad ∷ Bad ∷ ruledFile compact 31 ∷ ruledFile compact 32 ∷ [])
+    (answers 1 ruledSent ≡ Bad ∷ Bad ∷ Bad ∷ Bad ∷ ruledFile compact 31 ∷ Bad ∷ Bad ∷ Bad ∷ Bad ∷ Bad ∷ [])
+    × (answers 2 ruledSent
+    ≡ ruledFile expanded 20 ∷ Bad ∷ Bad ∷ Bad ∷ ruledFile compact 31 ∷ ruledFile compact 32 ∷ ruledFile compact 45 ∷ Bad
+    ∷ ruledFile expanded 45
+    ∷ Bad ∷ [])
 unfolding dataOf isTemplate fileOf efOf sizedEf newFile ruleGood bothGood lacks has onePrivate oneRule ruleIn formIn firstForm efForm
     pairOf recordLengthOf numberOf objectAt takenAt takenBelow objectsOf part u16At u32At classOf hasRecords lifeOf knownLife newLife
     nextOf someGroup malformedAt compactFormed longestRule formsOf wellFormed fitsRecord goodIdentifier wholeRecords goodLength either

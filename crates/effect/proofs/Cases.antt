@@ -25,7 +25,8 @@ module _ (img : List ℕ) (n : ℕ) (c : List ℕ) (v : Verdict) (applies : Appl
         → Within img (x .slot) × ((length name ≤ 16) × (length rule ≤ longestRule (versionOf img)))
     create-fits name rule f g = (
       within-sized img n (x .slot) (applies .rooted .sized) (create-sent .low),
-      (rw f (length-sent c (x .name) 16 (create-sent .name)), rw g (length-sent c (x .rule) (longestRule (versionOf img)) (create-sent .rule))),
+      (rw f (length-sent c (x .name) 16 (create-sent .name)), rw g
+      (length-sent c (x .rule) (longestRule (versionOf img)) (create-sent .rule))),
     )
 
   pub delete-fits : (s : ℕ) → v ≡ Delete s → Rooted img n × ((n ≡ countOf img) × (s < n))

@@ -1,4 +1,5 @@
 pub mod Objects
 pub mod Nested
 pub mod Rows
+pub mod Standing
 pub mod Alike

@@ -1,10 +1,11 @@
 -- Nested conditions: where no template is left, and one step down with one template less.
 use mathlib.Core.Path.{_≡_, refl, _∙_, ap}
-use mathlib.Core.Bool.{Bool, false, cond, _&&_}
-use mathlib.Core.List.{List}
+use mathlib.Core.Bool.{Bool, true, false, cond, _&&_}
+use mathlib.Core.List.{List, []}
 use Prim.Native.Nat.{ℕ, zero, suc, _-_}
 use native.Mathlib.Omega.{arith}
 use lib.Dec.{eqb}
+use borrow.Author.Tests.{ne-eqb}
 use Rattle.rules.specs.declared.Sets.{Sets}
 use Rattle.rules.specs.Condition.{holdsOf}
 use Rattle.expanded.specs.Object.{object, cut, objectsOf, every, some, several}
@@ -14,6 +15,16 @@ pub formed-cut : (left : ℕ) → formed left cut ≡ false
 unfolding formed
 formed-cut zero = refl
 formed-cut (suc left) = refl
+
+-- 90 and 97 are well formed with nothing in them, and no other
+pub formed-empty : (tag : ℕ) → (tag ≡ 0x90 → ⊥) → eqb tag 0x97 ≡ formedPlain tag []
+unfolding formedPlain
+formed-empty tag h = rw (ne-eqb tag 0x90 h) (go (eqb tag 0x97) (eqb tag 0x9E))
+  where
+    go : (a b : Bool) → a ≡ cond a true (cond b false false)
+    go true b = refl
+    go false true = refl
+    go false false = refl
 
 -- what is no template may stand at any depth
 pub formed-plain : (left tag : ℕ) (v : List ℕ) {x : Bool} → isTemplate tag ≡ false → x ≡ formedPlain tag v

@@ -44,6 +44,11 @@ abbrev pub deep : ℕ → List ℕ
 deep zero = always
 deep (suc n) = template 0xA0 (never ++ deep n)
 
+-- conditions so many times
+abbrev pub times : ℕ → List ℕ → List ℕ
+times zero conditions = []
+times (suc n) conditions = conditions ++ times n conditions
+
 -- an AM_DO and its SC_DOs
 abbrev pub group : ℕ → List ℕ → List ℕ
 group am conditions = 0x80 ∷ 0x01 ∷ am ∷ conditions
@@ -66,6 +71,11 @@ rows =
     -- 90 and 97 with a value, 9E without one, another tag
     ∷ (group 0x02 (0x90 ∷ 0x01 ∷ 0x00 ∷ []), malformed) ∷ (group 0x02 (0x97 ∷ 0x01 ∷ 0x00 ∷ []), malformed)
     ∷ (group 0x02 (0x9E ∷ 0x00 ∷ []), malformed) ∷ (group 0x02 (template 0xA4 holding), malformed)
+    -- a template with no condition, an AM_DO in one; 9E with two bytes
+    ∷ (group 0x02 (template 0xAF []), malformed) ∷ (group 0x02 (template 0xA0 (group 0x02 always)), malformed)
+    ∷ (group 0x02 (0x9E ∷ 0x02 ∷ 0x11 ∷ 0x11 ∷ []), malformed)
+    -- lengths are 00-7F: 63 conditions of two bytes are 7E, 64 are 80
+    ∷ (group 0x02 (template 0xAF (times 63 always)), granted) ∷ (group 0x02 (template 0xAF (times 64 always)), malformed)
     -- an inner length past the outer's end: at the rule's end, where the next SC_DO begins, and two bytes of which one is there
     ∷ (group 0x02 (0xA0 ∷ 0x04 ∷ 0x90 ∷ 0x00 ∷ 0x9E ∷ 0x01 ∷ 0x11 ∷ []), malformed)
     ∷ (group 0x02 (0xA0 ∷ 0x04 ∷ 0x90 ∷ 0x00 ∷ 0x9E ∷ 0x01 ∷ always), malformed)
@@ -75,6 +85,9 @@ rows =
     -- an AM_DO with b8, without an SC_DO, before another, behind its SC_DO
     ∷ (group 0x82 always, malformed) ∷ (group 0x02 [], malformed) ∷ (group 0x02 (group 0x02 always), malformed)
     ∷ (always ++ group 0x02 [], malformed)
+    -- of no byte, of two; an AM byte 00 asks for an SC_DO too, and opens nothing
+    ∷ (0x80 ∷ 0x00 ∷ always, malformed) ∷ (0x80 ∷ 0x02 ∷ 0x02 ∷ 0x02 ∷ always, malformed)
+    ∷ (group 0x00 always, denied) ∷ (group 0x00 [], malformed)
     -- no byte
     ∷ ([], malformed)
     ∷ []

@@ -1,7 +1,11 @@
 // Conditions of an expanded rule: SC_DOs, which nest (02 Ticket 3). A function here takes the tag of an object and its value;
 // `left` is how many templates may still stand inside one another, and falls.
 ghost use mathlib.Core.Path.{_≡_};
-ghost use Rattle.expanded.specs.Object.{object, objectsOf, every, some};
+ghost use mathlib.Core.Bool.{true};
+ghost use Prim.Native.Nat.{_<_, _+_};
+ghost use lib.ListN.{length};
+ghost use mathlib.Core.List.{[]};
+ghost use Rattle.expanded.specs.Object.{object, objectsOf, every, some, Stands};
 ghost use Rattle.expanded.specs.Condition.{formedPlain, isTemplate, formed, scOf, holdsPlain, holds};
 use crate::object;
 use rules::Sets;
@@ -32,6 +36,38 @@ pub fn is_formed_plain(tag: u8, value: &[u8]) -> bool
     false
 }
 
+// Whether a tag is that of always or of never, which hold nothing.
+fn is_constant(tag: u8) -> bool
+    ensures { λ r. ⌜ r ≡ formedPlain tag [] ⌝ }
+{
+    if tag == ALWAYS {
+        return true;
+    }
+    tag == NEVER
+}
+
+// Whether a 9E with its SC byte stands at `at`.
+pub fn is_byte_at(s: &[u8], at: usize) -> bool
+    requires { ⌜ at < length (now s) ⌝ }
+    ensures { λ r. ⌜ (r ≡ true → Stands (formed 0) (now (s .entry)) at (at + 3)) ⌝ }
+{
+    if s[at] != BYTE {
+        return false;
+    }
+    object::has(s, at, 1)
+}
+
+// Whether a 90 or a 97, with nothing in it, stands at `at`.
+pub fn is_constant_at(s: &[u8], at: usize) -> bool
+    requires { ⌜ at < length (now s) ⌝ }
+    ensures { λ r. ⌜ (r ≡ true → Stands (formed 0) (now (s .entry)) at (at + 2)) ⌝ }
+{
+    if !is_constant(s[at]) {
+        return false;
+    }
+    object::has(s, at, 0)
+}
+
 // Whether conditions stand in the value.
 pub fn is_template(tag: u8) -> bool
     ensures { λ r. ⌜ r ≡ isTemplate tag ⌝ }
@@ -58,12 +94,21 @@ pub fn is_formed(tag: u8, value: &[u8], left: usize) -> bool
     are_formed(value, left - 1)
 }
 
-// Whether each object of a row is such a condition.
+// Whether each object of a row is such a condition. What is no template is passed by a constant, so that the next object does not
+// wait for the length of this one; all else, and what is malformed, goes the general way.
 fn are_formed(s: &[u8], left: usize) -> bool
     ensures { λ r. ⌜ r ≡ every (formed left) (objectsOf (now (s .entry))) ⌝ }
 {
     let mut at: usize = 0;
     while at < s.len() {
+        if is_byte_at(s, at) {
+            at = at + 3;
+            continue;
+        }
+        if is_constant_at(s, at) {
+            at = at + 2;
+            continue;
+        }
         let to = object::end(s, at);
         if to - at < 2 {
             return false;

@@ -1,7 +1,8 @@
 // Data objects in a row: a tag byte, a length byte 00-7F, and as many bytes. Whoever goes down into an object hands its value on
 // as a row of its own, so that no inner length reaches past the outer's end.
 ghost use mathlib.Core.Path.{_≡_};
-ghost use Prim.Native.Nat.{_<_};
+ghost use mathlib.Core.Bool.{true};
+ghost use Prim.Native.Nat.{_<_, _+_};
 ghost use lib.ListN.{length};
 ghost use Rattle.expanded.specs.Object.{Ends, objectsOf, several};
 
@@ -29,6 +30,18 @@ pub fn end(s: &[u8], at: usize) -> usize
         return at;
     }
     from + n
+}
+
+// Whether the object at `at` is whole and has just n bytes. With a constant for n, whoever goes on behind it does so without
+// waiting for the length byte: that is only compared.
+pub fn has(s: &[u8], at: usize, n: usize) -> bool
+    requires { ⌜ (at < length (now s)) × (n < 128) ⌝ }
+    ensures { λ r. ⌜ (r ≡ true → Ends (now (s .entry)) at (at + 2 + n)) ⌝ }
+{
+    if s.len() - at < 2 + n {
+        return false;
+    }
+    wide(s[at + 1]) == n
 }
 
 // Whether there are at least two.

@@ -1,8 +1,10 @@
 // Groups of a rule: which are well formed, and what they decide together (02 Ticket 3; house: of several SC_DOs in a row, one
 // suffices).
 ghost use mathlib.Core.Path.{_≡_};
-ghost use Prim.Native.Nat.{_<_};
-ghost use Rattle.expanded.specs.Object.{object, objectsOf};
+ghost use mathlib.Core.Bool.{true, false};
+ghost use Prim.Native.Nat.{_<_, _+_};
+ghost use lib.ListN.{length};
+ghost use Rattle.expanded.specs.Object.{object, objectsOf, Stands};
 ghost use Rattle.expanded.specs.Expanded.{isAm, amAfter, inPlace, expandedFormed, bitOf, opens, opensOne, expandedGrants};
 use crate::condition;
 use crate::object;
@@ -39,7 +41,25 @@ fn is_in_place(tag: u8, value: &[u8], due: bool) -> bool
     condition::is_formed(tag, value, DEEP)
 }
 
-// Whether a rule is groups of an AM_DO and one or more SC_DOs, and nothing else.
+// Whether a group begins at `at`: an AM_DO, where no SC_DO is due.
+fn begins_at(rule: &[u8], at: usize, due: bool) -> bool
+    requires { ⌜ at < length (now rule) ⌝ }
+    ensures { λ r. ⌜ (r ≡ true → (due ≡ false) × Stands isAm (now (rule .entry)) at (at + 3)) ⌝ }
+{
+    if rule[at] != 0x80 {
+        return false;
+    }
+    if due {
+        return false;
+    }
+    if !object::has(rule, at, 1) {
+        return false;
+    }
+    rule[at + 2] < 128
+}
+
+// Whether a rule is groups of an AM_DO and one or more SC_DOs, and nothing else. What is no template is passed by a constant, so
+// that the next object does not wait for the length of this one; all else, and what is malformed, goes the general way.
 pub fn well_formed(rule: &[u8]) -> bool
     ensures { λ r. ⌜ r ≡ expandedFormed (now (rule .entry)) ⌝ }
 {
@@ -52,6 +72,21 @@ pub fn well_formed(rule: &[u8]) -> bool
     let mut due = false;
     let mut at: usize = 0;
     while at < rule.len() {
+        if begins_at(rule, at, due) {
+            due = true;
+            at = at + 3;
+            continue;
+        }
+        if condition::is_byte_at(rule, at) {
+            due = false;
+            at = at + 3;
+            continue;
+        }
+        if condition::is_constant_at(rule, at) {
+            due = false;
+            at = at + 2;
+            continue;
+        }
         let to = object::end(rule, at);
         if to - at < 2 {
             return false;

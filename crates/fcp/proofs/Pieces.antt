@@ -12,7 +12,8 @@ use Rattle.image.specs.Layout.{descriptorOf, lifeCycleOf, identifierOf, recordL
 use Rattle.text.specs.Written.{WroteAt}
 use Rattle.text.proofs.Written.{nothing-written, same-text, written-on}
 use Rattle.create_data.specs.Grammar.{object, optional}
-use Rattle.fcp.specs.Template.{recordBytesOf, named, ruleTag, sizeTag, descriptorObject, identifierObject, nameObject, lifeObject, ruleObject}
+use Rattle.fcp.specs.Template.{recordBytesOf, named, ruleTag, sizeTag, descriptorObject, identifierObject, nameObject, lifeObject}
+use Rattle.fcp.specs.Template.{ruleObject}
 use Rattle.fcp.specs.Template.{sizeObject}
 
 -- a tag and a length, then the value
@@ -44,7 +45,8 @@ module _ {at to : ℕ} {o y : List ℕ} (r : List ℕ) where
   pub life-told : {n : ℕ} → n ≡ lifeCycleOf r → WroteAt at to o y (object 0x8A (n ∷ [])) → WroteAt at to o y (lifeObject r)
   life-told e w = same-text _ _ w (ap (λ (n : ℕ). object 0x8A (n ∷ [])) e)
 
-  pub rule-told : {tag : ℕ} {v : List ℕ} → tag ≡ ruleTag r → v ≡ ruleOf r → WroteAt at to o y (object tag v) → WroteAt at to o y (ruleObject r)
+  pub rule-told : {tag : ℕ} {v : List ℕ} → tag ≡ ruleTag r → v ≡ ruleOf r → WroteAt at to o y (object tag v)
+      → WroteAt at to o y (ruleObject r)
   rule-told {tag} {v} t e w = same-text _ _ w (ap (λ (x : ℕ). object x v) t ∙ ap (λ (x : List ℕ). object (ruleTag r) x) e)
 
   pub size-told : {tag n : ℕ} → tag ≡ sizeTag r → n ≡ sizeOf r → WroteAt at to o y (object tag (be16 n)) → WroteAt at to o y (sizeObject r)

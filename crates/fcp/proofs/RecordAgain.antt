@@ -12,7 +12,8 @@ use Rattle.laws.specs.Lists.{Bytes, part, splice}
 use Rattle.laws.proofs.Branches.{same-cons}
 use Rattle.laws.proofs.Splices.{length-part, getD-part}
 use Rattle.numbers.specs.Numbers.{u16At, u32At, be16}
-use Rattle.image.specs.Layout.{longestRule, kindOf, descriptorOf, lifeCycleOf, formOf, identifierOf, recordLengthOf, sizeOf, fieldAt, nameOf, ruleOf}
+use Rattle.image.specs.Layout.{longestRule, kindOf, descriptorOf, lifeCycleOf, formOf, identifierOf, recordLengthOf, sizeOf, fieldAt}
+use Rattle.image.specs.Layout.{nameOf, ruleOf}
 use Rattle.image.specs.Layout.{field, headBytes, recordBytes}
 use Rattle.image.proofs.Versions.{longest-within}
 use Rattle.sound.specs.Own.{Padded, Used}

@@ -8,7 +8,7 @@ use lib.ListN.{drop}
 use Rattle.numbers.specs.Numbers.{be16}
 use Rattle.rules.specs.Descriptor.{df, hasRecords}
 use Rattle.image.specs.Layout.{kindOf, descriptorOf, lifeCycleOf, formOf, identifierOf, recordLengthOf, sizeOf, nameOf, ruleOf}
-use Rattle.access.specs.Access.{compact}
+use Rattle.access.specs.Access.{tagOf}
 use Rattle.create_data.specs.Grammar.{object, template, Optional, absent, sent, optional}
 
 -- the record length, where the structure has records
@@ -22,7 +22,7 @@ named (x ∷ v) = sent (x ∷ v)
 
 -- 8C for a compact rule, AB for an expanded one (02 Ticket 3)
 unfoldable pub ruleTag : List ℕ → ℕ
-ruleTag r = cond (eqb (formOf r) compact) 0x8C 0xAB
+ruleTag r = tagOf (formOf r)
 
 -- 81 for a DF, 80 for an EF
 unfoldable pub sizeTag : List ℕ → ℕ

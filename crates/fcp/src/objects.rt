@@ -5,7 +5,8 @@ ghost use lib.ListN.{length};
 ghost use Rattle.image.specs.Layout.{recAt};
 ghost use Rattle.text.specs.Written.{WroteAt};
 ghost use Rattle.create_data.specs.Grammar.{object};
-ghost use Rattle.fcp.specs.Template.{descriptorObject, identifierObject, nameObject, lifeObject, ruleObject, ruleTag, sizeObject, sizeTag};
+ghost use Rattle.fcp.specs.Template.{descriptorObject, identifierObject, nameObject, lifeObject, ruleObject};
+ghost use Rattle.fcp.specs.Template.{ruleTag, sizeObject, sizeTag};
 ghost use Rattle.fcp.specs.Writing.{Tellable};
 use image::fields;
 use rules::descriptor;
@@ -66,10 +67,7 @@ fn rule_tag(image: &[u8], s: usize) -> u8
     requires { ⌜ Tellable (now image) s ⌝ }
     ensures { λ r. ⌜ r ≡ ruleTag (recAt (now (image .entry)) s) ⌝ }
 {
-    if fields::form(image, s) == access::COMPACT {
-        return 0x8C;
-    }
-    0xAB
+    access::tag_of(fields::form(image, s))
 }
 
 // 8C or AB: the rule.

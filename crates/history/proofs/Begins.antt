@@ -10,7 +10,7 @@ use Rattle.laws.proofs.Says.{untrue}
 use Rattle.image.specs.Layout.{currentDfOf}
 use Rattle.card.specs.Demands.{Call, imageAfter}
 use Rattle.history.specs.Ledger.{Entry, Ledger, Announced, makes, deletes, neither, someOf, isOwn, keep, livesIn, entered}
-use Rattle.history.specs.Story.{Story, heard, next}
+use Rattle.history.specs.Story.{Story, hears, next}
 use Rattle.history.specs.Demand3.{here, Lives, Makes}
 
 some-keep : (p q : Entry → Bool) (l : List Entry) → someOf p l ≡ false → someOf p (keep q l) ≡ false
@@ -57,5 +57,5 @@ module _ (l : Ledger) (d : ℕ) (dead : livesIn l d ≡ true → ⊥) where
 pub begins-by : (st : Story) (x : Call) (d : ℕ) → (Lives st d → ⊥) → Lives (next st x) d → Makes st x d
 unfolding next
 begins-by st x d dead lives =
-    let r = new-by (st .ledger) d dead (heard (st .image) x) (here st) (currentDfOf (imageAfter (st .image) x)) lives in
+    let r = new-by (st .ledger) d dead (hears st x) (here st) (currentDfOf (imageAfter (st .image) x)) lives in
     record { identifier = r .identifier; total = r .total; makes = r .makes; slot = r .slot }

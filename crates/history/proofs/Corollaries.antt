@@ -10,7 +10,7 @@ use Rattle.sound.specs.Kinship.{totalFor, roomFor}
 use Rattle.sound.proofs.FullTable.{slot-exists}
 use Rattle.card.specs.Demands.{Call}
 use Rattle.history.specs.Ledger.{Entry, makes, deletes, firstEntry, isNamed, fileIn, entered, strikes}
-use Rattle.history.specs.Story.{Story, heard, next, played, sizeSent}
+use Rattle.history.specs.Story.{Story, hears, next, played, sizeSent}
 use Rattle.history.specs.Demand3.{here, room, Lives, Strikes, AllElsewhere, NothingElsewhere, FullTableNever, ParentPaysAlone}
 use Rattle.history.specs.Demand3.{GivesBack, ChargedAnew}
 use Rattle.history.proofs.Directories.{Dir, room-same}
@@ -35,7 +35,7 @@ full-table-never st h x r fits =
     let k = history-kept st h in
     let m = kept-demand st k in
     let q = current-dir st k in (
-      slot-exists (st .image) (here st) (sizeSent (st .image) x) (k .sound) (q .low) (q .dir) (rw (room-is st k (here st) q) at fits),
+      slot-exists (st .image) (here st) (sizeSent (st .version) x) (k .sound) (q .low) (q .dir) (rw (room-is st k (here st) q) at fits),
       m .takes x
           r .1 fits,
     )
@@ -56,7 +56,7 @@ module _ (st : Story) (k : Kept st) (x : Call) where
         omega (arith, b, k .sound .kin .charges (here st) (q .low) (q .dir)),
       )
 
-  made-pays : (i size : ℕ) (isDf : Bool) → heard (st .image) x ≡ makes i size isDf
+  made-pays : (i size : ℕ) (isDf : Bool) → hears st x ≡ makes i size isDf
       → room (next st x) (here st) + (size + 64) ≡ room st (here st)
   made-pays i size isDf e =
       let c = rw e at (did st k x) in
@@ -64,11 +64,11 @@ module _ (st : Story) (k : Kept st) (x : Call) where
       omega (arith, r .0, r .1, made-here _ _ _ (k .sound .kin) i size isDf _ _ c)
 
   -- no CREATE strikes a directory
-  made-strikes : (i size : ℕ) (isDf : Bool) → heard (st .image) x ≡ makes i size isDf → (d : ℕ) → Strikes st x d → ⊥
+  made-strikes : (i size : ℕ) (isDf : Bool) → hears st x ≡ makes i size isDf → (d : ℕ) → Strikes st x d → ⊥
   unfolding strikes
   made-strikes i size isDf e d s = false≢true (rw e at s)
 
-  gives-back-kept : (i : ℕ) → heard (st .image) x ≡ deletes i
+  gives-back-kept : (i : ℕ) → hears st x ≡ deletes i
       → room (next st x) (here st) ≡ room st (here st) + (fileIn (st .ledger) (here st) i .size + 64)
   gives-back-kept i e =
       let c = rw e at (did st k x) in
@@ -81,12 +81,12 @@ module _ (st : Story) (k : Kept st) (x : Call) where
       (c .slot) (c .low) (c .file))) in
       omega (arith, r .0, r .1, g .1, f)
 
-  deleted-stays : (i : ℕ) → heard (st .image) x ≡ deletes i → here (next st x) ≡ here st
+  deleted-stays : (i : ℕ) → hears st x ≡ deletes i → here (next st x) ≡ here st
   unfolding next
   deleted-stays i e = (rw e at (did st k x)) .current
 
 -- a file just made is the ledger's first of its name
-newest : (st : Story) (x : Call) (i size : ℕ) (isDf : Bool) → heard (st .image) x ≡ makes i size isDf
+newest : (st : Story) (x : Call) (i size : ℕ) (isDf : Bool) → hears st x ≡ makes i size isDf
     → fileIn (next st x .ledger) (here st) i .size ≡ size
 unfolding next entered fileIn firstEntry isNamed
 newest st x i size isDf e = rw (e, eq-eqb (here st) (here st) refl, eq-eqb i i refl)

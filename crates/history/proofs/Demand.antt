@@ -10,7 +10,8 @@ use lib.Dec.{leb}
 use borrow.Author.Tests.{leb-true, leb-false, le-leb, lt-leb}
 use Rattle.laws.proofs.Sums.{sum-none}
 use Rattle.laws.proofs.Says.{same-or, untrue}
-use Rattle.image.specs.Layout.{countOf, currentDfOf}
+use Rattle.image.specs.Layout.{versionOf, countOf, currentDfOf}
+use Rattle.card.proofs.Versions.{version-stays}
 use Rattle.maker.specs.declared.Edition.{Edition}
 use Rattle.sound.specs.Table.{View, viewAt}
 use Rattle.sound.specs.Sound.{Sound}
@@ -18,13 +19,13 @@ use Rattle.sound.specs.Kin.{Kin}
 use Rattle.sound.specs.Kinship.{totalFor, roomFor, fitsRoom}
 use Rattle.maker.specs.declared.Made.the-variants.{Done}
 use Rattle.maker.specs.Making.{madeOf, leftBy}
-use Rattle.maker.proofs.Buffers.{sound-made, alone-made}
+use Rattle.maker.proofs.Buffers.{sound-made, version-made, alone-made}
 use Rattle.verdict.specs.Words.{done, notEnoughMemory}
 use Rattle.card.specs.Demands.{Call, imageAfter}
 use Rattle.card.proofs.Answered.{stays-sound}
 use Rattle.card.proofs.Demands.{effect-and-no-other}
 use Rattle.history.specs.Ledger.{makes, sumOver, opened}
-use Rattle.history.specs.Story.{Story, begun, heard, next, played, Ready, wordFor, sizeSent}
+use Rattle.history.specs.Story.{Story, begun, hears, next, played, Ready, wordFor, sizeSent}
 use Rattle.history.specs.Demand3.{here, room, Lives, Strikes, Makes, Demand3, History, Demand3Holds}
 use Rattle.history.proofs.Agree.{Agrees, worth, sumFiles, worth-free, worth-root}
 use Rattle.history.proofs.Directories.{Dir, dir-lives, lives-dir, charged-same, total-same, room-same}
@@ -48,16 +49,18 @@ tableAfter st x = viewAt (imageAfter (st .image) x)
 pub record Kept (st : Story) : Type 0 where
   pub sound : Sound (st .image)
   pub agrees : Agrees (st .ledger) (slots st) (table st)
+  pub version : versionOf (st .image) ≡ st .version
 
 -- on a fresh card there is no file but the root
 kept-fresh : (img : List ℕ) (e : Edition) (total form : ℕ) (rule : List ℕ) → madeOf img e total form rule ≡ Done
-    → Kept (begun (leftBy Done img e total form rule) total)
+    → Kept (begun (e .version) (leftBy Done img e total form rule) total)
 unfolding opened sumOver sumFiles
 kept-fresh img e total form rule made =
     let v = viewAt (leftBy Done img e total form rule) in
     let a = alone-made img e total form rule made in
     record {
       sound = sound-made img e total form rule made;
+      version = version-made img e total form rule made;
       agrees = record {
         total = sym (a .root);
         each = λ f. sym (sum-none _ (λ s. worth f s (v s)) (λ s l. ⊎-elim
@@ -75,15 +78,15 @@ module _ (st : Story) (k : Kept st) (x : Call) where
   count-stays : countOf (imageAfter (st .image) x) ≡ slots st
   count-stays = effect-and-no-other (st .image) (x .command) (x .state) (x .lent) (k .sound) .count
 
-  pub did : Did (slots st) (table st) (tableAfter st x) (heard (st .image) x) (currentDfOf (st .image))
+  pub did : Did (slots st) (table st) (tableAfter st x) (hears st x) (currentDfOf (st .image))
       (currentDfOf (imageAfter (st .image) x))
-  did = call-did (st .image) x (k .sound)
+  did = rw (← k .version) (call-did (st .image) x (k .sound))
 
   -- the ledger afterwards, beside the records in as many slots as before
   pub agrees-after : Agrees (next st x .ledger) (slots st) (tableAfter st x)
   unfolding next
   agrees-after = agree-step (st .ledger) (slots st) (table st) (tableAfter st x) (k .agrees) (k .sound .kin) some
-      (heard (st .image) x) (currentDfOf (st .image)) (currentDfOf (imageAfter (st .image) x)) did
+      (hears st x) (currentDfOf (st .image)) (currentDfOf (imageAfter (st .image) x)) did
 
   sound-after : Sound (imageAfter (st .image) x)
   sound-after = stays-sound (st .image) (x .command) (x .state) (x .lent) (k .sound)
@@ -93,7 +96,11 @@ module _ (st : Story) (k : Kept st) (x : Call) where
 
   pub kept-next : Kept (next st x)
   unfolding next
-  kept-next = record { sound = sound-after; agrees = rw count-stays agrees-after }
+  kept-next = record {
+    sound = sound-after;
+    agrees = rw count-stays agrees-after;
+    version = version-stays (st .image) (x .command) (x .state) (x .lent) ∙ k .version;
+  }
 
 pub kept-played : (calls : List Call) (st : Story) → Kept st → Kept (played st calls)
 kept-played [] st k = k
@@ -101,7 +108,8 @@ kept-played (x ∷ rest) st k = kept-played rest (next st x) (kept-next st k x)
 
 pub history-kept : (st : Story) → History st → Kept st
 history-kept st h =
-    subst (λ (s : Story). Kept s) (h .story) (kept-played (h .calls) _ (kept-fresh (h .buffer) (h .edition) (h .total) (h .form) (h .rule) (h .made)))
+    subst (λ (s : Story). Kept s) (h .story)
+    (kept-played (h .calls) _ (kept-fresh (h .buffer) (h .edition) (h .total) (h .form) (h .rule) (h .made)))
 
 -- 6A84 exactly where size plus 64 exceeds the room, else 9000
 module _ (need left : ℕ) where
@@ -129,17 +137,17 @@ module _ (st : Story) (k : Kept st) where
   pub room-is : (d : ℕ) → Dir (slots st) (table st) d → room st d ≡ roomFor (slots st) (table st) d
   room-is d g = room-same (st .ledger) (slots st) (table st) (k .agrees) d g
 
-  word-says :
-      (x : Call) → Ready (st .image) x → wordFor (st .image) x ≡ cond (leb (sizeSent (st .image) x + 64) (room st (here st))) done notEnoughMemory
+  word-says : (x : Call) → Ready (st .image) x
+      → wordFor (st .image) x ≡ cond (leb (sizeSent (st .version) x + 64) (room st (here st))) done notEnoughMemory
   unfolding fitsRoom
-  word-says x r = memory-decides (st .image) x (k .sound) r ∙ rw (room-is (here st) current-dir)
+  word-says x r = rw (← k .version) (memory-decides (st .image) x (k .sound) r ∙ rw (room-is (here st) current-dir))
 
   -- a directory that lives, and a call that spares it
   module _ (x : Call) (d : ℕ) (lives : Lives st d) where
     stays : (Strikes st x d → ⊥) → Spared (slots st) (table st) (tableAfter st x) (here st) d
     stays z =
         spared (st .ledger) (slots st) (table st) _ (k .agrees) (k .sound .kin) (omega (arith, k .sound .header .least)) d (dir d lives)
-        (heard (st .image) x) (here st) (currentDfOf (imageAfter (st .image) x)) (did st k x) (untrue _ z)
+        (hears st x) (here st) (currentDfOf (imageAfter (st .image) x)) (did st k x) (untrue _ z)
 
     goes-on : (Strikes st x d → ⊥) → Lives (next st x) d
     goes-on z = dir-lives (next st x .ledger) (slots st) _ (agrees-after st k x) d (stays z .dir)
@@ -152,7 +160,7 @@ module _ (st : Story) (k : Kept st) where
     ends : Strikes st x d → Lives (next st x) d → ⊥
     ends s l =
         struck (st .ledger) (slots st) (table st) _ (k .agrees) (k .sound .kin) (omega (arith, k .sound .header .least)) d (dir d lives)
-        (heard (st .image) x) (here st) (currentDfOf (imageAfter (st .image) x)) (did st k x) s
+        (hears st x) (here st) (currentDfOf (imageAfter (st .image) x)) (did st k x) s
         (lives-dir (next st x .ledger) (slots st) _ (agrees-after st k x) (kin-after st k x) (omega (arith, k .sound .header .least)) d l)
 
   -- a new directory stands where none lived, and its room is its total
@@ -184,8 +192,8 @@ module _ (st : Story) (k : Kept st) where
       k .sound .kin .charges d (dir d l .low) (dir d l .dir),
     );
     current = dir-lives (st .ledger) (slots st) (table st) (k .agrees) (here st) current-dir;
-    full = λ x r. rw (word-says x r) (refuses (sizeSent (st .image) x + 64) (room st (here st)));
-    takes = λ x r. rw (word-says x r) (accepts (sizeSent (st .image) x + 64) (room st (here st)));
+    full = λ x r. rw (word-says x r) (refuses (sizeSent (st .version) x + 64) (room st (here st)));
+    takes = λ x r. rw (word-says x r) (accepts (sizeSent (st .version) x + 64) (room st (here st)));
     begins = λ x d dead lives. begins-by st x d dead lives;
     newborn = newborn;
     ends = λ x d l. ends x d l;

@@ -108,7 +108,8 @@ module _ (img c : List ℕ) (sound : Sound img) (w : ℕ → View) where
 
 -- the table after a call, by what the ledger heard
 pub call-did : (img : List ℕ) (x : Call) → Sound img
-    → Did (countOf img) (viewAt img) (viewAt (imageAfter img x)) (heard img x) (currentDfOf img) (currentDfOf (imageAfter img x))
+    → Did (countOf img) (viewAt img) (viewAt (imageAfter img x)) (heard (versionOf img) img x) (currentDfOf img)
+    (currentDfOf (imageAfter img x))
 unfolding heard said
 call-did img x sound =
     let c = x .command in

@@ -147,7 +147,7 @@ create-word img x sound e =
     ∙ ap wordOf (due-silent img (x .command) (x .state) (x .lent) (λ q p. omega (arith, e, q)))
 
 pub memory-decides : (img : List ℕ) (x : Call) → Sound img → Ready img x
-    → wordFor img x ≡ cond (fitsRoom (countOf img) (viewAt img) (currentDfOf img) (sizeSent img x)) done notEnoughMemory
+    → wordFor img x ≡ cond (fitsRoom (countOf img) (viewAt img) (currentDfOf img) (sizeSent (versionOf img) x)) done notEnoughMemory
 unfolding memory new
 memory-decides img x sound r =
     create-word img x sound (r .create) ∙ decides img (x .command) (x .state) (r .create) sound (r .earlier) _ refl
@@ -156,7 +156,7 @@ memory-decides img x sound r =
 pub ready-exactly : ReadyExactly
 unfolding another
 ready-exactly img x sound e =
-    (λ r. or-of (fitsRoom (countOf img) (viewAt img) (currentDfOf img) (sizeSent img x)) (memory-decides img x sound r), back)
+    (λ r. or-of (fitsRoom (countOf img) (viewAt img) (currentDfOf img) (sizeSent (versionOf img) x)) (memory-decides img x sound r), back)
   where
     or-of : (b : Bool) → wordFor img x ≡ cond b done notEnoughMemory → (wordFor img x ≡ done) ⊎ (wordFor img x ≡ notEnoughMemory)
     or-of true q = inl q

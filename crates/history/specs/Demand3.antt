@@ -16,7 +16,7 @@ use Rattle.maker.specs.Making.{madeOf, leftBy}
 use Rattle.verdict.specs.Words.{done, notEnoughMemory}
 use Rattle.card.specs.Demands.{Call}
 use Rattle.history.specs.Ledger.{makes, deletes, livesIn, totalIn, chargedIn, roomIn, fileIn, strikes}
-use Rattle.history.specs.Story.{Story, begun, wordFor, heard, next, played, Ready, sizeSent}
+use Rattle.history.specs.Story.{Story, begun, wordFor, hears, next, played, Ready, sizeSent}
 
 -- the directory whose slot is current
 abbrev pub here : Story → ℕ
@@ -31,13 +31,13 @@ Lives st d = livesIn (st .ledger) d ≡ true
 
 -- a call deletes directory d, or one above it
 abbrev pub Strikes : Story → Call → ℕ → Type 0
-Strikes st x d = strikes (st .ledger) (heard (st .image) x) (here st) d ≡ true
+Strikes st x d = strikes (st .ledger) (hears st x) (here st) d ≡ true
 
 -- a call made directory d: a CREATE of a DF, answered 9000, whose slot is then current
 pub record Makes (st : Story) (x : Call) (d : ℕ) : Type 0 where
   pub identifier : ℕ
   pub total : ℕ
-  pub makes : heard (st .image) x ≡ makes identifier total true
+  pub makes : hears st x ≡ makes identifier total true
   pub slot : here (next st x) ≡ d
 
 pub record Demand3 (st : Story) : Type 0 where
@@ -49,8 +49,9 @@ pub record Demand3 (st : Story) : Type 0 where
   -- the current one lives; where every earlier check passes, CREATE FILE says 6A84 exactly if size plus 64 exceeds its
   -- room, and 9000 otherwise
   pub current : Lives st (here st)
-  pub full : (x : Call) → Ready (st .image) x → (wordFor (st .image) x ≡ notEnoughMemory) ↔ (room st (here st) < sizeSent (st .image) x + 64)
-  pub takes : (x : Call) → Ready (st .image) x → (wordFor (st .image) x ≡ done) ↔ (sizeSent (st .image) x + 64 ≤ room st (here st))
+  pub full : (x : Call) → Ready (st .image) x → (wordFor (st .image) x ≡ notEnoughMemory)
+      ↔ (room st (here st) < sizeSent (st .version) x + 64)
+  pub takes : (x : Call) → Ready (st .image) x → (wordFor (st .image) x ≡ done) ↔ (sizeSent (st .version) x + 64 ≤ room st (here st))
   -- from its creation, in a slot where none lived, with its announced total for its room
   pub begins : (x : Call) (d : ℕ) → (Lives st d → ⊥) → Lives (next st x) d → Makes st x d
   pub newborn : (x : Call) (d : ℕ) (m : Makes st x d) → (Lives st d → ⊥) × (Lives (next st x) d × (room (next st x) d ≡ m .total))
@@ -69,7 +70,7 @@ pub record History (st : Story) : Type 0 where
   pub rule : List ℕ
   pub calls : List Call
   pub made : madeOf buffer edition total form rule ≡ Done
-  pub story : played (begun (leftBy Done buffer edition total form rule) total) calls ≡ st
+  pub story : played (begun (edition .version) (leftBy Done buffer edition total form rule) total) calls ≡ st
 
 abbrev pub Demand3Holds : Type 0
 Demand3Holds = (st : Story) → History st → Demand3 st
@@ -85,24 +86,24 @@ NothingElsewhere = (st : Story) → History st → (d : ℕ) → Lives st d → 
 
 -- a full file table never refuses a CREATE that has room: a free record is there, and the word is 9000
 abbrev pub FullTableNever : Type 0
-FullTableNever = (st : Story) → History st → (x : Call) → Ready (st .image) x → sizeSent (st .image) x + 64 ≤ room st (here st)
+FullTableNever = (st : Story) → History st → (x : Call) → Ready (st .image) x → sizeSent (st .version) x + 64 ≤ room st (here st)
     → (freeSlot (countOf (st .image)) (viewAt (st .image)) ≡ Nothing → ⊥) × (wordFor (st .image) x ≡ done)
 
 -- a file is charged to its direct parent alone: size plus 64, and no other directory that lives pays anything
 abbrev pub ParentPaysAlone : Type 0
-ParentPaysAlone = (st : Story) → History st → (x : Call) (i size : ℕ) (isDf : Bool) → heard (st .image) x ≡ makes i size isDf
+ParentPaysAlone = (st : Story) → History st → (x : Call) (i size : ℕ) (isDf : Bool) → hears st x ≡ makes i size isDf
     → (room (next st x) (here st) + (size + 64) ≡ room st (here st))
     × ((d : ℕ) → Lives st d → (d ≡ here st → ⊥) → room (next st x) d ≡ room st d)
 
 -- a deleted file gives back exactly what it took, however much lay beneath it
 abbrev pub GivesBack : Type 0
-GivesBack = (st : Story) → History st → (x : Call) (i : ℕ) → heard (st .image) x ≡ deletes i
+GivesBack = (st : Story) → History st → (x : Call) (i : ℕ) → hears st x ≡ deletes i
     → room (next st x) (here st) ≡ room st (here st) + (fileIn (st .ledger) (here st) i .size + 64)
 
 -- a deleted identifier that comes back at once is charged anew, by what is announced then; one that comes back later is
 -- charged as any new file is (`ParentPaysAlone`)
 abbrev pub ChargedAnew : Type 0
-ChargedAnew = (st : Story) → History st → (x y : Call) (i size : ℕ) (isDf : Bool) → heard (st .image) x ≡ deletes i
-    → heard (next st x .image) y ≡ makes i size isDf
+ChargedAnew = (st : Story) → History st → (x y : Call) (i size : ℕ) (isDf : Bool) → hears st x ≡ deletes i
+    → hears (next st x) y ≡ makes i size isDf
     → (room (next (next st x) y) (here st) + (size + 64) ≡ room st (here st) + (fileIn (st .ledger) (here st) i .size + 64))
     × (fileIn (next (next st x) y .ledger) (here st) i .size ≡ size)

@@ -6,7 +6,7 @@ use mathlib.Core.List.{List, [], _∷_}
 use mathlib.Core.Logic.{_↔_, _⊎_}
 use Prim.Native.Nat.{ℕ}
 use lib.Dec.{eqb}
-use Rattle.image.specs.Layout.{versionOf, currentDfOf}
+use Rattle.image.specs.Layout.{currentDfOf}
 use Rattle.sound.specs.Sound.{Sound}
 use Rattle.create_data.specs.declared.Data.{Data}
 use Rattle.create_data.specs.declared.Data.the-variants.{Df, Ef, Bad}
@@ -21,7 +21,7 @@ use Rattle.card.specs.Steps.{stepsOf}
 use Rattle.card.specs.Demands.{Call, imageAfter}
 use Rattle.history.specs.Ledger.{Ledger, Announced, makes, deletes, neither, entered, opened}
 
--- what CREATE's data announce, and what a command does, to a card of a version
+-- what CREATE's data announce, and what a command does, to a card of the version that the maker was told
 abbrev pub newEntry : Data → Announced
 newEntry Bad = neither
 newEntry (Df x) = makes (x .identifier) (x .size) true
@@ -37,24 +37,29 @@ announced v c =
 abbrev pub wordFor : List ℕ → Call → ℕ
 wordFor img x = answerWord (replyOf img (x .command) (x .state) (x .lent))
 
--- the card, and the ledger beside it
+-- the version that the maker was told, the card, and the ledger beside it
 pub record Story : Type 0 where
+  pub version : ℕ
   pub image : List ℕ
   pub ledger : Ledger
 
--- it begins with what the maker left, and the total that it was given
-abbrev pub begun : List ℕ → ℕ → Story
-begun img total = record { image = img; ledger = opened total }
+-- it begins with what the maker left, and the version and the total that it was given
+abbrev pub begun : ℕ → List ℕ → ℕ → Story
+begun v img total = record { version = v; image = img; ledger = opened total }
 
 -- what the ledger hears of a call: what it announced, if it was answered 9000
-unfoldable pub heard : List ℕ → Call → Announced
-heard img x = cond (eqb (wordFor img x) done) (announced (versionOf img) (x .command)) neither
+unfoldable pub heard : ℕ → List ℕ → Call → Announced
+heard v img x = cond (eqb (wordFor img x) done) (announced v (x .command)) neither
+
+abbrev pub hears : Story → Call → Announced
+hears st x = heard (st .version) (st .image) x
 
 -- one call: the ledger hears it, and which DF slot is current before and after
 unfoldable pub next : Story → Call → Story
 next st x = record {
+  version = st .version;
   image = imageAfter (st .image) x;
-  ledger = entered (st .ledger) (heard (st .image) x) (currentDfOf (st .image)) (currentDfOf (imageAfter (st .image) x));
+  ledger = entered (st .ledger) (hears st x) (currentDfOf (st .image)) (currentDfOf (imageAfter (st .image) x));
 }
 
 -- any list of calls
@@ -74,8 +79,8 @@ pub record Ready (img : List ℕ) (x : Call) : Type 0 where
   pub earlier : allHold (butLast (stepsOf img (x .command) (x .state))) ≡ true
 
 -- the size, or total, that it sends
-abbrev pub sizeSent : List ℕ → Call → ℕ
-sizeSent img x = newSize (dataOf (versionOf img) (sentData (x .command)))
+abbrev pub sizeSent : ℕ → Call → ℕ
+sizeSent v x = newSize (dataOf v (sentData (x .command)))
 
 -- such CREATEs are just those answered 9000 or 6A84 (proofs/Memory, `ready-exactly`)
 abbrev pub ReadyExactly : Type 0

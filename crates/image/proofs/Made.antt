@@ -9,7 +9,8 @@ use Rattle.laws.specs.Lists.{part, splice}
 use Rattle.laws.proofs.Splices.{splice-step}
 use Rattle.numbers.specs.Numbers.{u16At, u32At}
 use Rattle.image.specs.declared.Head.{Head}
-use Rattle.image.specs.Layout.{longestRule, kindOf, descriptorOf, lifeCycleOf, formOf, identifierOf, parentOf, levelOf, recordLengthOf, sizeOf, nameOf}
+use Rattle.image.specs.Layout.{longestRule, kindOf, descriptorOf, lifeCycleOf, formOf, identifierOf, parentOf, levelOf}
+use Rattle.image.specs.Layout.{recordLengthOf, sizeOf, nameOf}
 use Rattle.image.specs.Layout.{base, Within, ruleOf, fieldAt, field, headBytes, recordBytes, putRecord}
 use Rattle.image.proofs.Versions.{longest-within}
 
@@ -130,7 +131,8 @@ module _ (v : ℕ) (h : Head) (name rule : List ℕ) where
 
   pub rule-made : length name ≤ 16 → ruleOf (recordBytes v h name rule) ≡ rule
   unfolding recordBytes ruleOf
-  rule-made a = field-back (longestRule v) (headBytes h ++ field 16 name) rule (replicate (30 - longestRule v) 0) 33 (length-to-rule h name a)
+  rule-made a = field-back (longestRule v) (headBytes h ++ field 16 name) rule (replicate (30 - longestRule v) 0) 33
+      (length-to-rule h name a)
 
   -- the lengths of name and rule, and the zeros after them
   module _ (a : length name ≤ 16) where
@@ -149,11 +151,13 @@ module _ (v : ℕ) (h : Head) (name rule : List ℕ) where
     module _ (b : length rule ≤ longestRule v) where
       pub rule-length-made : getD (recordBytes v h name rule) 33 0 ≡ length rule
       unfolding recordBytes
-      rule-length-made = field-length (longestRule v) (headBytes h ++ field 16 name) rule (replicate (30 - longestRule v) 0) 33 (length-to-rule h name a) b
+      rule-length-made = field-length (longestRule v) (headBytes h ++ field 16 name) rule (replicate (30 - longestRule v) 0) 33
+          (length-to-rule h name a) b
 
       pub rule-zeros-made : (k : ℕ) → k < longestRule v - length rule → getD (recordBytes v h name rule) (33 + 1 + length rule + k) 0 ≡ 0
       unfolding recordBytes
-      rule-zeros-made = field-zeros (longestRule v) (headBytes h ++ field 16 name) rule (replicate (30 - longestRule v) 0) 33 (length-to-rule h name a) b
+      rule-zeros-made = field-zeros (longestRule v) (headBytes h ++ field 16 name) rule (replicate (30 - longestRule v) 0) 33
+          (length-to-rule h name a) b
 
       pub spare-made : (k : ℕ) → k < 30 - longestRule v → getD (recordBytes v h name rule) (34 + longestRule v + k) 0 ≡ 0
       unfolding recordBytes

@@ -25,6 +25,9 @@ known-low v k = go (eqb v 1) (eqb v 2) refl refl k
     go false true p q t = omega (arith, eqb-true v 2 q)
     go false false p q t = absurd (false≢true t)
 
+pub known-narrow : (v : ℕ) → knownVersion v ≡ true → v < 65536
+known-narrow v k = omega (arith, known-low v k)
+
 -- a version that is known has a form, and room for rules of 16 bytes
 pub known-form : (v : ℕ) → knownVersion v ≡ true → 0 < formsOf v
 unfolding knownVersion

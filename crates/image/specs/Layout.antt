@@ -31,13 +31,16 @@ currentEfOf img = u16At img 9
 abbrev pub none : ℕ
 none = 0xFFFF
 
--- The versions, a line for each: how many bytes a rule may have, from 34 of a record on, and how many forms of rules there are
--- (02 Ticket 3). The bytes from the longest rule's end to the record's, 30 less so many, are zero.
+-- The versions (02 Ticket 3), a line for each: how many of the 30 bytes from 34 of a record on a rule may have, and what follows it to the
+-- record's end: as many zeros as are left; and how many forms of rules there are
 
 unfoldable pub longestRule : ℕ → ℕ
 longestRule v =
     cond (eqb v 1) 16
     (cond (eqb v 2) 30 0)
+
+abbrev pub zerosAfter : ℕ → ℕ
+zerosAfter v = 30 - longestRule v
 
 unfoldable pub formsOf : ℕ → ℕ
 formsOf v =
@@ -120,7 +123,7 @@ unfoldable pub field : ℕ → List ℕ → List ℕ
 field most v = (length v ∷ v) ++ replicate (most - length v) 0
 
 unfoldable pub recordBytes : ℕ → Head → List ℕ → List ℕ → List ℕ
-recordBytes v h name rule = headBytes h ++ field 16 name ++ field (longestRule v) rule ++ replicate (30 - longestRule v) 0
+recordBytes v h name rule = headBytes h ++ field 16 name ++ field (longestRule v) rule ++ replicate (zerosAfter v) 0
 
 -- a free record is all zero
 abbrev pub freeBytes : List ℕ

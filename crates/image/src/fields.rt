@@ -2,7 +2,8 @@
 ghost use mathlib.Core.Path.{_≡_};
 ghost use Prim.Native.Nat.{_+_, _*_, _<_, _≤_};
 ghost use lib.ListN.{length, getD};
-ghost use Rattle.image.specs.Layout.{versionOf, countOf, currentDfOf, currentEfOf, Within, recAt, kindOf, descriptorOf, lifeCycleOf, formOf};
+ghost use Rattle.image.specs.Layout.{versionOf, countOf, currentDfOf, currentEfOf, Within, recAt, kindOf, descriptorOf};
+ghost use Rattle.image.specs.Layout.{lifeCycleOf, formOf};
 ghost use Rattle.image.specs.Layout.{identifierOf, parentOf, levelOf, recordLengthOf, sizeOf, fieldAt, nameOf, ruleOf};
 
 // The version.

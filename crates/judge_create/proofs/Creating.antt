@@ -50,8 +50,10 @@ pub head-is : (steps : List Step) (s : ℕ) (name rule : Span) {h k : Head} {v :
 head-is steps s name rule e f = f ∙ ap (λ (x : Head). judged steps (Create (record { slot = s; head = x; name = name; rule = rule }))) e
 
 -- the stretch of a new file's name, in good data
-pub df-name : (v : ℕ) (s : List ℕ) (r : Data) (f : NewFile) → Good v s r → r ≡ Df f → (f .name .start ≤ f .name .end) × (f .name .end ≤ length s)
+pub df-name : (v : ℕ) (s : List ℕ) (r : Data) (f : NewFile) → Good v s r → r ≡ Df f → (f .name .start ≤ f .name .end)
+    × (f .name .end ≤ length s)
 df-name v s r f g e = let k : GoodDf v s f = subst (Good v s) e g in (k .file .name-low, k .file .name-high)
 
-pub ef-name : (v : ℕ) (s : List ℕ) (r : Data) (f : NewFile) → Good v s r → r ≡ Ef f → (f .name .start ≤ f .name .end) × (f .name .end ≤ length s)
+pub ef-name : (v : ℕ) (s : List ℕ) (r : Data) (f : NewFile) → Good v s r → r ≡ Ef f → (f .name .start ≤ f .name .end)
+    × (f .name .end ≤ length s)
 ef-name v s r f g e = let k : GoodEf v s f = subst (Good v s) e g in (k .file .name-low, k .file .name-high)

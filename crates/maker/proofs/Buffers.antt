@@ -13,8 +13,8 @@ use Rattle.laws.proofs.Says.{says, and-says, untrue}
 use Rattle.laws.proofs.Chains.{called-and, refused-and}
 use Rattle.laws.proofs.Settling.{settled, both-are}
 use Rattle.laws.proofs.Splices.{splice-step, splice-all}
-use Rattle.image.specs.Layout.{longestRule, knownVersion, Sized, recordBytes, putRecord, countOf}
-use Rattle.image.proofs.Versions.{known-low}
+use Rattle.image.specs.Layout.{longestRule, knownVersion, versionOf, Sized, recordBytes, putRecord, countOf}
+use Rattle.image.proofs.Versions.{known-narrow}
 use Rattle.image.proofs.Made.{length-made}
 use Rattle.access.specs.Access.{fitsRecord}
 use Rattle.access.proofs.Fits.{fits-short, fits-form}
@@ -22,7 +22,7 @@ use Rattle.sound.specs.Table.{View, viewAt}
 use Rattle.sound.specs.Sound.{Sound}
 use Rattle.sound.specs.Effects.{rootHead, freshHeader, fresh}
 use Rattle.sound.proofs.Kept.{gone}
-use Rattle.sound.proofs.Fresh.{count, view-root, view-rest, sound-fresh}
+use Rattle.sound.proofs.Fresh.{fresh-version, count, view-root, view-rest, sound-fresh}
 use Rattle.maker.specs.declared.Edition.{Edition}
 use Rattle.maker.specs.declared.Made.{Made}
 use Rattle.maker.specs.declared.Made.the-variants.{Done, BadLength, BadTotal, BadRule}
@@ -77,13 +77,14 @@ module _ (long : ℕ) (e : Edition) where
     unfolding fitsBuffer
     buffer-is t x k = called-and _ _ q t k
 
--- what the tests that passed tell: a rule that fits is as long as the version has room for, and a byte holds its form; the version is one of few
+-- what the tests that passed tell: a rule that fits is as long as the version has room for, and a byte holds its form; the version is
+-- one of few
 module _ (v form : ℕ) (rule : List ℕ) where
   pub form-none : 255 < form → false ≡ fitsRecord v form rule
   form-none h = sym (untrue _ (λ t. omega (arith, fits-form v form rule t)))
 
-  pub rule-fits : (r : Bool) → r ≡ fitsRecord v form rule → not r ≡ false → (length rule ≤ longestRule v) × (form < 2)
-  rule-fits r e t = let f = sym e ∙ not-false r t in (fits-short v form rule f, fits-form v form rule f)
+  pub rule-fits : (r : Bool) → r ≡ fitsRecord v form rule → not r ≡ false → (length rule ≤ longestRule v) × (form < 256)
+  rule-fits r e t = let f = sym e ∙ not-false r t in (fits-short v form rule f, omega (arith, fits-form v form rule f))
 
 pub length-sized : (img : List ℕ) (e : Edition) (n : ℕ) (r : Bool) → r ≡ fitsBuffer (length img) e → not r ≡ false
     → n ≡ slotsIn (length img) → Sized img n
@@ -95,8 +96,8 @@ pub length-bounds : (long : ℕ) (e : Edition) (n : ℕ) (r : Bool) → r ≡ fi
     → (2 ≤ n) × (n ≤ 1023)
 length-bounds long e n r q t f = let h = length-says long .0 (buffer-says long e .0 (sym q ∙ not-false r t) .0) in rw f (h .0, h .1 .0)
 
-pub version-low : (long : ℕ) (e : Edition) (r : Bool) → r ≡ fitsBuffer long e → not r ≡ false → e .version ≤ 2
-version-low long e r q t = known-low (e .version) (buffer-says long e .0 (sym q ∙ not-false r t) .1)
+pub version-low : (long : ℕ) (e : Edition) (r : Bool) → r ≡ fitsBuffer long e → not r ≡ false → e .version < 65536
+version-low long e r q t = known-narrow (e .version) (buffer-says long e .0 (sym q ∙ not-false r t) .1)
 
 -- header, root and free records are the whole buffer
 pub fresh-written : (img a b z : List ℕ) (v n total form : ℕ) (rule : List ℕ) → Sized img n → length rule ≤ longestRule v
@@ -200,6 +201,13 @@ module _ (img : List ℕ) (e : Edition) (total form : ℕ) (rule : List ℕ) whe
       let h = length-says (length img) .0 a in
       let t = total-says (slotsIn (length img)) total .0 b in
       sound-fresh (e .version) (slotsIn (length img)) total form rule (h .0) (h .1 .0) (t .0) (t .1) c)
+
+  -- of that version
+  pub version-made : madeOf img e total form rule ≡ Done → versionOf (leftBy Done img e total form rule) ≡ e .version
+  version-made = done-tested _ (λ a b c.
+      let h = length-says (length img) .0 a in
+      let t = total-says (slotsIn (length img)) total .0 b in
+      fresh-version (e .version) (slotsIn (length img)) total form rule (h .0) (h .1 .0) (t .0) (t .1) c)
 
   -- and holds the root alone
   pub alone-made : madeOf img e total form rule ≡ Done → Alone (leftBy Done img e total form rule) total

@@ -1,7 +1,7 @@
 // The maker: a fresh image in a lent buffer of any length, or the buffer as it came (01 "Making and
 // reporting", 02 Ticket 3).
 ghost use mathlib.Core.Path.{_≡_};
-ghost use Prim.Native.Nat.{_≤_};
+ghost use Prim.Native.Nat.{_<_, _≤_};
 ghost use lib.ListN.{length};
 ghost use Rattle.laws.specs.Lists.{splice};
 ghost use Rattle.image.specs.Layout.{Sized, longestRule};
@@ -67,7 +67,7 @@ fn put_header(image: &mut [u8], v: u16, n: u16)
 
 // The header, the root, and free records after it: every byte of the buffer.
 fn put_fresh(image: &mut [u8], v: u32, n: usize, total: u32, form: u8, rule: &[u8])
-    requires { ⌜ Sized (now image) n × ((length (now rule) ≤ longestRule v) × (v ≤ 2)) ⌝ }
+    requires { ⌜ Sized (now image) n × ((length (now rule) ≤ longestRule v) × (v < 65536)) ⌝ }
     ensures { λ _. ⌜ now (image .exit) ≡ fresh v n total form (now (rule .entry)) ⌝ }
 {
     let name = &rule[0..0];

@@ -58,7 +58,8 @@ all-grants x r =
     cond-by (λ (right : Right). grantedOf compact allowing right x ≡ true) (eqb (kindOf r) df) CreateDf CreateEf (λ q. refl) (λ q. refl)
 
 -- a fresh card of a version with that rule
-module _ (v n total : ℕ) (known : knownVersion v ≡ true) (least : 2 ≤ n) (most : n ≤ 1023) (some : 1 ≤ total) (within : total ≤ 64 * (n - 1)) where
+module _ (v n total : ℕ) (known : knownVersion v ≡ true) (least : 2 ≤ n) (most : n ≤ 1023) (some : 1 ≤ total)
+    (within : total ≤ 64 * (n - 1)) where
   card : List ℕ
   card = fresh v n total compact allowing
 

@@ -29,7 +29,8 @@ by-made s img m = cond (eqb (madeNumber m) 0) (runOf (length s) s 11 (leftBy m i
 perform-made : (s img : List ℕ) (m : Made) → madeOf img firstEdition (u32At s 7) compact rootRule ≡ m → by-made s img m ≡ performOf s img
 unfolding performOf by-made
 perform-made s img m e =
-    ap (λ (t : Made). cond (eqb (madeNumber t) 0) (runOf (length s) s 11 (leftBy t img firstEdition (u32At s 7) compact rootRule)) bad) (sym e)
+    ap (λ (t : Made). cond (eqb (madeNumber t) 0) (runOf (length s) s 11 (leftBy t img firstEdition (u32At s 7) compact rootRule)) bad)
+    (sym e)
 
 module _ (s img : List ℕ) (total : ℕ) (r : Made) (et : total ≡ u32At s 7) (er : r ≡ madeOf img firstEdition total compact rootRule) where
   made-is : (m : Made) → r ≡ m → madeOf img firstEdition (u32At s 7) compact rootRule ≡ m
@@ -39,7 +40,8 @@ module _ (s img : List ℕ) (total : ℕ) (r : Made) (et : total ≡ u32At s 7) 
   unfolding by-made
   performed y e h =
       ap (λ (x : List ℕ). runOf (length s) s 11 x)
-      (h ∙ ap (λ (m : Made). leftBy m img firstEdition total compact rootRule) e ∙ ap (λ (n : ℕ). leftBy Done img firstEdition n compact rootRule) et)
+      (h ∙ ap (λ (m : Made). leftBy m img firstEdition total compact rootRule) e
+      ∙ ap (λ (n : ℕ). leftBy Done img firstEdition n compact rootRule) et)
       ∙ perform-made s img Done (made-is Done e)
 
   pub no-length : r ≡ BadLength → bad ≡ performOf s img
@@ -71,7 +73,8 @@ perform-length : (s a b : List ℕ) → length a ≡ length b → performOf s a 
 perform-length s a b e =
     sym (perform-made s a (madeOf a firstEdition (u32At s 7) compact rootRule) refl)
     ∙ by-length s a b (madeOf a firstEdition (u32At s 7) compact rootRule) e
-    ∙ perform-made s b (madeOf a firstEdition (u32At s 7) compact rootRule) (sym (made-length a b firstEdition (u32At s 7) compact rootRule e))
+    ∙ perform-made s b (madeOf a firstEdition (u32At s 7) compact rootRule)
+    (sym (made-length a b firstEdition (u32At s 7) compact rootRule e))
 
 -- more slots than the maker takes
 too-many : (n : ℕ) → 1023 < n → fitsLength (16 + 64 * n) ≡ false

@@ -47,7 +47,8 @@ unfolding part splice sameList implies either allBelow anyBelow firstBelow sumBe
     holdsOf classOf hasRecords scAt slotsOf nextOf groupLength someGroup lifeOf knownLife newLife canActivate malformedAt
     compactFormed holdsAt allowsOf compactGrants objectsFrom objectsIn every some several formedPlain isNesting formed scOf holdsPlain
     holds isAm amAfter inPlace goesOn expandedFormed opens opensOne expandedGrants longestRule formsOf knownVersion formOf wellFormed
-    fitsRecord grantedOf oneRule ruleIn formIn ruleGood ruleTag goodIdentifier wholeRecords goodLength isTemplate bothGood nameGood newFile dfOf sizedEf efOf
+    fitsRecord grantedOf oneRule ruleIn formIn ruleGood ruleTag goodIdentifier wholeRecords goodLength isTemplate bothGood nameGood newFile
+    dfOf sizedEf efOf
     fileOf dataOf lacks has onePrivate firstForm dfForm efForm objectAt takenAt takenBelow objectsOf pairOf recordLengthIn numberOf
     fitsName versionOf countOf currentDfOf currentEfOf recAt kindOf descriptorOf lifeCycleOf identifierOf parentOf levelOf
     recordLengthOf sizeOf fieldAt nameOf ruleOf headBytes field recordBytes putRecord withLife setLife setCurrent created clearBelow

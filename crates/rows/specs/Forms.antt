@@ -17,7 +17,8 @@ use Rattle.rows.specs.Templates.{askFile}
 abbrev pub createRuled : List ℕ → List ℕ
 createRuled rules =
     createOf (template
-    (object 0x82 (0x41 ∷ 0x21 ∷ []) ++ (object 0x83 (0x6F ∷ 0x07 ∷ []) ++ (object 0x8A (0x05 ∷ []) ++ (rules ++ object 0x80 (0x00 ∷ 0x01 ∷ []))))))
+    (object 0x82 (0x41 ∷ 0x21 ∷ []) ++ (object 0x83 (0x6F ∷ 0x07 ∷ []) ++
+    (object 0x8A (0x05 ∷ []) ++ (rules ++ object 0x80 (0x00 ∷ 0x01 ∷ []))))))
 
 -- an expanded rule with an AM_DO of all rights and these SC_DOs
 abbrev pub allRights : List ℕ → List ℕ

@@ -7,7 +7,7 @@ use Prim.Native.Nat.{ℕ, zero, suc, _+_, _-_, _<_, _≤_}
 use native.Mathlib.Omega.{arith}
 use lib.ListN.{length, getD}
 use lib.Dec.{ltb}
-use borrow.Author.Tests.{lt-ltb, le-ltb, leb-true}
+use borrow.Author.Tests.{lt-ltb, le-ltb, leb-true, ltb-false}
 use Rattle.rules.specs.declared.Sets.{Sets}
 use Rattle.rules.specs.Condition.{holdsOf}
 use Rattle.rules.specs.Group.{b7, b6, b5, b4, b3, b2, b1, slotsOf, nextOf, groupLength, Lengths, someFrom, someGroup}
@@ -97,7 +97,48 @@ one-formed rule table i x t a q l e h =
     fills : (i ≤ 127) × (length rule ≡ 1 + b7 i + b6 i + b5 i + b4 i + b3 i + b2 i + b1 i)
     fills = short-group i (length rule) a (sym h ∙ e ∙ t .right i l)
 
+-- a length that counts its AM byte is not 0
+not-none : (a b c d e f g : ℕ) → 0 ≡ 1 + a + b + c + d + e + f + g → ⊥
+not-none a b c d e f g h = omega arith
+
+-- a group by the table of lengths: am is its AM byte, n what the table says of it
+module _ {rule : List ℕ} {at : ℕ} (inv : Formed rule at) (table : List ℕ) (t : Lengths table) (here : at < length rule) {am : ℕ}
+    (e : am ≡ getD rule at 0) where
+  pub formed-empty : am ≡ 0 → Formed rule (at + 1)
+  unfolding nextOf
+  formed-empty z =
+      let zero : getD rule at 0 ≡ 0 = sym e ∙ z in
+      formed-next inv {to = at + 1} here (rw zero (omega arith)) (omega arith) (omega arith)
+
+  module _ (low : am < 256) {n : ℕ} (f : n ≡ getD table am 0) where
+    is-length : n ≡ groupLength am
+    is-length = f ∙ t .right am low
+
+    pub formed-none : n ≡ 0 → false ≡ compactFormed rule
+    unfolding groupLength
+    formed-none z = go (ltb am 128) refl (sym z ∙ is-length)
+      where
+        go : (b : Bool) → ltb am 128 ≡ b → 0 ≡ cond b (1 + b7 am + b6 am + b5 am + b4 am + b3 am + b2 am + b1 am) 0
+            → false ≡ compactFormed rule
+        go true p q = absurd (not-none (b7 am) (b6 am) (b5 am) (b4 am) (b3 am) (b2 am) (b1 am) q)
+        go false p q = formed-high inv here (omega (arith, e, ltb-false am 128 p))
+
+    module _ (some : n ≡ 0 → ⊥) where
+      spans : (am ≤ 127) × (at + n ≡ nextOf rule at)
+      unfolding nextOf
+      spans =
+          let g = short-group am n (omega (arith, some)) is-length in
+          (g .0, rw (← e) (omega (arith, g .1)))
+
+      pub formed-beyond : length rule - at < n → false ≡ compactFormed rule
+      formed-beyond h = formed-past inv {to = at + n} here (spans .1) (omega arith)
+
+      pub formed-on : n ≤ length rule - at → Formed rule (at + n)
+      formed-on h = formed-next inv {to = at + n} here (spans .1) (omega (arith, e, spans .0)) (omega arith)
+
 pub ruleset formed = (formed-start, formed-end, formed-high, formed-past, formed-next)
+
+pub ruleset tabled = (formed-start, formed-end, formed-empty, formed-none, formed-beyond, formed-on)
 
 -- what a rule allows: one group has a condition in slot k that holds
 pub record Allowing (rule : List ℕ) (k : ℕ) (x : Sets) (at : ℕ) : Type 0 where

@@ -35,7 +35,32 @@ fn wide(x: u8) -> usize
     x as usize
 }
 
-// The same with the table of lengths: one group, as most rules are, is one look.
+// The same with the table of lengths, for rules of several groups. A group without SC bytes goes on by a constant, so that the
+// next one does not wait for the table.
+fn groups_by(rule: &[u8], lengths: &[u8; 256]) -> bool
+    requires { ⌜ Lengths (now lengths) ⌝ }
+    ensures { λ r. ⌜ r ≡ compactFormed (now (rule .entry)) ⌝ }
+{
+    let mut at: usize = 0;
+    while at < rule.len() {
+        let am = wide(rule[at]);
+        if am == 0 {
+            at = at + 1;
+            continue;
+        }
+        let n = wide(lengths[am]);
+        if n == 0 {
+            return false;
+        }
+        if rule.len() - at < n {
+            return false;
+        }
+        at = at + n;
+    }
+    true
+}
+
+// .. and where one group fills the rule, as in most, that is one look.
 pub fn formed_by(rule: &[u8], lengths: &[u8; 256]) -> bool
     requires { ⌜ (1 ≤ length (now rule)) × Lengths (now lengths) ⌝ }
     ensures { λ r. ⌜ r ≡ compactFormed (now (rule .entry)) ⌝ }
@@ -44,7 +69,7 @@ pub fn formed_by(rule: &[u8], lengths: &[u8; 256]) -> bool
     if wide(lengths[am]) == rule.len() {
         return true;
     }
-    well_formed(rule)
+    groups_by(rule, lengths)
 }
 
 // The slot of a right's bit in a group: slot 0 is b7, slot 6 is b1.

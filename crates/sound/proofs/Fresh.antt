@@ -16,7 +16,8 @@ use Rattle.numbers.specs.Numbers.{u16At}
 use Rattle.rules.specs.Descriptor.{classOf, hasRecords}
 use Rattle.rules.specs.Value.{goodIdentifier, goodLength}
 use Rattle.rules.proofs.Lives.{activated-known}
-use Rattle.image.specs.Layout.{formsOf, knownVersion, base, recAt, recordBytes, freeBytes, countOf, versionOf, currentDfOf, currentEfOf, none}
+use Rattle.image.specs.Layout.{formsOf, knownVersion, base, recAt, recordBytes, freeBytes, countOf, versionOf, currentDfOf, currentEfOf}
+use Rattle.image.specs.Layout.{none}
 use Rattle.image.proofs.Made.{length-made}
 use Rattle.image.proofs.Places.{byte-in, length-record}
 use Rattle.access.specs.Access.{fitsRecord}
@@ -137,7 +138,8 @@ module _ (v n total form : ℕ) (rule : List ℕ) (least : 2 ≤ n) (most : n �
   pub root : recAt (fresh v n total form rule) 0 ≡ recordBytes v (rootHead total form) [] rule
   unfolding fresh freshHeader recAt part
   root =
-      ap (λ (x : List ℕ). take 64 x) (drop-at (freshHeader v n) (recordBytes v (rootHead total form) [] rule ++ replicate (64 * (n - 1)) 0) 16 refl)
+      ap (λ (x : List ℕ). take 64 x) (drop-at (freshHeader v n)
+      (recordBytes v (rootHead total form) [] rule ++ replicate (64 * (n - 1)) 0) 16 refl)
       ∙ take-at (recordBytes v (rootHead total form) [] rule) (replicate (64 * (n - 1)) 0) 64 whole
 
   front : length (freshHeader v n ++ recordBytes v (rootHead total form) [] rule) ≡ 80

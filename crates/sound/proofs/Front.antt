@@ -6,7 +6,8 @@ use Prim.Native.Nat.{ℕ, _<_, _≤_}
 use native.Mathlib.Omega.{arith}
 use lib.ListN.{length}
 use Rattle.image.specs.Layout.{Sized, Within, recAt, countOf, versionOf, currentDfOf, currentEfOf, setCurrent}
-use Rattle.image.proofs.Headers.{SameFront, same-version, same-count, front-refl, front-trans, front-current, df-current, ef-current, record-current}
+use Rattle.image.proofs.Headers.{SameFront, same-version, same-count, front-refl, front-trans, front-current, df-current, ef-current}
+use Rattle.image.proofs.Headers.{record-current}
 use Rattle.sound.specs.Table.{View, viewAt, viewOf}
 use Rattle.sound.specs.Own.{Own}
 use Rattle.sound.specs.Kin.{Kin}
@@ -43,15 +44,18 @@ current-same n a b df ef c same = record {
 }
 
 -- an image with a sound one's header is sound when its records are
-pub sound-front : (a b : List ℕ) → Sound a → SameFront a b → ((s : ℕ) → s < countOf a → Own (versionOf a) (recAt b s)) → Kin (countOf a) (viewAt b)
+pub sound-front : (a b : List ℕ) → Sound a → SameFront a b → ((s : ℕ) → s < countOf a → Own (versionOf a) (recAt b s))
+    → Kin (countOf a) (viewAt b)
     → Current (countOf a) (viewAt b) (currentDfOf b) (currentEfOf b) → Sound b
 sound-front a b sound front own kin cur =
     let e = same-count a b front in
-    record { header = header-front a b front (sound .header); records = rw (same-version a b front) (λ s l. own s (rw e at l)); kin = rw e kin; current = rw e cur }
+    record { header = header-front a b front (sound .header); records = rw (same-version a b front)
+        (λ s l. own s (rw e at l)); kin = rw e kin; current = rw e cur }
 
 -- .. and so it is with another current DF and EF that may be current
 pub sound-set :
-    (a b : List ℕ) (df ef : ℕ) → Sound a → SameFront a b → ((s : ℕ) → s < countOf a → Own (versionOf a) (recAt b s)) → Kin (countOf a) (viewAt b)
+    (a b : List ℕ) (df ef : ℕ) → Sound a → SameFront a b → ((s : ℕ) → s < countOf a → Own (versionOf a) (recAt b s))
+    → Kin (countOf a) (viewAt b)
     → Current (countOf a) (viewAt b) df ef → Sound (setCurrent b df ef)
 sound-set a b df ef sound front own kin cur =
     let h = sound .header in

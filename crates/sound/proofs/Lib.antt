@@ -12,3 +12,4 @@ pub mod Deleted
 pub mod Lived
 pub mod Fresh
 pub mod Beneath
+pub mod FirstVersion

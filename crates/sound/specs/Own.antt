@@ -12,7 +12,8 @@ use Rattle.laws.specs.Tests.{implies, either}
 use Rattle.rules.specs.Descriptor.{classOf, ef}
 use Rattle.rules.specs.Life.{knownLife}
 use Rattle.rules.specs.Value.{goodIdentifier, goodLength}
-use Rattle.image.specs.Layout.{longestRule, kindOf, descriptorOf, lifeCycleOf, formOf, identifierOf, recordLengthOf, sizeOf, ruleOf}
+use Rattle.image.specs.Layout.{longestRule, zerosAfter, kindOf, descriptorOf, lifeCycleOf, formOf, identifierOf, recordLengthOf, sizeOf}
+use Rattle.image.specs.Layout.{ruleOf}
 use Rattle.access.specs.Access.{fitsRecord}
 
 -- the n bytes from `at` on are zero
@@ -47,7 +48,7 @@ pub record Used (v : ℕ) (r : List ℕ) : Type 0 where
   pub rule : Padded (longestRule v) r 33
   pub formed : fitsRecord v (formOf r) (ruleOf r) ≡ true
   -- the bytes after the longest rule are 0
-  pub spare : (k : ℕ) → k < 30 - longestRule v → getD r (34 + longestRule v + k) 0 ≡ 0
+  pub spare : (k : ℕ) → k < zerosAfter v → getD r (34 + longestRule v + k) 0 ≡ 0
 
 unfoldable pub classedb : List ℕ → Bool
 classedb r =
@@ -65,7 +66,7 @@ unfoldable pub ruledb : ℕ → List ℕ → Bool
 ruledb v r =
     paddedb (longestRule v) r 33
     && (fitsRecord v (formOf r) (ruleOf r)
-    && zerosb r (34 + longestRule v) (30 - longestRule v))
+    && zerosb r (34 + longestRule v) (zerosAfter v))
 
 unfoldable pub usedb : ℕ → List ℕ → Bool
 usedb v r = classedb r && (measuredb r && (nameb r && ruledb v r))

@@ -8,7 +8,7 @@ use Prim.Native.Nat.{ℕ, zero, suc, _+_, _*_, _-_, _<_, _≤_}
 use native.Mathlib.Omega.{arith}
 use lib.ListN.{length, getD, take, drop}
 use lib.Dec.{eqb, leb}
-use borrow.Author.Tests.{eqb-true, eq-eqb, ne-eqb, not-true, not-false, le-leb, lt-leb, leb-true}
+use borrow.Author.Tests.{eqb-true, eq-eqb, ne-eqb, not-true, not-false, le-leb, lt-leb, lt-ltb, leb-true}
 use Rattle.laws.specs.Lists.{part}
 use Rattle.laws.specs.Walks.{allBelow}
 use Rattle.laws.specs.Tests.{implies, either}
@@ -18,8 +18,9 @@ use Rattle.laws.proofs.Says.{and-says, implies-says, untrue}
 use Rattle.numbers.specs.Numbers.{u16At, u32At}
 use Rattle.rules.specs.Value.{goodIdentifier, wholeRecords, goodLength}
 use Rattle.rules.specs.Descriptor.{classOf, ef, Classes, hasRecords}
-use Rattle.image.specs.Layout.{longestRule, formsOf, knownVersion, formOf, recAt, countOf, versionOf, kindOf, descriptorOf, recordLengthOf, sizeOf, ruleOf, fieldAt}
-use Rattle.image.proofs.Versions.{longest-within}
+use Rattle.image.specs.Layout.{longestRule, formsOf, knownVersion, formOf, recAt, countOf, versionOf, kindOf, descriptorOf}
+use Rattle.image.specs.Layout.{recordLengthOf, sizeOf, ruleOf, fieldAt}
+use Rattle.image.proofs.Versions.{longest-within, longest-least}
 use Rattle.image.proofs.Places.{record-in}
 use Rattle.access.specs.Access.{wellFormed, fitsRecord}
 use Rattle.access.proofs.Fits.{fits-says}
@@ -110,6 +111,11 @@ record Ruled (v : ℕ) (r : List ℕ) (n : ℕ) : Type 0 where
   zeros : zerosb r (34 + n) (30 - n) ≡ true
   formed : wellFormed (formOf r) (take n (drop 34 r)) ≡ true
 
+-- k is how many forms there are
+pub form-known : (v : ℕ) (r : List ℕ) {k : ℕ} → k ≡ formsOf v → getD r 3 0 < k → formOf r < formsOf v
+unfolding formOf
+form-known v r e h = omega arith
+
 module _ (v : ℕ) (r : List ℕ) (whole : length r ≡ 64) (n : ℕ) (f : n ≡ getD r 33 0) where
   rule-long : n ≤ longestRule v → length (ruleOf r) ≡ n
   unfolding ruleOf fieldAt
@@ -140,7 +146,8 @@ module _ (v : ℕ) (r : List ℕ) (whole : length r ≡ 64) (n : ℕ) (f : n ≡
     λ u.
         let within = longest-within v in
         let pad = zeros-part r (34 + n) (30 - n) (34 + n) (longestRule v - n) (omega arith) (omega (arith, u .short)) (u .zeros) in
-        let spare = zeros-part r (34 + n) (30 - n) (34 + longestRule v) (30 - longestRule v) (omega (arith, u .short)) (omega arith) (u .zeros) in
+        let spare = zeros-part r (34 + n) (30 - n) (34 + longestRule v) (30 - longestRule v) (omega (arith, u .short)) (omega arith)
+            (u .zeros) in
         let fits = fits-says v (formOf r) (ruleOf r) .1 (record {
           some = omega (arith, u .some, rule-long (u .short));
           short = omega (arith, u .short, rule-long (u .short));
@@ -157,36 +164,43 @@ module _ (v : ℕ) (r : List ℕ) (whole : length r ≡ 64) (n : ℕ) (f : n ≡
   pub ruled-none : n < 1 → false ≡ ruledb v r
   ruled-none h = refuted (λ u. omega (arith, u .some))
 
+  pub ruled-unknown : {k : ℕ} → k ≡ formsOf v → k ≤ getD r 3 0 → false ≡ ruledb v r
+  unfolding formOf
+  ruled-unknown e h = refuted (λ u. omega (arith, u .known))
+
+  pub ruled-tail : {p : Bool} → p ≡ zerosb r (34 + n) (30 - n) → not p ≡ true → false ≡ ruledb v r
+  ruled-tail {p} e t = refuted (λ u. false≢true (sym (not-true p t) ∙ e ∙ u .zeros))
+
+  -- a rule that fits where it stands: what is left is whether it is well formed
+  left-formed : 1 ≤ n → n ≤ longestRule v → formOf r < formsOf v → zerosb r (34 + n) (30 - n) ≡ true → (b : Bool)
+      → b ≡ wellFormed (getD r 3 0) (take (34 + n - 34) (drop 34 r)) → b ≡ ruledb v r
+  unfolding formOf
+  left-formed some short known zeros b g =
+      let c : 34 + n - 34 ≡ n = omega arith in
+      let formed = g ∙ ap (λ (i : ℕ). wellFormed (getD r 3 0) (take i (drop 34 r))) c in
+      agree b (ruledb v r)
+      (λ z. ruled-says .1 (record { some = some; short = short; known = known; zeros = zeros; formed = sym formed ∙ z }))
+      (λ z. formed ∙ ruled-says .0 z .formed)
+
+  -- at most 16 bytes, for which every version that has the form has room; k is how many forms there are
+  pub ruled-is : {p : Bool} {k : ℕ} → 1 ≤ n → k ≡ formsOf v → getD r 3 0 < k → n ≤ 16 → p ≡ zerosb r (34 + n) (30 - n) → not p ≡ false
+      → (b : Bool) → b ≡ wellFormed (getD r 3 0) (take (34 + n - 34) (drop 34 r)) → b ≡ ruledb v r
+  unfolding formOf knownVersion
+  ruled-is {p} some forms known short e t =
+      let some-form : 0 < formsOf v = omega arith in
+      let room = longest-least v (lt-ltb 0 (formsOf v) some-form) in
+      left-formed some (omega (arith, room)) (omega arith) (sym e ∙ not-false p t)
+
+  -- more than 16; m is how many bytes the version has room for
   module _ {m : ℕ} (most : m ≡ longestRule v) where
-    pub ruled-long : m < n → false ≡ ruledb v r
-    ruled-long h = refuted (λ u. omega (arith, u .short))
+    pub long-past : m < n → false ≡ ruledb v r
+    long-past h = refuted (λ u. omega (arith, u .short))
 
-    module _ (short : n ≤ m) {k : ℕ} (forms : k ≡ formsOf v) where
-      pub ruled-unknown : k ≤ getD r 3 0 → false ≡ ruledb v r
-      unfolding formOf
-      ruled-unknown h = refuted (λ u. omega (arith, u .known))
+    pub long-is : {p : Bool} → 16 < n → n ≤ m → formOf r < formsOf v → p ≡ zerosb r (34 + n) (30 - n) → not p ≡ false
+        → (b : Bool) → b ≡ wellFormed (getD r 3 0) (take (34 + n - 34) (drop 34 r)) → b ≡ ruledb v r
+    long-is {p} some short known e t = left-formed (omega arith) (omega arith) known (sym e ∙ not-false p t)
 
-      module _ {p : Bool} (e : p ≡ zerosb r (34 + n) (30 - n)) where
-        pub ruled-tail : not p ≡ true → false ≡ ruledb v r
-        ruled-tail t = refuted (λ u. false≢true (sym (not-true p t) ∙ e ∙ u .zeros))
-
-        pub ruled-is : 1 ≤ n → getD r 3 0 < k → not p ≡ false → (b : Bool) → b ≡ wellFormed (getD r 3 0) (take (34 + n - 34) (drop 34 r))
-            → b ≡ ruledb v r
-        unfolding formOf
-        ruled-is some known t b g =
-            let c : 34 + n - 34 ≡ n = omega arith in
-            let formed = g ∙ ap (λ (i : ℕ). wellFormed (getD r 3 0) (take i (drop 34 r))) c in
-            agree b (ruledb v r)
-            (λ z. ruled-says .1 (record {
-              some = some;
-              short = omega arith;
-              known = omega arith;
-              zeros = sym e ∙ not-false p t;
-              formed = sym formed ∙ z;
-            }))
-            (λ z. formed ∙ ruled-says .0 z .formed)
-
-pub ruleset ruling = (ruled-none, ruled-long, ruled-unknown, ruled-tail, ruled-is)
+pub ruleset ruling = (ruled-none, ruled-unknown, ruled-tail, ruled-is)
 
 -- a record of the image, tested as a part of it
 pub own-part : (img : List ℕ) (v s : ℕ) (b : Bool) → b ≡ ownb v (take (16 + 64 * s + 64 - (16 + 64 * s)) (drop (16 + 64 * s) img))
@@ -219,7 +233,8 @@ pub header-at : (img : List ℕ) (n : ℕ) (x : Bool) → n ≡ countOf img
     &&
     (leb n 1023
     &&
-    (eqb (getD img 0 0) 0x55 && (eqb (getD img 1 0) 0x46 && (eqb (getD img 2 0) 0x54 && (knownVersion (versionOf img) && zerosb img 11 5)))))))
+    (eqb (getD img 0 0) 0x55 && (eqb (getD img 1 0) 0x46 &&
+    (eqb (getD img 2 0) 0x54 && (knownVersion (versionOf img) && zerosb img 11 5)))))))
     → x ≡ headerb img
 unfolding headerb
 header-at img n x e h = rw (← e) h

@@ -74,7 +74,7 @@ pub fn after_name(r: &[u8], n: usize) -> bool
 }
 
 // Whether the bytes after a rule of more than 16 bytes are zero, up to the end of the record.
-fn after_long_rule(r: &[u8], n: usize) -> bool
+pub fn after_long_rule(r: &[u8], n: usize) -> bool
     requires { ⌜ (length (now r) ≡ 64) × ((16 < n) × (n ≤ 30)) ⌝ }
     ensures { λ b. ⌜ b ≡ zerosb (now (r .entry)) (34 + n) (30 - n) ⌝ }
 {
@@ -87,14 +87,11 @@ fn after_long_rule(r: &[u8], n: usize) -> bool
     eight(r, 56)
 }
 
-// The same of a rule of any length. In a rule of at most 16 bytes the words lie so that no length is a case of its own.
+// The same of a rule of at most 16 bytes. The words lie so that no length of it is a case of its own.
 pub fn after_rule(r: &[u8], n: usize) -> bool
-    requires { ⌜ (length (now r) ≡ 64) × (n ≤ 30) ⌝ }
+    requires { ⌜ (length (now r) ≡ 64) × (n ≤ 16) ⌝ }
     ensures { λ b. ⌜ b ≡ zerosb (now (r .entry)) (34 + n) (30 - n) ⌝ }
 {
-    if n > 16 {
-        return after_long_rule(r, n);
-    }
     if !eight(r, 34 + n) {
         return false;
     }

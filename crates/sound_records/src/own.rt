@@ -3,12 +3,13 @@
 // records, and lent.
 ghost use mathlib.Core.Path.{_≡_};
 ghost use mathlib.Core.Bool.{_&&_};
+ghost use Prim.Native.Nat.{_<_};
 ghost use lib.Dec.{leb};
-ghost use lib.ListN.{length};
+ghost use lib.ListN.{length, getD};
 ghost use Rattle.rules.specs.Descriptor.{Classes};
 ghost use Rattle.rules.specs.Group.{Lengths};
 ghost use Rattle.rules.specs.Value.{wholeRecords};
-ghost use Rattle.image.specs.Layout.{Sized, Within, recAt, recordLengthOf, sizeOf};
+ghost use Rattle.image.specs.Layout.{Sized, Within, formsOf, recAt, formOf, recordLengthOf, sizeOf};
 ghost use Rattle.sound.specs.Own.{classedb, measuredb, nameb, ruledb, usedb, ownb};
 ghost use Rattle.sound.specs.Sound.{recordsb};
 use crate::blank;
@@ -73,7 +74,24 @@ fn name_fits(r: &[u8]) -> bool
     blank::after_name(r, n)
 }
 
-// The rule, as long as the version has room for it and of one of its forms, and zeros after it to the end.
+// A rule of n bytes, more than 16: as long as the version has room for, and zeros after it to the end. What most rules do not
+// ask stands apart.
+fn ruled_long(r: &[u8], v: u32, n: usize, lengths: &[u8; 256]) -> bool
+    requires { ⌜ (length (now r) ≡ 64) × ((n ≡ getD (now r) 33 0) × (16 < n)) ⌝ }
+    requires { ⌜ Lengths (now lengths) × (formOf (now r) < formsOf v) ⌝ }
+    ensures { λ b. ⌜ b ≡ ruledb v (now (r .entry)) ⌝ }
+{
+    if image::version::longest_rule(v) < n {
+        return false;
+    }
+    if !blank::after_long_rule(r, n) {
+        return false;
+    }
+    let to = 34 + n;
+    access::formed_by(r[3], &r[34..to], lengths)
+}
+
+// The rule, of one of the version's forms, which has room for 16 bytes at least, and zeros after it to the end.
 fn ruled(r: &[u8], v: u32, lengths: &[u8; 256]) -> bool
     requires { ⌜ length (now r) ≡ 64 ⌝ }
     requires { ⌜ Lengths (now lengths) ⌝ }
@@ -83,11 +101,11 @@ fn ruled(r: &[u8], v: u32, lengths: &[u8; 256]) -> bool
     if n < 1 {
         return false;
     }
-    if image::version::longest_rule(v) < n {
-        return false;
-    }
     if image::version::forms(v) <= r[3] {
         return false;
+    }
+    if n > 16 {
+        return ruled_long(r, v, n, lengths);
     }
     if !blank::after_rule(r, n) {
         return false;

@@ -70,9 +70,11 @@ fn all_rules() -> Vec<Rules> {
     let compact = |title, rules| Rules { title, wanted: 10.0, form: Form::Compact, rules };
     let expanded = |title, rules| Rules { title, wanted: 20.0, form: Form::Expanded, rules };
     vec![
+        compact("version 2: compact rules of one group", vec![OPEN.to_vec()]),
         compact("version 2: compact rules", compact_rules()),
         expanded("version 2: expanded rules", expanded_rules()),
         compact("version 2: worst compact rules", vec![many_groups()]),
+        compact("version 2: worst compact rules, with conditions", vec![many_conditions()]),
         expanded("version 2: worst rules, in a row", vec![in_a_row()]),
         expanded("version 2: worst rules, many groups", vec![many_expanded_groups()]),
         expanded("version 2: worst rules, four deep", vec![four_deep()]),
@@ -113,6 +115,11 @@ fn expanded_rules() -> Vec<Vec<u8>> {
 /// 22 groups of one byte that name no right, and one that names all.
 fn many_groups() -> Vec<u8> {
     [&[0; 22][..], &OPEN].concat()
+}
+
+/// 11 groups of two bytes that deny what they name, and one that names all.
+fn many_conditions() -> Vec<u8> {
+    [&[0x01, 0xFF].repeat(11)[..], &OPEN].concat()
 }
 
 /// A group with 13 conditions, of which the last one holds.

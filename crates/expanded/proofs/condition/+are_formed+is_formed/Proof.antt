@@ -7,6 +7,7 @@ use Rattle.laws.proofs.Chains.{calls}
 use Rattle.expanded.specs.Condition.{formed}
 use Rattle.expanded.proofs.Objects.{Each, eachs}
 use Rattle.expanded.proofs.Nested.{formed-cut, formed-none, formed-deep}
+use Rattle.expanded.proofs.Standing.{each-plain}
 use Prim.Native.Nat.{ℕ, _<_, _+_, _*_, _-_}
 use borrow.Fn.Kinds.{In}
 use borrow.Fn.PlainCycle.{Measures, is, falls, and}
@@ -16,6 +17,8 @@ use Rattle.expanded.proofs.condition.+are_formed+is_formed.Lts-are_form
 use Rattle.expanded.proofs.condition.is_formed.Reads as is-formed
 use Rattle.expanded.proofs.condition.is_formed.Kinds as is-formed-kinds
 use Rattle.expanded.proofs.condition.+are_formed+is_formed.Lts-is_formed as is-formed-lts
+use Rattle.expanded.proofs.condition.is_byte_at.Reads as is-byte-at-reads
+use Rattle.expanded.proofs.condition.is_constant_at.Reads as is-constant-at-reads
 use Rattle.expanded.proofs.condition.is_formed_plain.Reads as is-formed-plain-reads
 use Rattle.expanded.proofs.condition.is_template.Reads as is-template-reads
 use Rattle.expanded.proofs.object.end.Reads as end-reads
@@ -51,7 +54,10 @@ is-formed-calls t = (
 )
 
 abbrev are-formed-calls : ℕ → are-formed-lts.Claims
-are-formed-calls t = (end-reads.Asked, end-reads.Learnt, is-formed-below t, is-formed.Post)
+are-formed-calls t = (
+  is-byte-at-reads.Asked, is-byte-at-reads.Learnt, is-constant-at-reads.Asked, is-constant-at-reads.Learnt,
+  end-reads.Asked, end-reads.Learnt, is-formed-below t, is-formed.Post,
+)
 
 abbrev are-formed-Inv-loop : are-formed-lts.InvT-loop
 are-formed-Inv-loop s left at₀ at = Each (formed left) s at
@@ -63,13 +69,46 @@ are-formed-loop-holds : (t : ℕ)
     → are-formed-lts.Need-loop-holds (are-formed-calls t) (are-formed-at t) are-formed.Post are-formed-Inv-loop are-formed-μ-loop
 are-formed-loop-holds t c = search (eachs, formed-cut)
 
+are-formed-is-byte-at-requires : (t : ℕ)
+    → are-formed-lts.Need-is-byte-at-requires (are-formed-calls t) (are-formed-at t) are-formed.Post are-formed-Inv-loop are-formed-μ-loop
+are-formed-is-byte-at-requires t c κs = search needs
+
+are-formed-add-at : (t : ℕ)
+    → are-formed-lts.Need-add-at (are-formed-calls t) (are-formed-at t) are-formed.Post are-formed-Inv-loop are-formed-μ-loop
+are-formed-add-at t c = search needs
+
+are-formed-loop-less : (t : ℕ)
+    → are-formed-lts.Need-loop-less (are-formed-calls t) (are-formed-at t) are-formed.Post are-formed-Inv-loop are-formed-μ-loop
+are-formed-loop-less t c = search needs
+
+are-formed-loop-again : (t : ℕ)
+    → are-formed-lts.Need-loop-again (are-formed-calls t) (are-formed-at t) are-formed.Post are-formed-Inv-loop are-formed-μ-loop
+are-formed-loop-again t c = search each-plain
+
+are-formed-is-constant-at-requires : (t : ℕ)
+    → are-formed-lts.Need-is-constant-at-requires (are-formed-calls t)
+    (are-formed-at t) are-formed.Post are-formed-Inv-loop are-formed-μ-loop
+are-formed-is-constant-at-requires t c κs = search needs
+
+are-formed-add-at-2 : (t : ℕ)
+    → are-formed-lts.Need-add-at-2 (are-formed-calls t) (are-formed-at t) are-formed.Post are-formed-Inv-loop are-formed-μ-loop
+are-formed-add-at-2 t c = search needs
+
+are-formed-loop-less-2 : (t : ℕ)
+    → are-formed-lts.Need-loop-less-2 (are-formed-calls t) (are-formed-at t) are-formed.Post are-formed-Inv-loop are-formed-μ-loop
+are-formed-loop-less-2 t c = search needs
+
+are-formed-loop-again-2 : (t : ℕ)
+    → are-formed-lts.Need-loop-again-2 (are-formed-calls t) (are-formed-at t) are-formed.Post are-formed-Inv-loop are-formed-μ-loop
+are-formed-loop-again-2 t c = search each-plain
+
 are-formed-end-requires : (t : ℕ)
     → are-formed-lts.Need-end-requires (are-formed-calls t) (are-formed-at t) are-formed.Post are-formed-Inv-loop are-formed-μ-loop
 are-formed-end-requires t c κs = search needs
 
-are-formed-sub-if1 : (t : ℕ)
-    → are-formed-lts.Need-sub-if1 (are-formed-calls t) (are-formed-at t) are-formed.Post are-formed-Inv-loop are-formed-μ-loop
-are-formed-sub-if1 t c = search needs
+are-formed-sub-if3 : (t : ℕ)
+    → are-formed-lts.Need-sub-if3 (are-formed-calls t) (are-formed-at t) are-formed.Post are-formed-Inv-loop are-formed-μ-loop
+are-formed-sub-if3 t c = search needs
 
 are-formed-returns : (t : ℕ)
     → are-formed-lts.Need-returns (are-formed-calls t) (are-formed-at t) are-formed.Post are-formed-Inv-loop are-formed-μ-loop
@@ -104,13 +143,13 @@ are-formed-returns-2 : (t : ℕ)
     → are-formed-lts.Need-returns-2 (are-formed-calls t) (are-formed-at t) are-formed.Post are-formed-Inv-loop are-formed-μ-loop
 are-formed-returns-2 t c = search (eachs, formed-cut)
 
-are-formed-loop-less : (t : ℕ)
-    → are-formed-lts.Need-loop-less (are-formed-calls t) (are-formed-at t) are-formed.Post are-formed-Inv-loop are-formed-μ-loop
-are-formed-loop-less t c = search needs
+are-formed-loop-less-3 : (t : ℕ)
+    → are-formed-lts.Need-loop-less-3 (are-formed-calls t) (are-formed-at t) are-formed.Post are-formed-Inv-loop are-formed-μ-loop
+are-formed-loop-less-3 t c = search needs
 
-are-formed-loop-again : (t : ℕ)
-    → are-formed-lts.Need-loop-again (are-formed-calls t) (are-formed-at t) are-formed.Post are-formed-Inv-loop are-formed-μ-loop
-are-formed-loop-again t c = search (eachs, formed-cut)
+are-formed-loop-again-3 : (t : ℕ)
+    → are-formed-lts.Need-loop-again-3 (are-formed-calls t) (are-formed-at t) are-formed.Post are-formed-Inv-loop are-formed-μ-loop
+are-formed-loop-again-3 t c = search (eachs, formed-cut)
 
 are-formed-returns-3 : (t : ℕ)
     → are-formed-lts.Need-returns-3 (are-formed-calls t) (are-formed-at t) are-formed.Post are-formed-Inv-loop are-formed-μ-loop
@@ -155,8 +194,16 @@ pub +are-formed+is-formed-spec : {M : Type 1} → statement M
     are-formed-Inv-loop
     are-formed-μ-loop
     (are-formed-loop-holds t)
+    (are-formed-is-byte-at-requires t)
+    (are-formed-add-at t)
+    (are-formed-loop-less t)
+    (are-formed-loop-again t)
+    (are-formed-is-constant-at-requires t)
+    (are-formed-add-at-2 t)
+    (are-formed-loop-less-2 t)
+    (are-formed-loop-again-2 t)
     (are-formed-end-requires t)
-    (are-formed-sub-if1 t)
+    (are-formed-sub-if3 t)
     (are-formed-returns t)
     (are-formed-shared-slice-read-is-formed t)
     (are-formed-add-is-formed t)
@@ -165,8 +212,8 @@ pub +are-formed+is-formed-spec : {M : Type 1} → statement M
     (are-formed-part-is-formed-end t)
     (are-formed-is-formed-requires t)
     (are-formed-returns-2 t)
-    (are-formed-loop-less t)
-    (are-formed-loop-again t)
+    (are-formed-loop-less-3 t)
+    (are-formed-loop-again-3 t)
     (are-formed-returns-3 t))
     λ t. is-formed-lts.spec (is-formed-calls t)
     (is-formed-at t)

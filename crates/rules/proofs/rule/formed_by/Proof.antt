@@ -1,4 +1,4 @@
--- `rule::formed_by`: as `well_formed`, with one look for a rule of one group.
+-- `rule::formed_by`: one look for a rule of one group.
 use Rattle.rules.proofs.Groups.{one-formed}
 use borrow.Author.Needs.{needs}
 use Rattle.rules.proofs.rule.formed_by.Statement.{statement}
@@ -19,8 +19,8 @@ wide-requires-2 c κs = search needs
 returns : tie.Need-returns
 returns c = search one-formed
 
-well-formed-requires : tie.Need-well-formed-requires
-well-formed-requires c κs = search needs
+groups-by-requires : tie.Need-groups-by-requires
+groups-by-requires c κs = search needs
 
 returns-2 : tie.Need-returns-2
 returns-2 c = search needs
@@ -34,5 +34,5 @@ formed-by-spec =
     element-copy-out-wide
     wide-requires-2
     returns
-    well-formed-requires
+    groups-by-requires
     returns-2)

@@ -4,20 +4,14 @@ use borrow.Author.Needs.{needs}
 use Rattle.sound_records.proofs.blank.after_rule.Statement.{statement}
 use Rattle.sound_records.proofs.blank.after_rule.Tie as tie
 
-after-long-rule-requires : tie.Need-after-long-rule-requires
-after-long-rule-requires c κs = search needs
-
-returns : tie.Need-returns
-returns c = search needs
-
 add-eight : tie.Need-add-eight
 add-eight c = search needs
 
 eight-requires : tie.Need-eight-requires
 eight-requires c κs = search needs
 
-returns-2 : tie.Need-returns-2
-returns-2 c = search rule-first
+returns : tie.Need-returns
+returns c = search rule-first
 
 add-eight-2 : tie.Need-add-eight-2
 add-eight-2 c = search needs
@@ -25,8 +19,8 @@ add-eight-2 c = search needs
 eight-requires-2 : tie.Need-eight-requires-2
 eight-requires-2 c κs = search needs
 
-returns-3 : tie.Need-returns-3
-returns-3 c = search rule-second
+returns-2 : tie.Need-returns-2
+returns-2 c = search rule-second
 
 add-eight-3 : tie.Need-add-eight-3
 add-eight-3 c = search needs
@@ -34,29 +28,27 @@ add-eight-3 c = search needs
 eight-requires-3 : tie.Need-eight-requires-3
 eight-requires-3 c κs = search needs
 
-returns-4 : tie.Need-returns-4
-returns-4 c = search rule-third
+returns-3 : tie.Need-returns-3
+returns-3 c = search rule-third
 
 eight-requires-4 : tie.Need-eight-requires-4
 eight-requires-4 c κs = search needs
 
-returns-5 : tie.Need-returns-5
-returns-5 c = search rule-last
+returns-4 : tie.Need-returns-4
+returns-4 c = search rule-last
 
 pub after-rule-spec : {M : Type 1} → statement M
 after-rule-spec =
     tie.close
     (tie.spec
-    after-long-rule-requires
-    returns
     add-eight
     eight-requires
-    returns-2
+    returns
     add-eight-2
     eight-requires-2
-    returns-3
+    returns-2
     add-eight-3
     eight-requires-3
-    returns-4
+    returns-3
     eight-requires-4
-    returns-5)
+    returns-4)

@@ -1,5 +1,5 @@
--- `own::ruled`: how long the rule is, its form, zeros from its end on, then the rule itself.
-use Rattle.sound_records.proofs.Bytes.{ruling}
+-- `own::ruled`: its form, how long it is, zeros from its end on, then the rule itself.
+use Rattle.sound_records.proofs.Bytes.{ruling, form-known}
 use borrow.Author.Needs.{needs}
 use Rattle.sound_records.proofs.own.ruled.Statement.{statement}
 use Rattle.sound_records.proofs.own.ruled.Tie as tie
@@ -16,20 +16,23 @@ cast-n c = search needs
 returns : tie.Need-returns
 returns c = search ruling
 
-longest-rule-requires : tie.Need-longest-rule-requires
-longest-rule-requires c κs = search needs
+forms-requires : tie.Need-forms-requires
+forms-requires c κs = search needs
+
+shared-slice-read-if2 : tie.Need-shared-slice-read-if2
+shared-slice-read-if2 c = search needs
 
 returns-2 : tie.Need-returns-2
 returns-2 c = search ruling
 
-forms-requires : tie.Need-forms-requires
-forms-requires c κs = search needs
-
-shared-slice-read-if3 : tie.Need-shared-slice-read-if3
-shared-slice-read-if3 c = search needs
+ruled-long-requires : tie.Need-ruled-long-requires
+ruled-long-requires c κs = (
+  (search needs, (search needs, search needs)),
+  (search needs, form-known _ _ (c .before .before .before .forms .ensures) (c .before .if2 .left)),
+)
 
 returns-3 : tie.Need-returns-3
-returns-3 c = search ruling
+returns-3 c = search needs
 
 after-rule-requires : tie.Need-after-rule-requires
 after-rule-requires c κs = search needs
@@ -66,10 +69,10 @@ ruled-spec =
     wide-requires
     cast-n
     returns
-    longest-rule-requires
-    returns-2
     forms-requires
-    shared-slice-read-if3
+    shared-slice-read-if2
+    returns-2
+    ruled-long-requires
     returns-3
     after-rule-requires
     returns-4
