@@ -15,6 +15,9 @@ pub type Object<'a> = (u8, &'a [u8]);
 /// means nothing here.
 const PIN_STATUS: Object = (tags::PIN_STATUS, &[0x00]);
 
+/// The columns before a value in a line.
+const BEFORE_VALUE: usize = 20;
+
 /// A template, its values read.
 pub struct Template<'a> {
     objects: Vec<Object<'a>>,
@@ -98,7 +101,8 @@ impl<'a> Template<'a> {
         if !self.name.is_empty() {
             values.push(("name", hex::row(self.name)));
         }
-        let rule = rule::words(self.rule, owner).map(|parts| parts.join("; "));
+        let rule = rule::words(self.rule, owner);
+        let rule = rule.map(|parts| rule::folded(&parts.join("; "), BEFORE_VALUE));
         let rule = rule.unwrap_or_else(|_| "malformed".to_string());
         values.push((title(self.rule.form), rule));
         values
@@ -121,7 +125,7 @@ pub fn told(data: &[u8]) -> String {
     values.into_iter().map(|(title, value)| line(title, &value)).collect()
 }
 
-/// A line below a command's.
+/// A line below a command's. `BEFORE_VALUE` columns stand before the value.
 pub fn line(title: &str, value: &str) -> String {
     format!("        {title:<10}  {value}\n")
 }

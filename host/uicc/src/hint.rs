@@ -6,17 +6,32 @@ use model::template::tags;
 use crate::rule::{self, Malformed};
 use crate::{describe, fcp};
 
-/// What is wrong with the rule of a CREATE for a kind of card, with the rule's
-/// tag; nothing if the rule is good, or cannot be found.
-pub fn of_rule(command: &[u8], kind: Kind) -> Option<(Form, String)> {
+/// A rule that stands in a file, and is named by its place there.
+const REFERENCED_RULE: u8 = 0x8B;
+
+/// What is wrong with the rule of a CREATE for a kind of card, below a title;
+/// nothing if the rule is good, or the objects cannot be told apart.
+pub fn of_rule(command: &[u8], kind: Kind) -> Option<(&'static str, String)> {
     let objects = match fcp::objects(command.get(5..)?)?.as_slice() {
         [(tags::TEMPLATE, inside)] => fcp::objects(inside)?,
         _ => return None,
     };
+    if objects.iter().any(|(tag, _)| *tag == REFERENCED_RULE) {
+        return Some(("rule", "8B (a rule in a file) is not taken".to_string()));
+    }
     let form = |tag| Form::ALL.into_iter().find(|form| form.tag() == tag);
-    let rule =
-        objects.into_iter().find_map(|(tag, bytes)| Some(Rule { form: form(tag)?, bytes }))?;
-    Some((rule.form, wrong(rule, kind)?))
+    let rule = |(tag, bytes)| Some(Rule { form: form(tag)?, bytes });
+    let rules: Vec<_> = objects.into_iter().filter_map(rule).collect();
+    match rules.as_slice() {
+        [] => Some(("rule", "no rule: neither 8C nor AB".to_string())),
+        [rule] => Some((fcp::title(rule.form), wrong(*rule, kind)?)),
+        several => {
+            let tags: Vec<_> =
+                several.iter().map(|rule| format!("{:02X}", rule.form.tag())).collect();
+            let tags = tags.join(" and in ");
+            Some(("rule", format!("the rule stands in {tags}: one of them is wanted")))
+        }
+    }
 }
 
 fn wrong(rule: Rule, kind: Kind) -> Option<String> {

@@ -123,6 +123,16 @@ fn fresh_card(fresh: &Fresh) -> Result<Card, Failure> {
                 format!("--rule: the root's access rule is malformed: {where_and_why}")
             }
             MakeError::Form(..) => format!("--rule: {error}: add --version 2"),
+            MakeError::RuleLength(most) => {
+                let (length, version) = (describe::bytes(rule.rule().bytes.len()), kind.version);
+                let other = rule::takers(rule.rule()).next();
+                let advice = other.map(|kind| format!(": add --version {}", kind.version));
+                format!(
+                    "--rule: the root's access rule has {length}, and a card of version {version} \
+                     takes 1 to {most}{}",
+                    advice.unwrap_or_default()
+                )
+            }
             _ => format!("--rule: {error}"),
         })
     })

@@ -48,7 +48,7 @@ fn play(card: &mut Card, steps: &[Step], state: &State) -> Result<String, String
         }
         if word == WRONG_DATA {
             let hint = hint::of_rule(command, card.kind());
-            told += &hint.map_or_else(String::new, |(form, why)| fcp::line(fcp::title(form), &why));
+            told += &hint.map_or_else(String::new, |(title, why)| fcp::line(title, &why));
         }
     }
     let report = card.report().map_err(|error| error.to_string())?;

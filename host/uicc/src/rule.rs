@@ -8,11 +8,13 @@
 mod compact;
 mod expanded;
 mod explain;
+mod folded;
 mod need;
 mod words;
 mod written;
 
-pub use explain::explain;
+pub use explain::{explain, takers};
+pub use folded::folded;
 pub use words::{words, Owner};
 pub use written::{object, read, Written};
 

@@ -73,7 +73,9 @@ impl<'a> Rules<'a> {
             told += &format!("\nrule {number}, of {owner_named}: {object}\n");
             let parts =
                 rule::words(*rule, *owner).unwrap_or_else(|_| vec!["malformed".to_string()]);
-            parts.iter().for_each(|part| told += &format!("      {part}\n"));
+            for part in parts {
+                told += &format!("      {}\n", rule::folded(&part, 6));
+            }
         }
         told
     }

@@ -3,7 +3,7 @@
 use card::{Card, Form, Kind, Rule, FEWEST_SLOTS};
 
 use super::need::Need;
-use super::{groups, read, words, Condition, Malformed, Owner, Sort};
+use super::{folded, groups, read, words, Condition, Malformed, Owner, Sort};
 use crate::{describe, hex};
 
 /// A line of the list: the place of its bytes, how many they are, how deep it
@@ -24,9 +24,8 @@ pub fn explain(bytes: &[u8]) -> Result<String, String> {
     if let Some(wrong) = written.malformed() {
         return Err(format!("this {form} is malformed: {wrong}"));
     }
-    let is_taken = |kind: &&Kind| Card::make(FEWEST_SLOTS, **kind, 1, rule).is_ok();
-    let versions = Kind::ALL.iter().filter(is_taken).map(|kind| kind.version.to_string());
-    let versions = versions.collect::<Vec<_>>().join(" and ");
+    let versions: Vec<_> = takers(rule).map(|kind| kind.version.to_string()).collect();
+    let versions = versions.join(" and ");
     if versions.is_empty() {
         let most = Kind::ALL.iter().filter_map(|kind| kind.longest_rule(rule.form)).max();
         let most = most.unwrap_or_default();
@@ -34,6 +33,12 @@ pub fn explain(bytes: &[u8]) -> Result<String, String> {
     }
     let told = told(rule, written.before()).map_err(|wrong| wrong.tell(0, rule.bytes.len()))?;
     Ok(format!("{form} of {length}, for cards of version {versions}\n{told}"))
+}
+
+/// The kinds of cards that take a rule.
+pub fn takers(rule: Rule<'_>) -> impl Iterator<Item = Kind> + '_ {
+    let is_taken = move |kind: &Kind| Card::make(FEWEST_SLOTS, *kind, 1, rule).is_ok();
+    Kind::ALL.into_iter().filter(is_taken)
 }
 
 /// The rule's objects or bytes, a line each, then what it allows in a directory
@@ -48,7 +53,7 @@ fn told(rule: Rule, before: usize) -> Result<String, Malformed> {
     for (owner, title) in [(Owner::Directory, "a directory"), (Owner::File, "a file with a body")] {
         told += &format!("in {title}:\n");
         for part in words(rule, owner)? {
-            told += &format!("  {part}\n");
+            told += &format!("  {}\n", folded(&part, 2));
         }
     }
     Ok(told)

@@ -1,5 +1,6 @@
 //! Words against the model's decision, and what is told of malformed rules.
 
+mod folding;
 mod malformed;
 mod meaning;
 mod random;

@@ -56,7 +56,8 @@ pub fn object(rule: Rule) -> String {
 pub fn read(bytes: &[u8]) -> Result<Written, String> {
     let bare = |form| Ok(Written::bare(form, bytes.to_vec()));
     let first = match bytes.first() {
-        None | Some(0..=0x7F) => return bare(Form::Compact),
+        None => return Err("a rule has at least one byte".to_string()),
+        Some(0..=0x7F) => return bare(Form::Compact),
         Some(0x80) => return bare(Form::Expanded),
         Some(first) => *first,
     };
@@ -68,6 +69,9 @@ pub fn read(bytes: &[u8]) -> Result<Written, String> {
         ));
     };
     match bytes {
+        [_, length @ 0x80..=0xFF, ..] => Err(format!(
+            "byte 2 of {written}: the length {length:02X} of object {first:02X} is over 7F"
+        )),
         [_, length, value @ ..] if usize::from(*length) == value.len() => {
             Ok(Written { form, bytes: value.to_vec(), before: 2 })
         }

@@ -82,12 +82,32 @@ fn wrong_wishes_for_a_card_are_refused() {
         (&["new", "card", "--rule", "80017F9000"], "version 1 takes no rule of tag AB"),
         (&["new", "card", "--rule", "80017F9000"], "8C and AB: add --version 2"),
         (&["new", "card", "--rule", "9E0111"], "--rule: byte 1 of 3: 9E begins no rule"),
-        (&["new", "card", "--rule", ""], "must have 1 to 16 bytes"),
-        (&["new", "card", "--version", "2", "--rule", ""], "must have 1 to 30 bytes"),
+        (&["new", "card", "--rule", ""], "--rule: a rule has at least one byte"),
         (&["new", "card", "--rule", "8"], "this is not a row of hex bytes"),
     ] {
         let err = folder.refused(2, arguments);
         assert!(err.contains(told) && err.contains("uicc --help"), "{arguments:?}: {err}");
+    }
+    assert!(folder.names().is_empty());
+}
+
+/// The other version is named only where it takes the rule.
+#[test]
+fn rules_of_a_wrong_length_are_refused() {
+    let folder = Folder::new("lengths");
+    let zeros = |many| "00".repeat(many);
+    for (version, rule, told) in [
+        ("1", zeros(17), "has 17 bytes, and a card of version 1 takes 1 to 16: add --version 2\n"),
+        ("1", zeros(30), "has 30 bytes, and a card of version 1 takes 1 to 16: add --version 2\n"),
+        ("1", zeros(31), "has 31 bytes, and a card of version 1 takes 1 to 16\n"),
+        ("1", zeros(16) + "01", "has 17 bytes, and a card of version 1 takes 1 to 16\n"),
+        ("1", "8C00".to_string(), "has no byte, and a card of version 1 takes 1 to 16\n"),
+        ("2", zeros(31), "has 31 bytes, and a card of version 2 takes 1 to 30\n"),
+        ("2", "AB00".to_string(), "has no byte, and a card of version 2 takes 1 to 30\n"),
+    ] {
+        let err = folder.refused(2, &["new", "card", "--version", version, "--rule", &rule]);
+        let told = format!("--rule: the root's access rule {told}");
+        assert!(err.contains(&told), "{version}, {rule}: {err}");
     }
     assert!(folder.names().is_empty());
 }

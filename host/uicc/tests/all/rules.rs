@@ -112,8 +112,8 @@ fn an_expanded_template_is_told_in_words() {
     folder.done(&["run", "script", "--image", "card"]);
     let out = folder.fed(&["run", "-", "--image", "card"], "00A4000402 3F00 00\n").out;
     let told = "        rule (AB)   DELETE: always; \
-                TERMINATE, ACTIVATE, DEACTIVATE, DELETE CHILD: never; CREATE DF, CREATE EF: \
-                user authentication 1 or (external authentication 2 and secure messaging 2)\n";
+                TERMINATE, ACTIVATE, DEACTIVATE, DELETE CHILD: never; CREATE DF, CREATE EF:\n\
+                \x20                     user authentication 1 or (external authentication 2 and secure messaging 2)\n";
     assert!(out.contains(told), "{out}");
 }
 
@@ -148,6 +148,56 @@ fn a_wrong_rule_is_told_below_its_line() {
     assert_eq!(out.matches("6A80").count(), 4, "{out}");
 }
 
+/// A rule elsewhere, twice or nowhere, whatever the card's version.
+#[test]
+fn a_rule_that_is_not_found_is_told_below_its_line() {
+    let folder = folder("version-2-not-found");
+    for (rule, told) in [
+        ("8C020100AB0580017F9000", "the rule stands in 8C and in AB: one of them is wanted"),
+        ("AB0580017F90008C020100", "the rule stands in AB and in 8C: one of them is wanted"),
+        ("8C0201008C020100", "the rule stands in 8C and in 8C: one of them is wanted"),
+        ("", "no rule: neither 8C nor AB"),
+        ("8B036F0601", "8B (a rule in a file) is not taken"),
+        ("8C0201008B036F0601", "8B (a rule in a file) is not taken"),
+    ] {
+        folder.write("wrong", create("6F07", rule));
+        for version in ["1", "2"] {
+            let out = folder.done(&["run", "wrong", "--version", version]);
+            let lines: Vec<_> = out.lines().skip(1).collect();
+            assert_eq!(lines.len(), 3, "{out}");
+            assert!(lines[0].contains("CREATE FILE") && lines[0].contains("  6A80  "), "{out}");
+            assert_eq!(lines[1], format!("        rule        {told}"), "{out}");
+        }
+    }
+}
+
+/// What `DEEP` allows, behind so many columns, in two lines.
+fn deep_words(indent: usize) -> String {
+    format!(
+        "DELETE: user authentication 1 or (user authentication 2 and (user authentication 3 \
+         or (user authentication 4\n{:1$}and user authentication 5)))",
+        "",
+        indent + 2
+    )
+}
+
+/// In `show` and below a SELECT as in `rule`.
+#[test]
+fn a_long_rule_is_told_in_several_lines() {
+    let folder = Folder::new("version-2-long");
+    folder.done(&["new", "card", "--version", "2", "--slots", "4", "--rule", DEEP]);
+    let shown = folder.done(&["show", "card"]);
+    let wanted = format!("rule 1, of directories: {DEEP}\n      {}\n      TERM", deep_words(6));
+    assert!(shown.contains(&wanted), "{shown}");
+    let told = folder.fed(&["run", "-", "--image", "card"], "00A4000402 3F00 00\n").out;
+    let wanted = "        rule (AB)   DELETE: user authentication 1 or (user authentication 2 \
+                  and (user authentication 3\n\
+                  \x20                     or (user authentication 4 and user authentication 5)));";
+    assert!(told.contains(wanted), "{told}");
+    let lines: Vec<_> = shown.lines().chain(told.lines()).collect();
+    assert!(lines.iter().all(|line| line.len() <= 120), "{shown}{told}");
+}
+
 #[test]
 fn a_rule_is_explained() {
     let folder = Folder::new("explained");
@@ -176,9 +226,7 @@ fn a_rule_is_explained() {
     let bare: Vec<&str> = ["rule", "80 01 06", "9E0111", "AF06", "9E01229E0142"].to_vec();
     assert!(folder.done(&bare).contains("\n   7  AF06      or all of\n"));
     let deep = folder.done(&["rule", DEEP]);
-    let wanted = "  DELETE: user authentication 1 or (user authentication 2 and \
-                  (user authentication 3 or (user authentication 4 and user authentication 5)))\n";
-    assert!(deep.contains(wanted), "{deep}");
+    assert_eq!(deep.matches(&deep_words(2)).count(), 2, "{deep}");
     assert!(folder.done(&["rule", "06", "00FF"]).contains(
         "   1  06      CREATE DF, CREATE EF (file: WRITE, UPDATE)\n\
          \x20  2  00        CREATE DF (file: WRITE): always\n\
@@ -193,7 +241,8 @@ fn a_malformed_rule_is_refused() {
         (&["rule", "AB0380017F"][..], "byte 3 of 5: behind object 80 stands no condition"),
         (&["rule", "0300"], "byte 1 of 2: the AM byte 03 asks for 2 SC bytes: 1 follow"),
         (&["rule", "FF"], "byte 1 of 1: FF begins no rule"),
-        (&["rule", ""], "has no byte: a card takes 1 to 30"),
+        (&["rule", ""], "uicc: a rule has at least one byte\n"),
+        (&["rule", "AB8180017F9000"], "byte 2 of 7: the length 81 of object AB is over 7F"),
     ] {
         let err = folder.refused(1, arguments);
         assert!(err.contains(told), "{arguments:?}: {err}");

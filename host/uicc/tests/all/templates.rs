@@ -27,7 +27,8 @@ const TOLD: &str = "\
         life cycle  activated (05)
         name        A000000087
         rule (8C)   DELETE, TERMINATE, CREATE DF, DELETE CHILD: never; \
-ACTIVATE: external authentication 2 and user authentication 2; DEACTIVATE: always; \
+ACTIVATE: external authentication 2
+                      and user authentication 2; DEACTIVATE: always; \
 CREATE EF: user authentication 1
    4  DEACTIVATE FILE       9000  done
    5  SELECT 3F00           9000  done
@@ -46,7 +47,8 @@ DELETE CHILD: always
         life cycle  deactivated (04)
         name        A000000087
         rule (8C)   DELETE, TERMINATE, CREATE DF, DELETE CHILD: never; \
-ACTIVATE: external authentication 2 and user authentication 2; DEACTIVATE: always; \
+ACTIVATE: external authentication 2
+                      and user authentication 2; DEACTIVATE: always; \
 CREATE EF: user authentication 1
    7  SELECT 6F3A           9000  done
         data        621682044E21000A83026F3A8A01038C030313008002000A

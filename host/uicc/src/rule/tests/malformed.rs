@@ -24,8 +24,10 @@ fn what_is_wrong_with_a_compact_rule_is_told() {
         ("8C0401008601", "byte 5 of 6: the AM byte 86 has b8 set"),
         ("8C", "byte 1 of 1: behind the tag 8C a length is missing"),
         ("9E0111", "byte 1 of 3: 9E begins no rule"),
-        ("", "compact rule (8C) has no byte: a card takes 1 to 30"),
+        ("8C00", "compact rule (8C) has no byte: a card takes 1 to 30"),
+        ("8C800100", "byte 2 of 4: the length 80 of object 8C is over 7F"),
     ]);
+    assert_eq!(refused(""), "a rule has at least one byte");
     let long = refused(&"00".repeat(31));
     assert_eq!(long, "this compact rule (8C) has 31 bytes: a card takes 1 to 30");
 }
@@ -48,7 +50,11 @@ fn what_is_wrong_with_an_expanded_rule_is_told() {
         ("80017F A4029000", "byte 4 of 7: object A4 is no condition: 90, 97, 9E, A0 or AF"),
         ("AB0380017F9000", "byte 2 of 7: the length 03 of object AB is 3, and 5 follow"),
         ("AB00", "expanded rule (AB) has no byte: a card takes 1 to 30"),
+        ("AB8180017F9000", "byte 2 of 7: the length 81 of object AB is over 7F"),
     ]);
+    // Also where as many bytes follow.
+    let long = refused(&format!("AB80{}", "9000".repeat(64)));
+    assert_eq!(long, "byte 2 of 130: the length 80 of object AB is over 7F");
 }
 
 #[test]
