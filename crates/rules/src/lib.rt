@@ -3,7 +3,7 @@
 // "Descriptor and rules", and of "CREATE" what a descriptor, an identifier, a life cycle, a size and a record length
 // must obey wherever they stand.
 //
-// Nobody compares a life-cycle byte, takes a descriptor apart or reads a rule but through this crate.
+// Nobody compares a life-cycle byte or takes a descriptor apart but through this crate; rules of every form are asked through `access`.
 pub mod condition;
 pub mod descriptor;
 pub mod group;
