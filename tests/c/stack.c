@@ -13,8 +13,11 @@
 
 #define PAINT 0x5A
 #define SLOTS HULL_SLOTS_MOST
+#define TOTAL (64 * (SLOTS - 1))
 
 static uint8_t image[HULL_IMAGE_BYTES(SLOTS)];
+static uint8_t pool[TOTAL];
+static size_t pool_length;
 static uint8_t *stack;
 static size_t most;
 static ucontext_t here, there;
@@ -30,6 +33,9 @@ static const struct card cards[] = {
     {HULL_VERSION_2, HULL_EXPANDED, 0xAB, 30,
      {0x80, 0x01, 0x7F, 0xA0, 0x19, 0x97, 0x00, 0x97, 0x00, 0xAF, 0x13, 0x90, 0x00, 0xA0, 0x0F, 0x97, 0x00, 0xAF, 0x0B,
       0x90, 0x00, 0x90, 0x00, 0x90, 0x00, 0x90, 0x00, 0x9E, 0x01, 0x00}},
+    {HULL_VERSION_3, HULL_EXPANDED, 0xAB, 28,
+     {0x80, 0x01, 0x7F, 0xA0, 0x17, 0x97, 0x00, 0xAF, 0x13, 0x90, 0x00, 0xA0, 0x0F, 0x97, 0x00, 0xAF, 0x0B,
+      0x90, 0x00, 0x90, 0x00, 0x90, 0x00, 0x90, 0x00, 0x9E, 0x01, 0x00}},
 };
 static const struct card *made;
 
@@ -42,11 +48,12 @@ static uint32_t given;
 
 static void make(void)
 {
-    given = hull_make(image, sizeof image, made->kind, 64 * (SLOTS - 1), made->form, made->rule, made->rule_length);
+    given = hull_make(image, sizeof image, made->kind, TOTAL, made->form, made->rule, made->rule_length);
 }
 static void command(void)
 {
-    given = hull_command(image, sizeof image, bytes, length, response, response_length, 0, 0, 0, 0, numbers);
+    given = hull_command(image, sizeof image, pool_length == 0 ? NULL : pool, pool_length, bytes, length, response,
+                         response_length, 0, 0, 0, 0, numbers);
 }
 static void sound(void) { given = hull_sound(image, sizeof image); }
 static void report(void)
@@ -103,11 +110,49 @@ static size_t df(uint8_t *to, size_t level)
     return end;
 }
 
+/* CREATE of an EF of so many bytes in the current DF, which anybody may read and update. */
+static uint32_t ef(uint8_t identifier, size_t size)
+{
+    const uint8_t create[] = {0x00, 0xE0, 0x00, 0x00, 0x16, 0x62, 0x14, 0x82, 0x02, 0x41, 0x21, 0x83, 0x02, 0x6F,
+                              identifier, 0x8A, 0x01, 0x05, 0x8C, 0x03, 0x03, 0x00, 0x00, 0x80, 0x02,
+                              (uint8_t)(size >> 8), (uint8_t)size};
+    return play(create, sizeof create);
+}
+
+/* READ and UPDATE of the current EF, of 256 and of 255 bytes. */
+static void body(void)
+{
+    const uint8_t read[] = {0x00, 0xB0, 0x00, 0x00, 0x00};
+    static const uint8_t update[5 + 255] = {0x00, 0xD6, 0x00, 0x00, 0xFF};
+    must("READ", play(read, sizeof read), 0x9000);
+    must("what is read", numbers[0], 256);
+    must("a byte of a new body", response[255], 0xFF);
+    must("UPDATE", play(update, sizeof update), 0x9000);
+    response_length--;
+    must("READ with a short response", play(read, sizeof read), (uint32_t)HULL_SHORT_RESPONSE << 16);
+    response_length++;
+    pool_length--;
+    must("a pool of another length", play(read, sizeof read), (uint32_t)HULL_WRONG_POOL << 16);
+    pool_length++;
+}
+
+/* A CREATE for which bodies must be moved: the card is as long as it can be, and so is what is moved. */
+static void moving(void)
+{
+    const uint8_t erase[] = {0x00, 0xE4, 0x00, 0x00, 0x02, 0x6F, 0x01};
+    must("make", run(make), HULL_DONE);
+    must("CREATE of a first EF", ef(1, 1000), 0x9000);
+    must("CREATE of a large EF", ef(2, 60000), 0x9000);
+    must("DELETE of the first EF", play(erase, sizeof erase), 0x9000);
+    must("what was deleted", pool[0], 0x00);
+    must("CREATE that moves", ef(3, 5280), 0x9000);
+    must("what was moved", pool[0], 0xFF);
+    must("where a body starts then", (uint32_t)(image[16 + 64 * 2 + 62] << 8 | image[16 + 64 * 2 + 63]), 0);
+}
+
 /* Every call, on a card as deep as it can be. */
 static void calls(void)
 {
-    const uint8_t ef[] = {0x00, 0xE0, 0x00, 0x00, 0x15, 0x62, 0x13, 0x82, 0x02, 0x41, 0x21, 0x83, 0x02, 0x6F, 0x07, 0x8A,
-                          0x01, 0x05, 0x8C, 0x02, 0x01, 0x00, 0x80, 0x02, 0x00, 0x09};
     const uint8_t root[] = {0x00, 0xA4, 0x00, 0x0C, 0x02, 0x3F, 0x00}, erase[] = {0x00, 0xE4, 0x00, 0x00, 0x02, 0x70, 0x00};
     const uint8_t told[] = {0x00, 0xA4, 0x00, 0x04, 0x02, 0x3F, 0x00, 0x00};
     const uint8_t instructions[] = {0x04, 0x44, 0xE8, 0xE6};
@@ -115,9 +160,12 @@ static void calls(void)
     size_t level, i;
 
     response_length = sizeof response;
+    pool_length = made->kind == HULL_VERSION_3 ? sizeof pool : 0;
+    if (pool_length > 0) moving();
     must("make", run(make), HULL_DONE);
     for (level = 0; level < 900; level++) must("CREATE of a DF", play(directory, df(directory, level)), 0x9000);
-    must("CREATE of an EF", play(ef, sizeof ef), 0x9000);
+    must("CREATE of an EF", ef(7, 300), 0x9000);
+    if (pool_length > 0) body();
     must("report", run(report), HULL_DONE);
     must("sound", run(sound), 1);
     must("an empty command", play(NULL, 0), 0x6700);
@@ -131,7 +179,7 @@ static void calls(void)
     response_length = numbers[0] - 1;
     must("SELECT with a short response", play(told, sizeof told), (uint32_t)HULL_SHORT_RESPONSE << 16);
     must("DELETE", play(erase, sizeof erase), 0x9000);
-    bare[1] = 0xB0;
+    bare[1] = 0xB1;
     must("an unknown instruction", play(bare, sizeof bare), 0x6D00);
     bare[1] = 0xFE;
     must("TERMINATE CARD USAGE", play(bare, sizeof bare), 0x9000);

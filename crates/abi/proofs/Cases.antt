@@ -3,8 +3,6 @@ use native.Mathlib.Omega.{arith}
 use mathlib.Core.Path.{_≡_, sym, _∙_, ap}
 use mathlib.Core.List.{List}
 use Prim.Native.Nat.{ℕ, _<_}
-use Rattle.image.proofs.Versions.{longest-within}
-use Rattle.image.specs.Layout.{versionOf}
 use Rattle.maker.specs.declared.Edition.{Edition}
 use Rattle.verdict.specs.declared.State.{State}
 use Rattle.card.specs.declared.Reply.{Reply}
@@ -28,16 +26,17 @@ pub left-by : (r x : Made) (y img : List ℕ) (e : Edition) (total form : ℕ) (
 left-by r x y img e total form rule q h = q ∙ ap (λ (m : Made). leftBy m img e total form rule) h
 
 -- r is what the card answered: the case x, with its number and the three beside it
-module _ {img c o left y : List ℕ} {st : State} {r : Reply} (p : CommandPromises img c st o r left y) where
+module _ {img pool c o left kept y : List ℕ} {st : State} {r : Reply} (p : CommandPromises img pool c st o r left kept y) where
   pub commanded : {x : Reply} {n : ℕ} {numbers : List ℕ} → r ≡ x → n ≡ packed x → numbers ≡ toldNumbers x
-      → HullCommand img c st o n left y numbers
+      → HullCommand img pool c st o n left kept y numbers
   commanded e f g = record {
     result = f ∙ ap packed (sym e ∙ p .reply);
     image = p .image;
+    pool-is = p .pool-is;
     response-is = p .response-is;
     numbers-are = g ∙ ap toldNumbers (sym e ∙ p .reply);
   }
 
   -- what was told is few bytes
   pub told-narrow : {w n : ℕ} → r ≡ Word w n → n < 4294967296
-  told-narrow e = omega (arith, ap answerTold e, p .few, longest-within (versionOf img))
+  told-narrow e = omega (arith, ap answerTold e, p .few)

@@ -11,20 +11,21 @@ use Rattle.sound.specs.Sound.{soundb}
 use Rattle.maker.specs.Making.{madeNumber, madeOf, leftBy}
 use Rattle.maker.specs.Reporting.{reportedNumber, numbersOf, reportedOf}
 use Rattle.verdict.specs.declared.State.{State}
-use Rattle.card.specs.declared.Reply.the-variants.{Short}
-use Rattle.card.specs.Command.{answerNumber, answerWord, answerTold, replyOf, imageOf, responseOf}
+use Rattle.card.specs.declared.Reply.the-variants.{Short, WrongPool}
+use Rattle.card.specs.Command.{answerNumber, answerWord, answerTold, replyOf, imageOf, poolOf, responseOf}
 use Rattle.abi.specs.Numbers.{packed, toldNumbers}
 
 abbrev pub HullMake : List ℕ → Edition → ℕ → ℕ → List ℕ → ℕ → List ℕ → Type 0
 HullMake img e total form rule r left =
     (r ≡ madeNumber (madeOf img e total form rule)) × (left ≡ leftBy (madeOf img e total form rule) img e total form rule)
 
--- a command: its number, the image, the response and the three numbers
-pub record HullCommand (img c : List ℕ) (st : State) (response : List ℕ) (r : ℕ) (left answered numbers : List ℕ) : Type 0 where
-  pub result : r ≡ packed (replyOf img c st (length response))
-  pub image : left ≡ imageOf img c st (length response)
-  pub response-is : answered ≡ responseOf img c st response
-  pub numbers-are : numbers ≡ toldNumbers (replyOf img c st (length response))
+-- a command: its number, the image, the pool, the response and the three numbers
+pub record HullCommand (img pool c : List ℕ) (st : State) (response : List ℕ) (r : ℕ) (left kept answered numbers : List ℕ) : Type 0 where
+  pub result : r ≡ packed (replyOf img pool c st (length response))
+  pub image : left ≡ imageOf img pool c st (length response)
+  pub pool-is : kept ≡ poolOf img pool c st (length response)
+  pub response-is : answered ≡ responseOf img pool c st response
+  pub numbers-are : numbers ≡ toldNumbers (replyOf img pool c st (length response))
 
 abbrev pub HullReport : List ℕ → ℕ → List ℕ → Type 0
 HullReport img r numbers = (r ≡ reportedNumber (reportedOf img)) × (numbers ≡ numbersOf (reportedOf img))
@@ -36,23 +37,28 @@ HullSound img r = r ≡ cond (soundb img) 1 0
 pub record EachSettles : Type 0 where
   pub make : (img : List ℕ) (e : Edition) (total form : ℕ) (rule : List ℕ)
       → Settles (ℕ × List ℕ) (λ p. HullMake img e total form rule (p .0) (p .1))
-  pub command : (img c : List ℕ) (st : State) (response : List ℕ)
-      → Settles (ℕ × (List ℕ × (List ℕ × List ℕ))) (λ p. HullCommand img c st response (p .0) (p .1 .0) (p .1 .1 .0) (p .1 .1 .1))
+  pub command : (img pool c : List ℕ) (st : State) (response : List ℕ)
+      → Settles (ℕ × (List ℕ × (List ℕ × (List ℕ × List ℕ))))
+      (λ p. HullCommand img pool c st response (p .0) (p .1 .0) (p .1 .1 .0) (p .1 .1 .1 .0) (p .1 .1 .1 .1))
   pub report : (img : List ℕ) → Settles (ℕ × List ℕ) (λ p. HullReport img (p .0) (p .1))
   pub sound : (img : List ℕ) → Settles ℕ (HullSound img)
 
--- the numbers that C sees (`hull-numbers`): a command on a damaged image gives 65536, one whose data don't fit 327680, both with three
--- zeros, any other its word and how many bytes were told; hull_sound gives 1 for a sound image and 0 for any other. Those of hull_make
--- and hull_report are the maker's and the report's
--- (maker/specs, `MakerAnswers`, `ReportAnswers`)
+-- the numbers that C sees (`hull-numbers`): a command on a damaged image gives 65536, one whose data don't fit 327680, one with a pool of a
+-- wrong length 393216, each with three zeros, any other its word and how many bytes were told; hull_sound gives 1 for a sound image and 0
+-- for any other. Those of hull_make and hull_report are the maker's and the report's (maker/specs, `MakerAnswers`, `ReportAnswers`)
 pub record HullNumbers : Type 0 where
-  pub damaged : (img c : List ℕ) (st : State) (response : List ℕ) (r : ℕ) (left answered numbers : List ℕ)
-      → HullCommand img c st response r left answered numbers → soundb img ≡ false → (r ≡ 65536) × (numbers ≡ 0 ∷ 0 ∷ 0 ∷ [])
-  pub short : (img c : List ℕ) (st : State) (response : List ℕ) (r : ℕ) (left answered numbers : List ℕ)
-      → HullCommand img c st response r left answered numbers → replyOf img c st (length response) ≡ Short
+  pub damaged : (img pool c : List ℕ) (st : State) (response : List ℕ) (r : ℕ) (left kept answered numbers : List ℕ)
+      → HullCommand img pool c st response r left kept answered numbers → soundb img ≡ false
+      → (r ≡ 65536) × (numbers ≡ 0 ∷ 0 ∷ 0 ∷ [])
+  pub short : (img pool c : List ℕ) (st : State) (response : List ℕ) (r : ℕ) (left kept answered numbers : List ℕ)
+      → HullCommand img pool c st response r left kept answered numbers → replyOf img pool c st (length response) ≡ Short
       → (r ≡ 327680) × (numbers ≡ 0 ∷ 0 ∷ 0 ∷ [])
-  pub word : (img c : List ℕ) (st : State) (response : List ℕ) (r : ℕ) (left answered numbers : List ℕ)
-      → HullCommand img c st response r left answered numbers → answerNumber (replyOf img c st (length response)) ≡ 0
-      → (r ≡ answerWord (replyOf img c st (length response))) × (numbers ≡ answerTold (replyOf img c st (length response)) ∷ 0 ∷ 0 ∷ [])
+  pub wrong : (img pool c : List ℕ) (st : State) (response : List ℕ) (r : ℕ) (left kept answered numbers : List ℕ)
+      → HullCommand img pool c st response r left kept answered numbers → replyOf img pool c st (length response) ≡ WrongPool
+      → (r ≡ 393216) × (numbers ≡ 0 ∷ 0 ∷ 0 ∷ [])
+  pub word : (img pool c : List ℕ) (st : State) (response : List ℕ) (r : ℕ) (left kept answered numbers : List ℕ)
+      → HullCommand img pool c st response r left kept answered numbers → answerNumber (replyOf img pool c st (length response)) ≡ 0
+      → (r ≡ answerWord (replyOf img pool c st (length response)))
+      × (numbers ≡ answerTold (replyOf img pool c st (length response)) ∷ 0 ∷ 0 ∷ [])
   pub sound : (img : List ℕ) (r : ℕ) → HullSound img r → soundb img ≡ true → r ≡ 1
   pub unsound : (img : List ℕ) (r : ℕ) → HullSound img r → soundb img ≡ false → r ≡ 0

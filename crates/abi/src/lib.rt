@@ -23,11 +23,12 @@ pub extern "C" fn hull_make(image: &mut [u8], kind: u32, total: u32, form: u32, 
     }
 }
 
-// One command on an image: 65536 times the answer, plus the word; what it tells at the start of the response, and how many bytes that
-// is in the first of three numbers.
+// One command on an image and its pool: 65536 times the answer, plus the word; what it tells at the start of the response, and how many
+// bytes that is in the first of three numbers.
 #[no_mangle]
 pub extern "C" fn hull_command(
     image: &mut [u8],
+    pool: &mut [u8],
     command: &[u8],
     response: &mut [u8],
     messaging: u16,
@@ -36,8 +37,8 @@ pub extern "C" fn hull_command(
     channels: u8,
     numbers: &mut [u32; 3],
 ) -> u32
-    ensures { λ r. ⌜ HullCommand (now (image .entry)) (now (command .entry)) (stateOf messaging external user channels)
-        (now (response .entry)) r (now (image .exit)) (now (response .exit)) (now (numbers .exit)) ⌝ }
+    ensures { λ r. ⌜ HullCommand (now (image .entry)) (now (pool .entry)) (now (command .entry)) (stateOf messaging external user channels)
+        (now (response .entry)) r (now (image .exit)) (now (pool .exit)) (now (response .exit)) (now (numbers .exit)) ⌝ }
 {
     let sets = Sets {
         messaging: messaging,
@@ -48,7 +49,7 @@ pub extern "C" fn hull_command(
         sets: sets,
         channels: channels,
     };
-    let reply = card::command(image, command, response, state);
+    let reply = card::command(image, pool, command, response, state);
     match reply {
         Reply::Word { word, told } => {
             *numbers = [told as u32, 0, 0];
@@ -61,6 +62,10 @@ pub extern "C" fn hull_command(
         Reply::Short => {
             *numbers = [0, 0, 0];
             327680
+        }
+        Reply::WrongPool => {
+            *numbers = [0, 0, 0];
+            393216
         }
     }
 }

@@ -3,8 +3,9 @@ use Prim.Native.Nat.{ℕ, _+_, _/_, _%_}
 use mathlib.Core.Bool.{Bool, cond, not, _&&_, _||_}
 use mathlib.Core.List.{List}
 use lib.ListN.{length, getD}
-use lib.Dec.{eqb, leb}
+use lib.Dec.{eqb, ltb, leb}
 use Rattle.numbers.specs.Numbers.{u16At}
+use Rattle.image.specs.Layout.{hasBodies}
 use Rattle.verdict.specs.declared.State.{State}
 
 abbrev pub classByte : List ℕ → ℕ
@@ -48,17 +49,50 @@ terminateDf = 0xE6
 abbrev pub terminateCard : ℕ
 terminateCard = 0xFE
 
+-- the commands on bodies (02 Ticket 4)
+abbrev pub readBinary : ℕ
+readBinary = 0xB0
+
+abbrev pub updateBinary : ℕ
+updateBinary = 0xD6
+
+abbrev pub readRecord : ℕ
+readRecord = 0xB2
+
+abbrev pub updateRecord : ℕ
+updateRecord = 0xDC
+
+unfoldable pub isBinary : ℕ → Bool
+isBinary i = eqb i readBinary || eqb i updateBinary
+
+unfoldable pub isRecord : ℕ → Bool
+isRecord i = eqb i readRecord || eqb i updateRecord
+
+unfoldable pub isRead : ℕ → Bool
+isRead i = eqb i readBinary || eqb i readRecord
+
+unfoldable pub isUpdate : ℕ → Bool
+isUpdate i = eqb i updateBinary || eqb i updateRecord
+
+unfoldable pub isBody : ℕ → Bool
+isBody i = isBinary i || isRecord i
+
 unfoldable pub isTerminate : ℕ → Bool
 isTerminate i = eqb i terminateEf || (eqb i terminateDf || eqb i terminateCard)
 
-unfoldable pub isKnown : ℕ → Bool
-isKnown i =
+-- an instruction of 01
+unfoldable pub isOld : ℕ → Bool
+isOld i =
     eqb i selectFile
     || (eqb i createFile
     || (eqb i deleteFile
     || (eqb i activateFile
     || (eqb i deactivateFile
     || isTerminate i))))
+
+-- an instruction that a card of a version has
+unfoldable pub isKnown : ℕ → ℕ → Bool
+isKnown v i = isOld i || (hasBodies v && isBody i)
 
 -- CREATE, DELETE, TERMINATE are refused while another channel is open
 unfoldable pub wantsAlone : ℕ → Bool
@@ -75,9 +109,13 @@ crowded i st = wantsAlone i && otherChannel st
 unfoldable pub wantsTemplate : List ℕ → Bool
 wantsTemplate c = eqb (getD c 3 0) 0x04
 
--- P1 P2 are 00 00, of SELECT 00 0C or 00 04
+-- P1 P2 are 00 00, of SELECT 00 0C or 00 04, of READ and UPDATE BINARY a start under 8000; READ and UPDATE RECORD have P2 04
 unfoldable pub goodParameters : ℕ → ℕ → Bool
-goodParameters i p = cond (eqb i selectFile) (eqb p 0x000C || eqb p 0x0004) (eqb p 0x0000)
+goodParameters i p =
+    cond (eqb i selectFile) (eqb p 0x000C || eqb p 0x0004)
+    (cond (isBinary i) (ltb p 0x8000)
+    (cond (isRecord i) (eqb (p % 256) 0x04)
+    (eqb p 0x0000)))
 
 unfoldable pub fitParameters : List ℕ → Bool
 fitParameters c = goodParameters (instruction c) (parameters c)
@@ -93,13 +131,28 @@ isSeven c = eqb (length c) 7 && eqb (lc c) 2
 unfoldable pub isEight : List ℕ → Bool
 isEight c = eqb (length c) 8 && (eqb (lc c) 2 && eqb (getD c 7 0) 0x00)
 
--- CREATE 5+Lc with Lc at least 1; SELECT 8 with Lc 2 and Le 00 where P2 is 04, else 7 with Lc 2; DELETE 7 with Lc 2; others 4
+-- 5 bytes, the last of which is Le
+unfoldable pub isFive : List ℕ → Bool
+isFive c = eqb (length c) 5
+
+-- CREATE and UPDATE 5+Lc with Lc at least 1; READ 5; SELECT 8 with Lc 2 and Le 00 where P2 is 04, else 7 with Lc 2; DELETE 7 with Lc 2;
+-- others 4
 unfoldable pub fitLength : List ℕ → Bool
 fitLength c =
     cond (eqb (instruction c) createFile) (hasData c)
+    (cond (isUpdate (instruction c)) (hasData c)
+    (cond (isRead (instruction c)) (isFive c)
     (cond (eqb (instruction c) selectFile) (cond (wantsTemplate c) (isEight c) (isSeven c))
     (cond (eqb (instruction c) deleteFile) (isSeven c)
-    (eqb (length c) 4)))
+    (eqb (length c) 4)))))
+
+-- P1: the record that READ and UPDATE RECORD are about
+abbrev pub recordNumber : List ℕ → ℕ
+recordNumber c = getD c 2 0
+
+-- how many bytes of a body the command is about: a READ's Le, 00 being 256, an UPDATE's Lc
+unfoldable pub asked : List ℕ → ℕ
+asked c = cond (isRead (instruction c)) (cond (eqb (lc c) 0) 256 (lc c)) (lc c)
 
 -- CLA 01-03
 unfoldable pub onOtherChannel : ℕ → Bool

@@ -5,9 +5,11 @@ ghost use mathlib.Core.Bool.{cond};
 ghost use Prim.Native.Nat.{_≤_};
 ghost use lib.ListN.{length};
 ghost use Rattle.verdict.specs.Applied.{sentData};
-ghost use Rattle.apdu.specs.Apdu.{isTerminate, isKnown, wantsAlone, otherChannel, crowded, wantsTemplate, goodParameters};
-ghost use Rattle.apdu.specs.Apdu.{fitParameters, isSeven, isEight, hasData, fitLength, onOtherChannel, sentIdentifier};
+ghost use Rattle.apdu.specs.Apdu.{isTerminate, isOld, isKnown, wantsAlone, otherChannel, crowded, wantsTemplate, goodParameters};
+ghost use Rattle.apdu.specs.Apdu.{fitParameters, isSeven, isEight, isFive, hasData, fitLength, onOtherChannel, sentIdentifier};
 use verdict::State;
+
+pub mod bodies;
 
 // The instructions of 01 by their names, the same as in specs/Apdu.
 pub const SELECT_FILE: u8 = 0xA4;
@@ -38,8 +40,9 @@ fn is_terminate(i: u8) -> bool
     i == TERMINATE_CARD
 }
 
-pub fn is_known(i: u8) -> bool
-    ensures { λ r. ⌜ r ≡ isKnown i ⌝ }
+// An instruction of 01.
+fn is_old(i: u8) -> bool
+    ensures { λ r. ⌜ r ≡ isOld i ⌝ }
 {
     if i == SELECT_FILE {
         return true;
@@ -57,6 +60,19 @@ pub fn is_known(i: u8) -> bool
         return true;
     }
     is_terminate(i)
+}
+
+// An instruction that a card of version v has.
+pub fn is_known(v: u32, i: u8) -> bool
+    ensures { λ r. ⌜ r ≡ isKnown v i ⌝ }
+{
+    if is_old(i) {
+        return true;
+    }
+    if !image::version::has_bodies(v) {
+        return false;
+    }
+    bodies::is_body(i)
 }
 
 fn wants_alone(i: u8) -> bool
@@ -107,6 +123,12 @@ fn good_parameters(i: u8, p: u16) -> bool
         }
         return p == 0x0004;
     }
+    if bodies::is_binary(i) {
+        return p < 0x8000;
+    }
+    if bodies::is_record(i) {
+        return p % 256 == 0x04;
+    }
     p == 0x0000
 }
 
@@ -140,7 +162,14 @@ fn is_eight(command: &[u8]) -> bool
     command[7] == 0x00
 }
 
-// 5 + Lc bytes with Lc at least 1: CREATE.
+// Five bytes: READ.
+fn is_five(command: &[u8]) -> bool
+    ensures { λ r. ⌜ r ≡ isFive (now (command .entry)) ⌝ }
+{
+    command.len() == 5
+}
+
+// 5 + Lc bytes with Lc at least 1: CREATE, UPDATE.
 fn has_data(command: &[u8]) -> bool
     ensures { λ r. ⌜ r ≡ hasData (now (command .entry)) ⌝ }
 {
@@ -169,6 +198,12 @@ pub fn fit_length(command: &[u8]) -> bool
     if i == CREATE_FILE {
         return has_data(command);
     }
+    if bodies::is_update(i) {
+        return has_data(command);
+    }
+    if bodies::is_read(i) {
+        return is_five(command);
+    }
     if i == SELECT_FILE {
         return select_length(command);
     }
@@ -195,7 +230,7 @@ pub fn sent_identifier(command: &[u8]) -> u16
     numbers::u16_at(command, 5)
 }
 
-// CREATE's data: a part of the command.
+// The data of CREATE and UPDATE: a part of the command.
 pub fn sent_data(command: &[u8]) -> &[u8]
     requires { ⌜ 5 ≤ length (now command) ⌝ }
     ensures { λ r. ⌜ now r ≡ sentData (now (command .entry)) ⌝ }

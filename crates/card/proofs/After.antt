@@ -11,22 +11,20 @@ use borrow.Author.Tests.{eq-eqb, ne-eqb}
 use Rattle.laws.proofs.Says.{same-or}
 use Rattle.laws.proofs.Splices.{getD-part}
 use Rattle.image.specs.declared.Head.{Head}
-use Rattle.image.specs.Layout.{versionOf, Within, recAt, recordBytes, putRecord, setLife, countOf, currentDfOf}
+use Rattle.image.specs.Layout.{Within, recAt, setLife, countOf, currentDfOf}
 use Rattle.image.specs.Layout.{currentEfOf}
-use Rattle.image.proofs.Records.{record-same, record-other}
-use Rattle.image.proofs.Made.{length-made}
 use Rattle.image.proofs.Lives.{life-same, life-other}
-use Rattle.image.proofs.Headers.{SameFront, SameHeader, same-front, same-df, same-ef, front-refl, front-trans, header-put, header-life}
+use Rattle.image.proofs.Headers.{SameFront, SameHeader, same-front, same-df, same-ef, front-refl, front-trans, header-life}
 use Rattle.image.proofs.Headers.{front-current, current-byte, df-current, ef-current, record-current}
-use Rattle.access.proofs.Fits.{fits-short}
 use Rattle.sound.specs.Table.{viewAt}
 use Rattle.sound.specs.Sound.{Sound}
 use Rattle.sound.specs.Kinship.{atOrBeneath}
-use Rattle.sound.specs.Effects.{Creates, clearBelow, created, deleted}
+use Rattle.sound.specs.Effects.{Creates, clearBelow, made, newBytes, otherRecord, deleted}
 use Rattle.sound.proofs.Front.{sound-sized, sound-within}
 use Rattle.sound.proofs.Cleared.{header-clear, record-clear}
+use Rattle.sound.proofs.Made.{record-made, other-made, front-made, byte-made, df-made, ef-made}
 use Rattle.verdict.specs.declared.Verdict.{Verdict}
-use Rattle.verdict.specs.declared.Verdict.the-variants.{Refuse, Select, Create, Delete, SetLife}
+use Rattle.verdict.specs.declared.Verdict.the-variants.{Refuse, Select, Create, Delete, SetLife, Read, Update}
 use Rattle.verdict.specs.Applied.{appliedOf}
 use Rattle.card.specs.After.{recordAfter, currentAfter, dfAfter, efAfter}
 use Rattle.card.proofs.Tells.{Tells}
@@ -39,31 +37,12 @@ module _ (img c : List ℕ) (sound : Sound img) where
   header-long = omega (arith, sound .header .long)
 
   -- CREATE
-  module _ (s : ℕ) (h : Head) (name rule : List ℕ) (low : s < countOf img) (k : Creates img s h name rule) where
-    whole : length (recordBytes (versionOf img) h name rule) ≡ 64
-    whole = length-made (versionOf img) h name rule (k .good .name-short) (fits-short (versionOf img) (h .form) rule (k .good .formed))
-
-    put : SameHeader img (putRecord img s (recordBytes (versionOf img) h name rule))
-    put = header-put img s (recordBytes (versionOf img) h name rule) (within s low) whole
-
-    put-long : 16 ≤ length (putRecord img s (recordBytes (versionOf img) h name rule))
-    put-long = omega (arith, put .long, header-long)
-
-    created-front : SameFront img (created img s h name rule)
-    unfolding created
-    created-front = front-trans img _ _ (same-front img _ put) (front-current _ _ _ put-long)
-
-    created-record : (t : ℕ) → t < countOf img
-        → recAt (created img s h name rule) t ≡ cond (eqb t s) (recordBytes (versionOf img) h name rule) (recAt img t)
-    unfolding created
-    created-record t l =
-        record-current _ _ _ put-long t (omega (arith, put .long, within t l .0))
-        ∙ ⊎-elim
-        (λ e. ap (λ (x : ℕ). recAt (putRecord img s (recordBytes (versionOf img) h name rule)) x) e
-        ∙ record-same img s _ (within s low) whole
-        ∙ sym (rw (eq-eqb t s e)))
-        (λ z. record-other img s _ (within s low) whole t (within t l) z ∙ sym (rw (ne-eqb t s z)))
-        (same-or t s)
+  made-record : (s : ℕ) (h : Head) (name rule : List ℕ) → Creates img s h name rule → (t : ℕ) → t < countOf img
+      → recAt (made img s h name rule) t ≡ cond (eqb t s) (newBytes img h name rule) (otherRecord img h t)
+  made-record s h name rule k t l = ⊎-elim
+      (λ e. ap (λ (x : ℕ). recAt (made img s h name rule) x) e ∙ record-made img s h name rule sound k ∙ sym (rw (eq-eqb t s e)))
+      (λ z. other-made img s h name rule sound k t l z ∙ sym (rw (ne-eqb t s z)))
+      (same-or t s)
 
   -- DELETE
   module _ (d : ℕ) where
@@ -94,41 +73,51 @@ module _ (img c : List ℕ) (sound : Sound img) where
   pub records-after : (v : Verdict) → Tells img c v → (t : ℕ) → t < countOf img → recAt (appliedOf img c v) t ≡ recordAfter img c v t
   records-after (Refuse w) k t l = refl
   records-after (Select d e w) k t l = record-current img d e header-long t (within t l .0)
-  records-after (Create x) k t l = created-record (x .slot) (x .head) _ _ (k .0 .low) (k .1) t l
+  records-after (Create x) k t l = made-record (x .slot) (x .head) _ _ (k .1) t l
   records-after (Delete s) k t l = deleted-record s t l
   records-after (SetLife s life) k t l = lived-record s life (k .0 .low) t l
+  records-after (Read at n) k t l = refl
+  records-after (Update at) k t l = refl
 
   -- mark, version, slot count, zeros and the length are as they were
   pub front-after : (v : Verdict) → Tells img c v → SameFront img (appliedOf img c v)
   front-after (Refuse w) k = front-refl img
   front-after (Select d e w) k = front-current img d e header-long
-  front-after (Create x) k = created-front (x .slot) (x .head) _ _ (k .0 .low) (k .1)
+  front-after (Create x) k = front-made img (x .slot) (x .head) _ _ sound (k .1)
   front-after (Delete s) k = deleted-front s
   front-after (SetLife s life) k = same-front img _ (header-life img s life (within s (k .0 .low)))
+  front-after (Read at n) k = front-refl img
+  front-after (Update at) k = front-refl img
 
   -- the four bytes that tell what is current
   pub current-after : (v : Verdict) → Tells img c v → (k : ℕ) → k < 4 → getD (appliedOf img c v) (7 + k) 0 ≡ getD (currentAfter img v) k 0
-  unfolding created deleted
+  unfolding deleted
   current-after (Refuse w) t k l = sym (getD-part img 7 4 k l)
   current-after (Select d e w) t k l = current-byte img d e header-long k l
-  current-after (Create x) t k l = current-byte _ _ _ (put-long (x .slot) (x .head) _ _ (t .0 .low) (t .1)) k l
+  current-after (Create x) t k l = byte-made img (x .slot) (x .head) _ _ sound (t .1) k l
   current-after (Delete s) t k l = current-byte _ _ _ (cleared-long s) k l
   current-after (SetLife s life) t k l =
       header-life img s life (within s (t .0 .low)) .bytes (7 + k) (omega arith) ∙ sym (getD-part img 7 4 k l)
+  current-after (Read at n) t k l = sym (getD-part img 7 4 k l)
+  current-after (Update at) t k l = sym (getD-part img 7 4 k l)
 
   -- the current DF and the current EF
   pub df-after : (v : Verdict) → Tells img c v → currentDfOf (appliedOf img c v) ≡ dfAfter img v
-  unfolding created deleted
+  unfolding deleted
   df-after (Refuse w) k = refl
   df-after (Select d e w) k = df-current img d e header-long
-  df-after (Create x) k = df-current _ _ _ (put-long (x .slot) (x .head) _ _ (k .0 .low) (k .1))
+  df-after (Create x) k = df-made img (x .slot) (x .head) _ _ sound (k .1)
   df-after (Delete s) k = df-current _ _ _ (cleared-long s)
   df-after (SetLife s life) k = same-df img _ (header-life img s life (within s (k .0 .low)))
+  df-after (Read at n) k = refl
+  df-after (Update at) k = refl
 
   pub ef-after : (v : Verdict) → Tells img c v → currentEfOf (appliedOf img c v) ≡ efAfter img v
-  unfolding created deleted
+  unfolding deleted
   ef-after (Refuse w) k = refl
   ef-after (Select d e w) k = ef-current img d e header-long
-  ef-after (Create x) k = ef-current _ _ _ (put-long (x .slot) (x .head) _ _ (k .0 .low) (k .1))
+  ef-after (Create x) k = ef-made img (x .slot) (x .head) _ _ sound (k .1)
   ef-after (Delete s) k = ef-current _ _ _ (cleared-long s)
   ef-after (SetLife s life) k = same-ef img _ (header-life img s life (within s (k .0 .low)))
+  ef-after (Read at n) k = refl
+  ef-after (Update at) k = refl

@@ -1,6 +1,6 @@
 -- The tests that judging makes, each beside the sentence that it stands for (specs/Conditions).
 use mathlib.Core.Path.{_≡_, refl, sym, ap, _∙_}
-use mathlib.Core.Bool.{Bool, true, false, not, cond, false≢true}
+use mathlib.Core.Bool.{Bool, true, false, not, cond, _||_, false≢true}
 use mathlib.Core.List.{List}
 use mathlib.Core.Logic.{_↔_, _⊎_, inl, inr, ⊎-elim}
 use Prim.Native.Nat.{ℕ, suc, _+_, _*_, _/_, _%_, _<_, _≤_}
@@ -26,7 +26,7 @@ use Rattle.verdict.specs.declared.State.{State}
 use Rattle.judge_target.specs.Target.{lifeAt, allowedAt, describes}
 use Rattle.apdu.specs.Apdu.{instruction, lc, onOtherChannel, isKnown, wantsAlone, otherChannel, crowded}
 use Rattle.apdu.specs.Apdu.{wantsTemplate, goodParameters, fitParameters, hasData, isSeven, isEight, fitLength, selectFile, createFile}
-use Rattle.apdu.specs.Apdu.{deleteFile}
+use Rattle.apdu.specs.Apdu.{deleteFile, isBody, isBinary, isRecord, isRead, isUpdate}
 use Rattle.judge_create.specs.Creation.{takesFiles}
 use Rattle.judge_commands.specs.Commands.{mayDelete}
 use Rattle.card.specs.Conditions.{NoneTerminated, FreeIdentifier, AsksTemplate, SelectLong}
@@ -85,10 +85,29 @@ pair-says c p l = (
   (λ h. let e : getD c 2 0 * 256 + getD c 3 0 ≡ p = omega (arith, h .0, h .1) in eq-says _ _ .1 e),
 )
 
+-- an instruction that is none on bodies
+pub record Bodiless (i : ℕ) : Type 0 where
+  pub binary : isBinary i ≡ false
+  pub records : isRecord i ≡ false
+  pub read : isRead i ≡ false
+  pub update : isUpdate i ≡ false
+
+neither : (a b : Bool) → (a || b) ≡ false → (a ≡ false) × (b ≡ false)
+neither true b h = absurd (false≢true (sym h))
+neither false b h = (refl, h)
+
+pub bodiless : (i : ℕ) → isBody i ≡ false → Bodiless i
+unfolding isBody isBinary isRecord isRead isUpdate
+bodiless i h =
+    let both = neither (eqb i 0xB0 || eqb i 0xD6) (eqb i 0xB2 || eqb i 0xDC) h in
+    let a = neither (eqb i 0xB0) (eqb i 0xD6) (both .0) in
+    let b = neither (eqb i 0xB2) (eqb i 0xDC) (both .1) in
+    record { binary = both .0; records = both .1; read = rw (a .0, b .0); update = rw (a .1, b .1) }
+
 -- C to G, by the instruction i of the command
 module _ (c : List ℕ) (st : State) (i : ℕ) (e : instruction c ≡ i) where
-  pub known : isKnown i ≡ true → isKnown (instruction c) ≡ true
-  known k = ap isKnown e ∙ k
+  pub known : (v : ℕ) → isKnown v i ≡ true → isKnown v (instruction c) ≡ true
+  known v k = ap (isKnown v) e ∙ k
 
   pub calm : wantsAlone i ≡ false → not (crowded (instruction c) st) ≡ true
   unfolding crowded
@@ -98,9 +117,9 @@ module _ (c : List ℕ) (st : State) (i : ℕ) (e : instruction c ≡ i) where
   unfolding crowded otherChannel
   alone-says w = rw (e, w) ((λ h. eq-says _ _ .0 (not-twice _ .0 h)), (λ h. not-twice _ .1 (eq-says _ _ .1 h)))
 
-  pub parameters-say : eqb i selectFile ≡ false → (fitParameters c ≡ true) ↔ ((getD c 2 0 ≡ 0x00) × (getD c 3 0 ≡ 0x00))
+  pub parameters-say : eqb i selectFile ≡ false → Bodiless i → (fitParameters c ≡ true) ↔ ((getD c 2 0 ≡ 0x00) × (getD c 3 0 ≡ 0x00))
   unfolding fitParameters goodParameters
-  parameters-say q = rw (e, q) (pair-says c 0x00 (omega arith))
+  parameters-say q b = rw (e, q, b .binary, b .records) (pair-says c 0x00 (omega arith))
 
 -- F of SELECT: one of two
 pub select-parameters : (c : List ℕ) → instruction c ≡ selectFile
@@ -137,7 +156,7 @@ unfolding wantsTemplate
 template-says c = eq-says _ _
 
 pub select-length : (c : List ℕ) → instruction c ≡ selectFile → (fitLength c ≡ true) ↔ SelectLong c
-unfolding fitLength
+unfolding fitLength isUpdate isRead
 select-length c e = rw e (go (wantsTemplate c) refl)
   where
     go : (b : Bool) → wantsTemplate c ≡ b → (cond b (isEight c) (isSeven c) ≡ true) ↔ SelectLong c
@@ -151,13 +170,13 @@ select-length c e = rw e (go (wantsTemplate c) refl)
     )
 
 pub delete-length : (c : List ℕ) → instruction c ≡ deleteFile → (fitLength c ≡ true) ↔ ((length c ≡ 7) × (lc c ≡ 2))
-unfolding fitLength
+unfolding fitLength isUpdate isRead
 delete-length c e = rw e (seven-says c)
 
 pub four-says : (c : List ℕ) (i : ℕ) → instruction c ≡ i → eqb i createFile ≡ false → eqb i selectFile ≡ false → eqb i deleteFile ≡ false
-    → (fitLength c ≡ true) ↔ (length c ≡ 4)
+    → Bodiless i → (fitLength c ≡ true) ↔ (length c ≡ 4)
 unfolding fitLength
-four-says c i e p q r = rw (e, p, q, r) (eq-says _ _)
+four-says c i e p q r b = rw (e, p, q, r, b .read, b .update) (eq-says _ _)
 
 -- H: data that are good describe a file
 good-file : (new : Data) → (describes new ≡ true) ↔ (new ≡ Bad → ⊥)

@@ -5,44 +5,50 @@ use mathlib.Core.List.{List, [], _∷_, _++_}
 use mathlib.Core.Logic.{_⊎_, inl, inr, ⊎-elim}
 use Prim.Native.Nat.{ℕ}
 use native.Mathlib.Omega.{arith}
-use lib.Dec.{eqb, leb}
+use lib.Dec.{eqb, leb, ltb}
 use lib.ListN.{length}
-use borrow.Author.Tests.{eqb-true, ne-eqb, le-leb}
+use borrow.Author.Tests.{eqb-true, ne-eqb, le-leb, ltb-true}
+use Rattle.laws.specs.declared.Found.{Found}
+use Rattle.laws.specs.declared.Found.the-variants.{At, Nothing}
 use Rattle.laws.specs.Lists.{splice}
 use Rattle.laws.proofs.Says.{and-says}
 use Rattle.laws.proofs.Splices.{splice-nil}
 use Rattle.laws.proofs.Firsts.{first-is}
 use Rattle.rules.specs.Life.{isTerminated}
 use Rattle.image.specs.declared.Head.{Head}
-use Rattle.image.specs.Layout.{recAt, freeBytes, kindOf, lifeCycleOf, countOf, currentDfOf}
-use Rattle.image.proofs.Headers.{same-count}
+use Rattle.image.specs.Layout.{versionOf, recAt, freeBytes, kindOf, lifeCycleOf, countOf, currentDfOf}
+use Rattle.image.proofs.Places.{length-record}
+use Rattle.image.proofs.Starts.{byte-kept}
+use Rattle.pool.specs.Bodies.{bodyOf, bodyAt}
+use Rattle.image.proofs.Headers.{same-version, same-count}
 use Rattle.sound.specs.Sound.{Sound}
 use Rattle.sound.specs.Table.{viewAt}
 use Rattle.sound.specs.Kinship.{terminatedAt, atOrBeneath, freeSlot}
-use Rattle.sound.specs.Effects.{Creates}
+use Rattle.sound.specs.Effects.{newBody, newGap, keptRecord, otherRecord, Creates}
+use Rattle.sound.proofs.Front.{sound-within}
 use Rattle.verdict.specs.declared.State.{State}
 use Rattle.verdict.specs.declared.Verdict.{Verdict}
-use Rattle.verdict.specs.declared.Verdict.the-variants.{Refuse, Select, Create, Delete, SetLife}
-use Rattle.verdict.specs.Applied.{wordOf, appliedOf}
+use Rattle.verdict.specs.declared.Verdict.the-variants.{Refuse, Select, Create, Delete, SetLife, Read, Update}
+use Rattle.verdict.specs.Applied.{wordOf, appliedOf, pooledOf}
 use Rattle.judge_target.specs.Steps.{Step, judged, allHold, followed}
 use Rattle.judge.specs.Shared.{sharedSteps}
 use Rattle.judge.specs.Judge.{planFor, judgeFor, judgeOf}
 use Rattle.effect.specs.Told.{told}
 use Rattle.card.specs.declared.Reply.the-variants.{Word, Short}
-use Rattle.card.specs.Command.{answerWord, fits, dueOf, replyOf}
+use Rattle.card.specs.Command.{answerWord, PoolFits, fits, dueOf, replyOf}
 use Rattle.card.specs.Steps.{stepsOf, lastStep, allSteps, effectOf, firstFailing}
 use Rattle.card.specs.Obeyed.{refusal, isOneOf}
 use Rattle.card.specs.After.{recordAfter}
 use Rattle.card.specs.Demands.{Succeeds, wordsOfTable, RepliesInOrder, SucceedsExactly, EffectAndNoOther, Deleting, imageAfter}
-use Rattle.card.specs.Demands.{TerminatedStays, TerminatedForGood}
-use Rattle.card.proofs.Steps.{judged-append, judged-all, judged-first}
+use Rattle.card.specs.Demands.{SameButStart, Call, TerminatedStays, TerminatedForGood}
+use Rattle.card.proofs.Steps.{cond-by, judged-append, judged-all, judged-first}
 use Rattle.card.proofs.Tells.{Tells}
 use Rattle.card.proofs.Speaks.{plan-acts, succeeds}
 use Rattle.card.proofs.After.{records-after, front-after, current-after, df-after, ef-after}
 use Rattle.card.proofs.Words.{judge-worded}
 use Rattle.card.proofs.Ordered.{Erases, Ordered}
-use Rattle.card.proofs.Due.{due-tells, due-speaks, due-ordered, due-fit, due-unfit}
-use Rattle.card.proofs.Answered.{image-is, reply-is, word-is, response-is, stays-sound}
+use Rattle.card.proofs.Due.{pool-says, due-tells, due-speaks, due-ordered, due-fit, due-unfit}
+use Rattle.card.proofs.Answered.{image-is, pool-is, reply-is, word-is, response-is, stays-sound}
 
 -- the verdict: the effect where all steps hold, else a refusal with the word of the first that fails
 pub judged-in-order : (img c : List ℕ) (st : State)
@@ -67,67 +73,73 @@ both-hold (s ∷ xs) ys h =
     (and-says (s .holds) (allHold xs) .1 (p .0, q .0), q .1)
 
 -- the verdict that stands is judged by all steps, the last check among them
-due-judged : (img c : List ℕ) (st : State) (lent : ℕ) → dueOf img c st lent ≡ judged (allSteps img c st lent) (effectOf img c st)
+due-judged : (img pool c : List ℕ) (st : State) (lent : ℕ) → PoolFits img pool
+    → dueOf img pool c st lent ≡ judged (allSteps img pool c st lent) (effectOf img c st)
 unfolding dueOf fits
-due-judged img c st lent = ⊎-elim hold fail (all-or-not (allHold (stepsOf img c st)))
+due-judged img pool c st lent k = rw (pool-says img pool .1 k) (⊎-elim hold fail (all-or-not (allHold (stepsOf img c st))))
   where
     last : List Step
-    last = lastStep img c st lent ∷ []
+    last = lastStep img pool c st lent ∷ []
 
-    apart : judged (allSteps img c st lent) (effectOf img c st) ≡ judged (stepsOf img c st) (judged last (effectOf img c st))
+    apart : judged (allSteps img pool c st lent) (effectOf img c st) ≡ judged (stepsOf img c st) (judged last (effectOf img c st))
     apart = judged-append (stepsOf img c st) last (effectOf img c st)
 
     stands : Verdict → Verdict
-    stands v = cond (leb (length (told img c v)) lent) v (Refuse 0x0000)
+    stands v = cond (leb (length (told img pool c v)) lent) v (Refuse 0x0000)
 
-    hold : allHold (stepsOf img c st) ≡ true → stands (judgeOf img c st) ≡ judged (allSteps img c st lent) (effectOf img c st)
+    hold : allHold (stepsOf img c st) ≡ true → stands (judgeOf img c st) ≡ judged (allSteps img pool c st lent) (effectOf img c st)
     hold h = ap stands (judged-in-order img c st .0 h) ∙ sym (judged-all (stepsOf img c st) (judged last (effectOf img c st)) h) ∙ sym apart
 
-    fail : allHold (stepsOf img c st) ≡ false → stands (judgeOf img c st) ≡ judged (allSteps img c st lent) (effectOf img c st)
+    fail : allHold (stepsOf img c st) ≡ false → stands (judgeOf img c st) ≡ judged (allSteps img pool c st lent) (effectOf img c st)
     fail h =
         ap stands (judged-in-order img c st .1 h) ∙ rw (le-leb 0 lent (omega arith)) refl
         ∙ sym (judged-first (stepsOf img c st) (judged last (effectOf img c st)) h) ∙ sym apart
 
-module _ (img c : List ℕ) (st : State) (lent : ℕ) where
-  pub due-in-order : (allHold (allSteps img c st lent) ≡ true → dueOf img c st lent ≡ effectOf img c st)
-      × (allHold (allSteps img c st lent) ≡ false → dueOf img c st lent ≡ Refuse (firstFailing (allSteps img c st lent)))
-  due-in-order =
-      let e = due-judged img c st lent in
-      let steps = allSteps img c st lent in
+module _ (img pool c : List ℕ) (st : State) (lent : ℕ) where
+  pub due-in-order : PoolFits img pool → (allHold (allSteps img pool c st lent) ≡ true → dueOf img pool c st lent ≡ effectOf img c st)
+      × (allHold (allSteps img pool c st lent) ≡ false → dueOf img pool c st lent ≡ Refuse (firstFailing (allSteps img pool c st lent)))
+  due-in-order k =
+      let e = due-judged img pool c st lent k in
+      let steps = allSteps img pool c st lent in
       ((λ h. e ∙ judged-all steps (effectOf img c st) h), (λ h. e ∙ judged-first steps (effectOf img c st) h))
 
   -- where all hold, the last check does
-  all-fit : allHold (allSteps img c st lent) ≡ true → fits img c st lent ≡ true
+  all-fit : allHold (allSteps img pool c st lent) ≡ true → fits img pool c st lent ≡ true
   unfolding fits
   all-fit h =
-      let p = both-hold (stepsOf img c st) (lastStep img c st lent ∷ []) h in
+      let p = both-hold (stepsOf img c st) (lastStep img pool c st lent ∷ []) h in
       rw (judged-in-order img c st .0 (p .0)) (and-says _ _ .0 (p .1) .0)
 
   -- a refusal with its word, or answer 5
-  refused-as : Sound img → (w : ℕ) → dueOf img c st lent ≡ Refuse w → replyOf img c st lent ≡ refusal w
-  refused-as sound w e = reply-is img c st lent sound ∙ go (fits img c st lent) refl
+  refused-as : Sound img → PoolFits img pool → (w : ℕ) → dueOf img pool c st lent ≡ Refuse w → replyOf img pool c st lent ≡ refusal w
+  refused-as sound k w e = reply-is img pool c st lent sound ∙ rw (pool-says img pool .1 k) (go (fits img pool c st lent) refl)
     where
       worded : (n : ℕ) → isOneOf n wordsOfTable ≡ true → eqb n 0x0000 ≡ false
       worded n h = ne-eqb n 0x0000 (λ z. false≢true (rw z at h))
 
-      go : (b : Bool) → fits img c st lent ≡ b
-          → cond b (Word (wordOf (dueOf img c st lent)) (length (told img c (dueOf img c st lent)))) Short ≡ refusal w
+      go : (b : Bool) → fits img pool c st lent ≡ b
+          → cond b (Word (wordOf (dueOf img pool c st lent)) (length (told img pool c (dueOf img pool c st lent)))) Short ≡ refusal w
       go true q =
-          let n = worded w (rw (sym (due-fit img c st lent q) ∙ e) at (judge-worded img c st)) in
+          let n = worded w (rw (sym (due-fit img pool c st lent k q) ∙ e) at (judge-worded img c st)) in
           rw (e, n) refl
-      go false q = let z : w ≡ 0x0000 = ap wordOf (sym e ∙ due-unfit img c st lent q) in rw z refl
+      go false q = let z : w ≡ 0x0000 = ap wordOf (sym e ∙ due-unfit img pool c st lent q) in rw z refl
 
 pub replies-in-order : RepliesInOrder
-replies-in-order img c st response sound = (
-  (λ h. let e = due-in-order img c st (length response) .0 h in (
-    reply-is img c st (length response) sound ∙ rw (all-fit img c st (length response) h, e) refl,
-    image-is img c st (length response) sound ∙ ap (appliedOf img c) e,
-    response-is img c st response sound ∙ ap (λ (v : Verdict). splice response 0 (told img c v)) e,
+replies-in-order img pool c st response sound k = (
+  (λ h. let e = due-in-order img pool c st (length response) k .0 h in (
+    reply-is img pool c st (length response) sound ∙ rw (pool-says img pool .1 k, all-fit img pool c st (length response) h, e) refl,
+    image-is img pool c st (length response) sound ∙ ap (appliedOf img c) e,
+    pool-is img pool c st (length response) sound ∙ ap (pooledOf img pool c) e,
+    response-is img pool c st response sound ∙ ap (λ (v : Verdict). splice response 0 (told img pool c v)) e,
   )),
-  (λ h. let e = due-in-order img c st (length response) .1 h in (
-    refused-as img c st (length response) sound _ e,
-    image-is img c st (length response) sound ∙ ap (appliedOf img c) e,
-    response-is img c st response sound ∙ ap (λ (v : Verdict). splice response 0 (told img c v)) e ∙ splice-nil response 0,
+  (λ h. let e = due-in-order img pool c st (length response) k .1 h in (
+    refused-as img pool c st (length response) sound k _ e,
+    record {
+      image = image-is img pool c st (length response) sound ∙ ap (appliedOf img c) e;
+      bodies = pool-is img pool c st (length response) sound ∙ ap (pooledOf img pool c) e;
+      answered = response-is img pool c st response sound ∙ ap (λ (v : Verdict). splice response 0 (told img pool c v)) e
+          ∙ splice-nil response 0;
+    },
   )),
 )
 
@@ -136,36 +148,36 @@ new-free : (img : List ℕ) (s : ℕ) (h : Head) (name rule : List ℕ) → Crea
 unfolding freeSlot
 new-free img s h name rule k = eqb-true _ _ (first-is (countOf img) (λ t. eqb (viewAt img t .kind) 0) s (k .slot) .here)
 
-own-hold : (img c : List ℕ) (st : State) (lent : ℕ) → allHold (allSteps img c st lent) ≡ true
+own-hold : (img pool c : List ℕ) (st : State) (lent : ℕ) → allHold (allSteps img pool c st lent) ≡ true
     → allHold (planFor img (countOf img) (currentDfOf img) c st .steps) ≡ true
-own-hold img c st lent h =
+own-hold img pool c st lent h =
     both-hold (sharedSteps img c st) (planFor img (countOf img) (currentDfOf img) c st .steps)
-    (both-hold (stepsOf img c st) (lastStep img c st lent ∷ []) h .0) .1
+    (both-hold (stepsOf img c st) (lastStep img pool c st lent ∷ []) h .0) .1
 
 pub succeeds-exactly : SucceedsExactly
-succeeds-exactly img c st lent sound = (all-hold, succeeded)
+succeeds-exactly img pool c st lent sound fit = (all-hold, succeeded)
   where
-    word : answerWord (replyOf img c st lent) ≡ wordOf (dueOf img c st lent)
-    word = word-is img c st lent sound
+    word : answerWord (replyOf img pool c st lent) ≡ wordOf (dueOf img pool c st lent)
+    word = word-is img pool c st lent sound
 
-    all-hold : allHold (allSteps img c st lent) ≡ true → Succeeds (answerWord (replyOf img c st lent))
+    all-hold : allHold (allSteps img pool c st lent) ≡ true → Succeeds (answerWord (replyOf img pool c st lent))
     all-hold h =
-        let e = due-in-order img c st lent .0 h in
+        let e = due-in-order img pool c st lent fit .0 h in
         rw (word, e)
-        (succeeds (effectOf img c st) (plan-acts img (countOf img) (currentDfOf img) c st (own-hold img c st lent h))
-        (rw e at (due-speaks img c st lent)))
+        (succeeds (effectOf img c st) (plan-acts img (countOf img) (currentDfOf img) c st (own-hold img pool c st lent h))
+        (rw e at (due-speaks img pool c st lent)))
 
-    succeeded : Succeeds (answerWord (replyOf img c st lent)) → allHold (allSteps img c st lent) ≡ true
+    succeeded : Succeeds (answerWord (replyOf img pool c st lent)) → allHold (allSteps img pool c st lent) ≡ true
     succeeded s = ⊎-elim (λ h. h)
-        (λ h. let e = due-in-order img c st lent .1 h in absurd ((rw e at (due-speaks img c st lent)) (rw (word, e) at s)))
-        (all-or-not (allHold (allSteps img c st lent)))
+        (λ h. let e = due-in-order img pool c st lent fit .1 h in absurd ((rw e at (due-speaks img pool c st lent)) (rw (word, e) at s)))
+        (all-or-not (allHold (allSteps img pool c st lent)))
 
 pub effect-and-no-other : EffectAndNoOther
-effect-and-no-other img c st lent sound =
-    let v = dueOf img c st lent in
-    let k = due-tells img c st lent sound in
+effect-and-no-other img pool c st lent sound =
+    let v = dueOf img pool c st lent in
+    let k = due-tells img pool c st lent sound in
     let f = front-after img c sound v k in
-    rw (image-is img c st lent sound) (record {
+    rw (image-is img pool c st lent sound) (record {
       long = f .long;
       start = f .start;
       current = current-after img c sound v k;
@@ -176,51 +188,90 @@ effect-and-no-other img c st lent sound =
       ef = ef-after img c sound v k;
     })
 
+-- records that are the same but for the start of a body
+same-start : (v : ℕ) (r : List ℕ) → SameButStart v r r
+same-start v r = record { bytes = λ k l. refl; rest = λ z. refl }
+
+start-trans : (v : ℕ) (a b c : List ℕ) → SameButStart v a b → SameButStart v b c → SameButStart v a c
+start-trans v a b c p q = record {
+  bytes = λ k l. q .bytes k l ∙ p .bytes k l;
+  rest = λ z. q .rest (rw (p .rest z) z) ∙ p .rest z;
+}
+
+pub other-start : (img : List ℕ) (h : Head) (t : ℕ) → length (recAt img t) ≡ 64 → SameButStart (versionOf img) (recAt img t) (otherRecord img h t)
+unfolding otherRecord
+other-start img h t whole = cond-by (SameButStart (versionOf img) (recAt img t)) (eqb (newBody (versionOf img) h) 0) _ _
+    (λ q. same-start _ _) (λ q. go (newGap img h))
+  where
+    go : (g : Found) → SameButStart (versionOf img) (recAt img t) (keptRecord g img t)
+    go (At p) = unfold keptRecord in same-start _ _
+    go Nothing = unfold keptRecord in cond-by (SameButStart (versionOf img) (recAt img t)) (ltb 0 (bodyAt img t)) _ _
+        (λ q. record {
+          bytes = λ k l. byte-kept (recAt img t) _ whole k l;
+          rest = λ z. absurd (z (unfold bodyAt in ltb-true 0 (bodyOf (versionOf img) (recAt img t)) q));
+        })
+        (λ q. same-start _ _)
+
 -- a terminated file under one verdict
-module _ (img c : List ℕ) (s : ℕ) (used : kindOf (recAt img s) ≡ 0 → ⊥) (dead : terminatedAt img s ≡ true) where
+module _ (img c : List ℕ) (s : ℕ) (whole : length (recAt img s) ≡ 64) (used : kindOf (recAt img s) ≡ 0 → ⊥)
+    (dead : terminatedAt img s ≡ true) where
   Stays : Verdict → List ℕ → Type 0
-  Stays v r = (Erases img s v × (r ≡ freeBytes)) ⊎ (r ≡ recAt img s)
+  Stays v r = (Erases img s v × (r ≡ freeBytes)) ⊎ SameButStart (versionOf img) (recAt img s) r
 
   verdict-stays : (v : Verdict) → Tells img c v → Ordered img c v → Stays v (recordAfter img c v s)
   unfolding Stays
-  verdict-stays (Refuse w) k o = inr refl
-  verdict-stays (Select d e w) k o = inr refl
+  verdict-stays (Refuse w) k o = inr (same-start _ _)
+  verdict-stays (Select d e w) k o = inr (same-start _ _)
   verdict-stays (Create x) k o =
-      inr (rw (ne-eqb s (x .slot) (λ e. used (ap (λ (i : ℕ). kindOf (recAt img i)) e ∙ new-free img (x .slot) (x .head) _ _ (k .1)))))
+      inr (rw (ne-eqb s (x .slot) (λ e. used (ap (λ (i : ℕ). kindOf (recAt img i)) e ∙ new-free img (x .slot) (x .head) _ _ (k .1))))
+      (other-start img (x .head) s whole))
   verdict-stays (Delete x) k o = go (atOrBeneath (viewAt img) x s) refl
     where
       go : (b : Bool) → atOrBeneath (viewAt img) x s ≡ b
           → ((atOrBeneath (viewAt img) x s ≡ true) × (cond b freeBytes (recAt img s) ≡ freeBytes))
-          ⊎ (cond b freeBytes (recAt img s) ≡ recAt img s)
+          ⊎ SameButStart (versionOf img) (recAt img s) (cond b freeBytes (recAt img s))
       go true e = inl (e, refl)
-      go false e = inr refl
-  verdict-stays (SetLife x life) k o = inr (rw (ne-eqb s x (λ e. o .2 (rw e at dead))))
+      go false e = inr (same-start _ _)
+  verdict-stays (SetLife x life) k o = inr (rw (ne-eqb s x (λ e. o .2 (rw e at dead))) (same-start _ _))
+  verdict-stays (Read at n) k o = inr (same-start _ _)
+  verdict-stays (Update at) k o = inr (same-start _ _)
 
 -- only a DELETE that was carried out erases
-deleting : (img c : List ℕ) (st : State) (lent s : ℕ) → Sound img → (v : Verdict) → dueOf img c st lent ≡ v → Erases img s v
-    → Ordered img c v → Deleting img c st lent s
-deleting img c st lent s sound (Refuse w) e k n = absurd k
-deleting img c st lent s sound (Select d f w) e k n = absurd k
-deleting img c st lent s sound (Create x) e k n = absurd k
-deleting img c st lent s sound (Delete x) e k n =
-    record { delete = n .0; answered = word-is img c st lent sound ∙ ap wordOf e; top = x; child = n .1; over = k }
-deleting img c st lent s sound (SetLife x life) e k n = absurd k
+deleting : (img pool c : List ℕ) (st : State) (lent s : ℕ) → Sound img → (v : Verdict) → dueOf img pool c st lent ≡ v → Erases img s v
+    → Ordered img c v → Deleting img pool c st lent s
+deleting img pool c st lent s sound (Refuse w) e k n = absurd k
+deleting img pool c st lent s sound (Select d f w) e k n = absurd k
+deleting img pool c st lent s sound (Create x) e k n = absurd k
+deleting img pool c st lent s sound (Delete x) e k n =
+    record { delete = n .0; answered = word-is img pool c st lent sound ∙ ap wordOf e; top = x; child = n .1; over = k }
+deleting img pool c st lent s sound (SetLife x life) e k n = absurd k
+deleting img pool c st lent s sound (Read at m) e k n = absurd k
+deleting img pool c st lent s sound (Update at) e k n = absurd k
 
 pub terminated-stays : TerminatedStays
 unfolding Stays
-terminated-stays img c st lent s sound low used dead =
-    let e = effect-and-no-other img c st lent sound .records s low in
-    let o = due-ordered img c st lent in
-    ⊎-elim (λ f. inl (deleting img c st lent s sound (dueOf img c st lent) refl (f .0) o, e ∙ f .1)) (λ f. inr (e ∙ f))
-    (verdict-stays img c s used dead (dueOf img c st lent) (due-tells img c st lent sound) o)
+terminated-stays img pool c st lent s sound low used dead =
+    let e = effect-and-no-other img pool c st lent sound .records s low in
+    let o = due-ordered img pool c st lent in
+    ⊎-elim (λ f. inl (deleting img pool c st lent s sound (dueOf img pool c st lent) refl (f .0) o, e ∙ f .1)) (λ f. inr (rw e f))
+    (verdict-stays img c s (length-record img s (sound-within img sound s low .0)) used dead (dueOf img pool c st lent) (due-tells img pool c st lent sound) o)
 
 pub terminated-for-good : TerminatedForGood
-unfolding terminatedAt
-terminated-for-good [] img s sound low used dead = inr refl
+unfolding terminatedAt kindOf lifeCycleOf
+terminated-for-good [] img s sound low used dead = inr (same-start _ _)
 terminated-for-good (x ∷ rest) img s sound low used dead =
+    let e = effect-and-no-other img (x .pool) (x .command) (x .state) (x .lent) sound in
     ⊎-elim (λ f. inl (inl (f .0)))
-    (λ f. ⊎-elim (λ g. inl (inr g)) (λ g. inr (g ∙ f))
-    (terminated-for-good rest (imageAfter img x) s (stays-sound img (x .command) (x .state) (x .lent) sound)
-    (rw (effect-and-no-other img (x .command) (x .state) (x .lent) sound .count) low) (λ z. used (ap kindOf (sym f) ∙ z))
-    (ap (λ (r : List ℕ). isTerminated (lifeCycleOf r)) f ∙ dead)))
-    (terminated-stays img (x .command) (x .state) (x .lent) s sound low used dead)
+    (λ f. ⊎-elim (λ g. inl (inr g)) (λ g. inr (start-trans _ _ _ _ f (rw (version-same img x sound) at g)))
+    (terminated-for-good rest (imageAfter img x) s (stays-sound img (x .pool) (x .command) (x .state) (x .lent) sound)
+    (rw (e .count) low) (λ z. used (sym (f .bytes 0 (omega arith)) ∙ z))
+    (ap isTerminated (f .bytes 2 (omega arith)) ∙ dead)))
+    (terminated-stays img (x .pool) (x .command) (x .state) (x .lent) s sound low used dead)
+  where
+    version-same : (img : List ℕ) (x : Call) → Sound img → versionOf (imageAfter img x) ≡ versionOf img
+    version-same img x sound =
+        same-version img _ (record {
+          long = effect-and-no-other img (x .pool) (x .command) (x .state) (x .lent) sound .long;
+          start = effect-and-no-other img (x .pool) (x .command) (x .state) (x .lent) sound .start;
+          tail = effect-and-no-other img (x .pool) (x .command) (x .state) (x .lent) sound .tail;
+        })

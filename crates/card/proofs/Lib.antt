@@ -2,6 +2,7 @@ pub mod Steps
 pub mod Matching
 pub mod Asked
 pub mod Tells
+pub mod Touching
 pub mod Telling
 pub mod Speaks
 pub mod Words
@@ -10,8 +11,16 @@ pub mod Due
 pub mod Called
 pub mod After
 pub mod Answered
+pub mod Silent
 pub mod Demands
 pub mod Obeying
 pub mod Obeyed
+pub mod Touched
+pub mod Bodies
+pub mod Contents
+pub mod Owners
+pub mod OtherBytes
+pub mod Pooled
+pub mod Unjudged
 pub mod Lives
 pub mod Versions

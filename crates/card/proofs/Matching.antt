@@ -34,6 +34,17 @@ reads-ask false v w C steps asks k e r = record {
   first = λ x f. ⊎-elim (λ g. (refl, e ∙ sym (g .1))) (λ g. absurd (false≢true (k .1 (g .0)))) f;
 }
 
+-- .. where what follows is read only once the condition holds
+pub reads-then : (b : Bool) (v w : ℕ) (C : Type 0) (steps : List Step) (asks : List Ask) → ((b ≡ true) ↔ C) → v ≡ w
+    → (C → Reads steps asks) → Reads (record { holds = b; word = v } ∷ steps) (record { condition = C; word = w } ∷ asks)
+reads-then true v w C steps asks k e r = reads-ask true v w C steps asks k e (r (k .0 refl))
+reads-then false v w C steps asks k e r = record {
+  met = λ h. absurd (false≢true h);
+  holds = λ m. absurd (false≢true (k .1 (m .0)));
+  refused = λ h. inl ((λ c. false≢true (k .1 c)), e);
+  first = λ x f. ⊎-elim (λ g. (refl, e ∙ sym (g .1))) (λ g. absurd (false≢true (k .1 (g .0)))) f;
+}
+
 -- a step that always holds
 pub reads-skip : (b : Bool) (v : ℕ) (steps : List Step) (asks : List Ask) → b ≡ true → Reads steps asks
     → Reads (record { holds = b; word = v } ∷ steps) asks

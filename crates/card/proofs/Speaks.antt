@@ -17,17 +17,19 @@ use Rattle.create_data.specs.declared.Data.the-variants.{Df, Ef, Bad}
 use Rattle.create_data.specs.Data.{dataOf}
 use Rattle.verdict.specs.declared.State.{State}
 use Rattle.verdict.specs.declared.Verdict.{Verdict}
-use Rattle.verdict.specs.declared.Verdict.the-variants.{Refuse, Select, Create, Delete, SetLife}
+use Rattle.verdict.specs.declared.Verdict.the-variants.{Refuse, Select, Create, Delete, SetLife, Read, Update}
 use Rattle.verdict.specs.Words.{done, fileDeactivated, fileTerminated}
 use Rattle.verdict.specs.Applied.{wordOf, sentData}
 use Rattle.judge_target.specs.Steps.{allHold, Plan}
-use Rattle.apdu.specs.Apdu.{instruction}
+use Rattle.rules.specs.declared.Sets.{Sets}
+use Rattle.apdu.specs.Apdu.{instruction, isBody, isBinary, isRead}
+use Rattle.judge_bodies.specs.Bodies.{binary, recordwise}
 use Rattle.judge.specs.Shared.{sharedSteps}
 use Rattle.judge_target.specs.Target.{slotIn, describes, creating, selected}
 use Rattle.judge_commands.specs.Commands.{selectWord, selecting}
-use Rattle.judge.specs.Judge.{lifePlan, planFor, judgeFor, judgeOf}
+use Rattle.judge.specs.Judge.{lifePlan, bodyPlan, planFor, judgeFor, judgeOf}
 use Rattle.card.specs.Demands.{Succeeds}
-use Rattle.card.proofs.Steps.{cond-by, chosen-by, allWords, judged-by, followed-by}
+use Rattle.card.proofs.Steps.{cond-by, chosen-by, touching-by, allWords, judged-by, followed-by}
 
 -- neither 9000 nor 6283 nor 6285
 abbrev pub refusal : ℕ → Bool
@@ -43,6 +45,8 @@ Spoken (Select d e w) = Succeeds w
 Spoken (Create x) = Unit {0}
 Spoken (Delete s) = Unit {0}
 Spoken (SetLife s life) = Unit {0}
+Spoken (Read at n) = Unit {0}
+Spoken (Update at) = Unit {0}
 
 select-word : (life : ℕ) → Succeeds (selectWord life)
 unfolding selectWord
@@ -63,6 +67,12 @@ creating-spoken img d s (Ef x) h = tt
 abbrev pub Speaks : Plan → Type 0
 Speaks p = (allWords refusal (p .steps) ≡ true) × (allHold (p .steps) ≡ true → Spoken (p .effect))
 
+body-speaks : (img c : List ℕ) (x : Sets) → Speaks (bodyPlan img c x)
+unfolding bodyPlan binary recordwise
+body-speaks img c x =
+    cond-by Speaks (isBinary (instruction c)) _ _ (λ q. (refl, λ a. touching-by Spoken (isRead (instruction c)) _ _ tt tt))
+    (λ q. (refl, λ a. touching-by Spoken (isRead (instruction c)) _ _ tt tt))
+
 plan-speaks : (img : List ℕ) (n d : ℕ) (c : List ℕ) (st : State) → Speaks (planFor img n d c st)
 unfolding planFor lifePlan
 plan-speaks img n d c st =
@@ -70,10 +80,11 @@ plan-speaks img n d c st =
     (λ z. chosen-by Speaks (instruction c) _ _ _ (λ e.
     (refl, λ a. creating-spoken img d _ (dataOf (versionOf img) (sentData c)) (and-says _ _ .0 a .0)))
     (λ z. chosen-by Speaks (instruction c) _ _ _ (λ e. (refl, λ a. tt))
+    (λ z. cond-by Speaks (isBody (instruction c)) _ _ (λ b. body-speaks img c (st .sets))
     (λ z. chosen-by Speaks (instruction c) _ _ _ (λ e. (refl, λ a. tt))
     (λ z. chosen-by Speaks (instruction c) _ _ _ (λ e. (refl, λ a. tt))
     (λ z. chosen-by Speaks (instruction c) _ _ _ (λ e. (refl, λ a. tt))
-    (λ z. chosen-by Speaks (instruction c) _ _ _ (λ e. (refl, λ a. tt)) (λ z. (refl, λ a. tt))))))))
+    (λ z. chosen-by Speaks (instruction c) _ _ _ (λ e. (refl, λ a. tt)) (λ z. (refl, λ a. tt)))))))))
 
 refused : (w : ℕ) → refusal w ≡ true → Spoken (Refuse w)
 refused w r = no-success w r
@@ -91,6 +102,8 @@ Acts (Select d e w) = Unit {0}
 Acts (Create x) = Unit {0}
 Acts (Delete s) = Unit {0}
 Acts (SetLife s life) = Unit {0}
+Acts (Read at n) = Unit {0}
+Acts (Update at) = Unit {0}
 
 abbrev ActsThen : Plan → Type 0
 ActsThen p = allHold (p .steps) ≡ true → Acts (p .effect)
@@ -99,6 +112,12 @@ creating-acts : (img : List ℕ) (d s : ℕ) (new : Data) → describes new ≡ 
 creating-acts img d s Bad h = absurd (false≢true h)
 creating-acts img d s (Df x) h = tt
 creating-acts img d s (Ef x) h = tt
+
+body-acts : (img c : List ℕ) (x : Sets) → ActsThen (bodyPlan img c x)
+unfolding bodyPlan binary recordwise
+body-acts img c x =
+    cond-by ActsThen (isBinary (instruction c)) _ _ (λ q a. touching-by Acts (isRead (instruction c)) _ _ tt tt)
+    (λ q a. touching-by Acts (isRead (instruction c)) _ _ tt tt)
 
 pub plan-acts : (img : List ℕ) (n d : ℕ) (c : List ℕ) (st : State) → allHold (planFor img n d c st .steps) ≡ true
     → Acts (planFor img n d c st .effect)
@@ -109,10 +128,11 @@ plan-acts img n d c st =
     (λ z. chosen-by ActsThen (instruction c) _ _ _
     (λ e a. creating-acts img d _ (dataOf (versionOf img) (sentData c)) (and-says _ _ .0 a .0))
     (λ z. chosen-by ActsThen (instruction c) _ _ _ (λ e a. tt)
+    (λ z. cond-by ActsThen (isBody (instruction c)) _ _ (λ b. body-acts img c (st .sets))
     (λ z. chosen-by ActsThen (instruction c) _ _ _ (λ e a. tt)
     (λ z. chosen-by ActsThen (instruction c) _ _ _ (λ e a. tt)
     (λ z. chosen-by ActsThen (instruction c) _ _ _ (λ e a. tt)
-    (λ z. chosen-by ActsThen (instruction c) _ _ _ (λ e a. tt) (λ z a. tt)))))))
+    (λ z. chosen-by ActsThen (instruction c) _ _ _ (λ e a. tt) (λ z a. tt))))))))
 
 -- what acts and speaks succeeds
 pub succeeds : (v : Verdict) → Acts v → Spoken v → Succeeds (wordOf v)
@@ -121,3 +141,5 @@ succeeds (Select d e w) a s = s
 succeeds (Create x) t s = inl refl
 succeeds (Delete x) a s = inl refl
 succeeds (SetLife x life) a s = inl refl
+succeeds (Read at n) a s = inl refl
+succeeds (Update at) a s = inl refl

@@ -20,6 +20,11 @@ cond-by P false x y f g = g refl
 pub chosen-by : {A : Type 0} (P : A → Type 0) (a b : ℕ) (x y : A) → (a ≡ b → P x) → ((a ≡ b → ⊥) → P y) → P (cond (eqb a b) x y)
 chosen-by P a b x y f g = cond-by P (eqb a b) x y (λ e. f (eqb-true a b e)) (λ e. g (eqb-false a b e))
 
+-- .. and of what a command on a body does: it reads, or it updates
+pub touching-by : (P : Verdict → Type 0) (reads : Bool) (x y : Verdict) → P x → P y → P (cond reads x y)
+touching-by P true x y f g = f
+touching-by P false x y f g = g
+
 -- the words of all steps pass a test
 abbrev pub allWords : (ℕ → Bool) → List Step → Bool
 allWords ok [] = true

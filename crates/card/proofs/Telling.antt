@@ -46,7 +46,7 @@ use Rattle.verdict.specs.declared.Verdict.the-variants.{Refuse, Create}
 use Rattle.verdict.specs.Applied.{sentData}
 use Rattle.effect.specs.Fit.{FieldSent}
 use Rattle.judge_target.specs.Steps.{step, allHold, Plan, followed}
-use Rattle.apdu.specs.Apdu.{instruction, fitLength}
+use Rattle.apdu.specs.Apdu.{instruction, isKnown, isBody, fitLength}
 use Rattle.judge.specs.Shared.{sharedSteps}
 use Rattle.judge_target.specs.Target.{currentFile, isFound, slotIn, describes, rightFor, newIdentifier, newName, newSize, newHead}
 use Rattle.judge_target.specs.Target.{newRecord}
@@ -58,6 +58,7 @@ use Rattle.judge_target.proofs.FromSound.{judgeable, selected-by, selected-stan
 use Rattle.judge.proofs.Plans.{current-stands, create-long}
 use Rattle.card.proofs.Steps.{cond-by, judged-by, followed-by, chosen-by, anyWord}
 use Rattle.card.proofs.Tells.{Tells}
+use Rattle.card.proofs.Touching.{known-bodies, body-tells}
 
 -- so a DF has record length 0
 df-length : (k z : ℕ) → classOf k ≡ df → goodLength k 0 z ≡ true
@@ -261,18 +262,22 @@ module _ (img c : List ℕ) (sound : Sound img) where
       (λ e. followed-by (Tells img c) anyWord refused _ refl (λ a. (judgeable img sound .df, terminated-known)))
       (λ z. followed-by (Tells img c) anyWord refused _ refl (λ a. (judgeable img sound .root, terminated-known))))))
 
-  plan-tells : fitLength c ≡ true → (st : State) → Tells img c (followed (planFor img (countOf img) (currentDfOf img) c st))
+  plan-tells : fitLength c ≡ true → isKnown (versionOf img) (instruction c) ≡ true → (st : State)
+      → Tells img c (followed (planFor img (countOf img) (currentDfOf img) c st))
   unfolding planFor
-  plan-tells fit st =
+  plan-tells fit known st =
       chosen-by (λ (p : Plan). Tells img c (followed p)) (instruction c) _ _ _ (λ e. select-tells _)
       (λ z. chosen-by (λ (p : Plan). Tells img c (followed p)) (instruction c) _ _ _
       (λ e. create-tells (create-long c fit refl e) (st .sets))
       (λ z. chosen-by (λ (p : Plan). Tells img c (followed p)) (instruction c) _ _ _ (λ e. delete-tells _ (st .sets))
-      (λ z. life-tells (instruction c) (st .sets))))
+      (λ z. cond-by (λ (p : Plan). Tells img c (followed p)) (isBody (instruction c)) _ _
+      (λ b. body-tells img c sound (known-bodies (versionOf img) (instruction c) b known) fit b (st .sets))
+      (λ z. life-tells (instruction c) (st .sets)))))
 
   pub judge-tells : (st : State) → Tells img c (judgeOf img c st)
   unfolding judgeOf judgeFor
-  judge-tells st = judged-by (Tells img c) anyWord refused (sharedSteps img c st) _ refl (λ a. plan-tells (fit a) st)
+  judge-tells st = judged-by (Tells img c) anyWord refused (sharedSteps img c st) _ refl
+      (λ a. plan-tells (fit a) ((simp and-says at a) .1 .1 .1 .0) st)
     where
       fit : allHold (sharedSteps img c st) ≡ true → fitLength c ≡ true
       fit a = (simp and-says at a) .1 .1 .1 .1 .1 .1 .1 .0

@@ -23,13 +23,13 @@ use Rattle.card.proofs.Demands.{effect-and-no-other}
 
 pub version-stays : VersionStays
 unfolding imageOf
-version-stays img c st lent = go (soundb img) refl
+version-stays img pool c st lent = go (soundb img) refl
   where
-    go : (b : Bool) → soundb img ≡ b → versionOf (cond b (appliedOf img c (dueOf img c st lent)) img) ≡ versionOf img
+    go : (b : Bool) → soundb img ≡ b → versionOf (cond b (appliedOf img c (dueOf img pool c st lent)) img) ≡ versionOf img
     go true q =
         let sound = sound-says img .0 q in
-        same-version img (appliedOf img c (dueOf img c st lent))
-        (front-after img c sound (dueOf img c st lent) (due-tells img c st lent sound))
+        same-version img (appliedOf img c (dueOf img pool c st lent))
+        (front-after img c sound (dueOf img pool c st lent) (due-tells img pool c st lent sound))
     go false q = refl
 
 -- of a record of version 1: a free one is zero, and a used one has the only form
@@ -38,8 +38,8 @@ unfolding formOf
 only-compact r o = ⊎-elim (λ e. o .free e 3 (omega arith)) (λ z. first-version r (o .used z) .zero) (same-or (kindOf r) 0)
 
 pub stays-compact : StaysCompact
-stays-compact img c st lent s sound first low =
-    let left = imageOf img c st lent in
-    let count : countOf left ≡ countOf img = effect-and-no-other img c st lent sound .count in
-    let own : Own (versionOf left) (recAt left s) = stays-sound img c st lent sound .records s (rw count low) in
-    only-compact (recAt left s) (rw (version-stays img c st lent ∙ first) at own)
+stays-compact img pool c st lent s sound first low =
+    let left = imageOf img pool c st lent in
+    let count : countOf left ≡ countOf img = effect-and-no-other img pool c st lent sound .count in
+    let own : Own (versionOf left) (recAt left s) = stays-sound img pool c st lent sound .records s (rw count low) in
+    only-compact (recAt left s) (rw (version-stays img pool c st lent ∙ first) at own)

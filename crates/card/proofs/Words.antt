@@ -20,13 +20,15 @@ use Rattle.verdict.specs.declared.Verdict.the-variants.{Refuse}
 use Rattle.verdict.specs.Applied.{wordOf, sentData}
 use Rattle.judge_target.specs.Steps.{Plan, followed}
 use Rattle.judge_target.specs.Target.{lifeAt, creating}
-use Rattle.apdu.specs.Apdu.{instruction}
+use Rattle.rules.specs.declared.Sets.{Sets}
+use Rattle.apdu.specs.Apdu.{instruction, isBody, isBinary, isRead}
+use Rattle.judge_bodies.specs.Bodies.{binary, recordwise}
 use Rattle.judge_commands.specs.Commands.{selectWord, selecting}
 use Rattle.judge.specs.Shared.{sharedSteps}
-use Rattle.judge.specs.Judge.{lifePlan, planFor, judgeFor, judgeOf}
+use Rattle.judge.specs.Judge.{lifePlan, bodyPlan, planFor, judgeFor, judgeOf}
 use Rattle.card.specs.Obeyed.{isOneOf}
 use Rattle.card.specs.Demands.{wordsOfTable}
-use Rattle.card.proofs.Steps.{cond-by, chosen-by, judged-by, followed-by}
+use Rattle.card.proofs.Steps.{cond-by, chosen-by, touching-by, judged-by, followed-by}
 
 abbrev ours : ℕ → Bool
 ours w = isOneOf w wordsOfTable
@@ -72,6 +74,13 @@ module _ (img c : List ℕ) (st : State) where
   WordedThen : Plan → Type 0
   WordedThen p = Worded c (followed p)
 
+  body-worded : (x : Sets) → Worded c (followed (bodyPlan img c x))
+  unfolding bodyPlan binary recordwise WordedThen
+  body-worded x =
+      cond-by WordedThen (isBinary (instruction c)) _ _
+      (λ q. followed-by (Worded c) refuses refused _ refl (λ a. touching-by (Worded c) (isRead (instruction c)) _ _ (plain _ refl) (plain _ refl)))
+      (λ q. followed-by (Worded c) refuses refused _ refl (λ a. touching-by (Worded c) (isRead (instruction c)) _ _ (plain _ refl) (plain _ refl)))
+
   plan-worded : (n d : ℕ) → Worded c (followed (planFor img n d c st))
   unfolding planFor lifePlan WordedThen
   plan-worded n d =
@@ -79,11 +88,12 @@ module _ (img c : List ℕ) (st : State) where
       (λ z. chosen-by WordedThen (instruction c) _ _ _
       (λ e. followed-by (Worded c) refuses refused _ refl (λ a. creating-worded d _ (dataOf (versionOf img) (sentData c))))
       (λ z. chosen-by WordedThen (instruction c) _ _ _ (λ e. followed-by (Worded c) refuses refused _ refl (λ a. plain _ refl))
+      (λ z. cond-by WordedThen (isBody (instruction c)) _ _ (λ b. body-worded (st .sets))
       (λ z. chosen-by WordedThen (instruction c) _ _ _ (λ e. followed-by (Worded c) refuses refused _ refl (λ a. plain _ refl))
       (λ z. chosen-by WordedThen (instruction c) _ _ _ (λ e. followed-by (Worded c) refuses refused _ refl (λ a. plain _ refl))
       (λ z. chosen-by WordedThen (instruction c) _ _ _ (λ e. followed-by (Worded c) refuses refused _ refl (λ a. plain _ refl))
       (λ z. chosen-by WordedThen (instruction c) _ _ _ (λ e. followed-by (Worded c) refuses refused _ refl (λ a. plain _ refl))
-      (λ z. followed-by (Worded c) refuses refused _ refl (λ a. plain _ refl))))))))
+      (λ z. followed-by (Worded c) refuses refused _ refl (λ a. plain _ refl)))))))))
 
   judge-said : Worded c (judgeOf img c st)
   unfolding judgeOf judgeFor

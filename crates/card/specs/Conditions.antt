@@ -3,14 +3,20 @@
 -- sentence about the bytes of the command and the records of the image: nothing here rests on the tests that judging makes. `lent` is
 -- how many bytes the response has.
 use mathlib.Core.Path.{_≡_}
-use mathlib.Core.Bool.{true}
+use mathlib.Core.Bool.{true, cond}
 use mathlib.Core.List.{List, [], _∷_}
 use mathlib.Core.Logic.{_⊎_}
-use Prim.Native.Nat.{ℕ, _+_, _/_, _%_, _<_, _≤_}
+use Prim.Native.Nat.{ℕ, _+_, _*_, _-_, _/_, _%_, _<_, _≤_}
+use lib.Dec.{eqb}
 use lib.ListN.{length, getD}
+use Rattle.laws.specs.Lists.{part}
+use Rattle.rules.specs.declared.Right.{Right}
 use Rattle.rules.specs.declared.Right.the-variants.{DeleteSelf, Terminate, Activate, Deactivate, DeleteChild}
+use Rattle.rules.specs.declared.Right.the-variants.{Read as ReadBody, Update as UpdateBody}
+use Rattle.rules.specs.Descriptor.{structureOf}
 use Rattle.rules.specs.Life.{lifeOf, creation, initialisation, activated, deactivated, terminated}
-use Rattle.image.specs.Layout.{versionOf, countOf, currentDfOf, currentEfOf, none, recAt}
+use Rattle.image.specs.Layout.{versionOf, countOf, currentDfOf, currentEfOf, none, recAt, descriptorOf, recordLengthOf, sizeOf}
+use Rattle.pool.specs.Bodies.{startAt}
 use Rattle.create_data.specs.declared.Data.{Data}
 use Rattle.sound.specs.Table.{File, viewAt, up}
 use Rattle.sound.specs.Kinship.{childNamed, roomFor}
@@ -187,3 +193,83 @@ terminateCardAsks img c st =
     ∷ fourBytes c                                                                                    -- G
     ∷ ask (allowedAt img 0 Terminate (st .sets) ≡ true) 0x6982                                       -- J
     ∷ [])
+
+-- READ and UPDATE (02 Ticket 4) are about the current EF: its record
+abbrev pub currentEf : List ℕ → List ℕ
+currentEf img = recAt img (currentEfOf img)
+
+-- I, J and K of all four: there is one, its rule's b1 or b2 grants it, it is activated and nothing above it is terminated
+abbrev pub bodyAsks : List ℕ → State → Right → List Ask → List Ask
+bodyAsks img st right rest =
+    ask (currentEfOf img ≡ none → ⊥) 0x6986                                                          -- I
+    ∷ ask (allowedAt img (currentEfOf img) right (st .sets) ≡ true) 0x6982                           -- J
+    ∷ ask (lifeOf (lifeAt img (currentEfOf img)) ≡ activated) 0x6985                                 -- K
+    ∷ ask (NoneTerminated img (currentEfOf img)) 0x6985
+    ∷ rest
+
+-- the start that P1 P2 give; P2, the lower half of the two; the number that Le gives, 00 being 256
+abbrev pub startIn : List ℕ → ℕ
+startIn c = getD c 2 0 * 256 + getD c 3 0
+
+abbrev pub secondIn : List ℕ → ℕ
+secondIn c = startIn c % 256
+
+abbrev pub le : List ℕ → ℕ
+le c = cond (eqb (getD c 4 0) 0x00) 256 (getD c 4 0)
+
+-- n bytes of a transparent EF from its byte k on
+abbrev pub binaryAsks : List ℕ → ℕ → ℕ → List Ask → List Ask
+binaryAsks img k n rest =
+    ask (structureOf (descriptorOf (currentEf img)) ≡ 1) 0x6981
+    ∷ ask (k < sizeOf (currentEf img)) 0x6B00
+    ∷ ask (k + n ≤ sizeOf (currentEf img)) 0x6700
+    ∷ rest
+
+-- record number i, of n bytes, of a linear fixed or a cyclic EF
+abbrev pub recordAsks : List ℕ → ℕ → ℕ → List Ask → List Ask
+recordAsks img i n rest =
+    ask ((structureOf (descriptorOf (currentEf img)) ≡ 2) ⊎ (structureOf (descriptorOf (currentEf img)) ≡ 6)) 0x6981
+    ∷ ask ((1 ≤ i) × (i * recordLengthOf (currentEf img) ≤ sizeOf (currentEf img))) 0x6A83
+    ∷ ask (n ≡ recordLengthOf (currentEf img)) 0x6700
+    ∷ rest
+
+-- so many bytes of the body of the current EF, from its byte k on
+abbrev pub reading : List ℕ → List ℕ → ℕ → ℕ → List ℕ
+reading img pool k n = part pool (startAt img (currentEfOf img) + k) n
+
+-- where record number i begins
+abbrev pub recordAt : List ℕ → ℕ → ℕ
+recordAt img i = (i - 1) * recordLengthOf (currentEf img)
+
+-- what stands at the end of a READ: the response holds the data
+abbrev pub fitsResponse : List ℕ → ℕ → List Ask
+fitsResponse answer lent = ask (length answer ≤ lent) 0x0000 ∷ []                                   -- answer 5
+
+abbrev pub readBinaryAsks : List ℕ → List ℕ → List ℕ → State → ℕ → List Ask
+readBinaryAsks img pool c st lent =
+    knownAsks img c
+    (ask (startIn c < 0x8000) 0x6B00                                                                 -- F
+    ∷ ask (length c ≡ 5) 0x6700                                                                      -- G
+    ∷ bodyAsks img st ReadBody (binaryAsks img (startIn c) (le c) (fitsResponse (reading img pool (startIn c) (le c)) lent)))
+
+abbrev pub updateBinaryAsks : List ℕ → List ℕ → State → List Ask
+updateBinaryAsks img c st =
+    knownAsks img c
+    (ask (startIn c < 0x8000) 0x6B00                                                                 -- F
+    ∷ ask ((1 ≤ lc c) × (length c ≡ 5 + lc c)) 0x6700                                                -- G
+    ∷ bodyAsks img st UpdateBody (binaryAsks img (startIn c) (lc c) []))
+
+abbrev pub readRecordAsks : List ℕ → List ℕ → List ℕ → State → ℕ → List Ask
+readRecordAsks img pool c st lent =
+    knownAsks img c
+    (ask (secondIn c ≡ 0x04) 0x6B00                                                                  -- F
+    ∷ ask (length c ≡ 5) 0x6700                                                                      -- G
+    ∷ bodyAsks img st ReadBody
+    (recordAsks img (getD c 2 0) (le c) (fitsResponse (reading img pool (recordAt img (getD c 2 0)) (le c)) lent)))
+
+abbrev pub updateRecordAsks : List ℕ → List ℕ → State → List Ask
+updateRecordAsks img c st =
+    knownAsks img c
+    (ask (secondIn c ≡ 0x04) 0x6B00                                                                  -- F
+    ∷ ask ((1 ≤ lc c) × (length c ≡ 5 + lc c)) 0x6700                                                -- G
+    ∷ bodyAsks img st UpdateBody (recordAsks img (getD c 2 0) (lc c) []))

@@ -1,3 +1,4 @@
+pub mod Touching
 pub mod Command
 pub mod Steps
 pub mod Conditions
@@ -5,3 +6,4 @@ pub mod Obeyed
 pub mod After
 pub mod Demands
 pub mod Lives
+pub mod Bodies

@@ -21,11 +21,11 @@ abbrev pub effectOf : List ℕ → List ℕ → State → Verdict
 effectOf img c st = planFor img (countOf img) (currentDfOf img) c st .effect
 
 -- .. and the last: answer 5, which has no word
-abbrev pub lastStep : List ℕ → List ℕ → State → ℕ → Step
-lastStep img c st lent = step (leb (length (told img c (effectOf img c st))) lent) 0x0000
+abbrev pub lastStep : List ℕ → List ℕ → List ℕ → State → ℕ → Step
+lastStep img pool c st lent = step (leb (length (told img pool c (effectOf img c st))) lent) 0x0000
 
-abbrev pub allSteps : List ℕ → List ℕ → State → ℕ → List Step
-allSteps img c st lent = stepsOf img c st ++ (lastStep img c st lent ∷ [])
+abbrev pub allSteps : List ℕ → List ℕ → List ℕ → State → ℕ → List Step
+allSteps img pool c st lent = stepsOf img c st ++ (lastStep img pool c st lent ∷ [])
 
 -- the word of the first step that fails
 abbrev pub firstFailing : List Step → ℕ

@@ -2,3 +2,4 @@ pub mod Sent
 pub mod Writes
 pub mod Cases
 pub mod Told
+pub mod Bodies

@@ -1,17 +1,20 @@
 -- The writes of CREATE and of DELETE, one after the other: v is the version that was read, x the image after the records
--- were written, y the image after what is current was set.
-use mathlib.Core.Path.{_≡_}
+-- were written, y the image after what is current was set; and what DELETE leaves of the pool.
+use mathlib.Core.Path.{_≡_, refl}
 use mathlib.Core.List.{List}
-use mathlib.Core.Bool.{cond}
-use Prim.Native.Nat.{ℕ, _≤_}
+use mathlib.Core.Bool.{Bool, cond}
+use Prim.Native.Nat.{ℕ, zero, suc, _<_, _≤_}
+use native.Mathlib.Omega.{arith}
 use lib.Dec.{eqb}
 use lib.ListN.{length, getD}
 use borrow.Author.Tests.{eq-eqb, ne-eqb}
 use Rattle.image.specs.declared.Head.{Head}
 use Rattle.image.specs.Layout.{longestRule, versionOf, recordBytes, putRecord, setCurrent, countOf, currentDfOf, currentEfOf, none}
+use Rattle.pool.specs.Bodies.{startAt, bodyAt}
+use Rattle.pool.specs.Wiped.{wipeBelow}
 use Rattle.sound.specs.Table.{viewAt}
 use Rattle.sound.specs.Kinship.{atOrBeneath}
-use Rattle.sound.specs.Effects.{created, clearBelow, deleted}
+use Rattle.sound.specs.Effects.{created, clearBelow, deleted, wiped}
 use Rattle.sound.proofs.Cleared.{clear-cong}
 use Rattle.subtree.specs.Known.{Settled}
 use Rattle.subtree.proofs.Marks.{chosen-beneath}
@@ -30,6 +33,13 @@ module _ (img x y : List ℕ) (v s : ℕ) (h : Head) (name rule : List ℕ) (kno
   unfolding created
   created-ef d i f g = rw (ne-eqb (h .kind) 1 f, ← known, ← e, ← i) g
 
+-- bodies that are wiped by two tests that agree
+wipe-cong : (n : ℕ) (p q : ℕ → Bool) (a z : ℕ → ℕ) (pool : List ℕ) → ((i : ℕ) → i < n → p i ≡ q i)
+    → wipeBelow n p a z pool ≡ wipeBelow n q a z pool
+unfolding wipeBelow
+wipe-cong zero p q a z pool h = refl
+wipe-cong (suc n) p q a z pool h = rw (wipe-cong n p q a z pool (λ i l. h i (omega arith)), h n (omega arith))
+
 -- DELETE: the slots below n that are marked; df, old and ef are the current DF, and the current EF before and after
 pub deleted-chosen : (img x y marks : List ℕ) (n d df old ef : ℕ) → n ≡ countOf img → df ≡ currentDfOf img → old ≡ currentEfOf img
     → ef ≡ cond (eqb old d) none old → Settled (viewAt img) n d n marks
@@ -46,3 +56,15 @@ deleted-chosen img x y marks n d df old ef e f g h m i k =
       ← i,
     )
     k
+
+-- .. and their bytes of the pool, q afterwards
+pub wiped-chosen : (img pool q marks : List ℕ) (n d : ℕ) → n ≡ countOf img → Settled (viewAt img) n d n marks
+    → q ≡ wipeBelow n (λ k. eqb (getD marks k 0) 1) (startAt img) (bodyAt img) pool → q ≡ wiped img pool d
+unfolding wiped
+wiped-chosen img pool q marks n d e m i =
+    rw (
+      ← e,
+      ← wipe-cong n (λ k. eqb (getD marks k 0) 1) (atOrBeneath (viewAt img) d) (startAt img) (bodyAt img) pool
+          (λ s l. chosen-beneath (viewAt img) n d s marks m l),
+    )
+    i

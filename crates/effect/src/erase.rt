@@ -1,13 +1,15 @@
-// DELETE's effect (01 "DELETE"): a file and all beneath it become zero records, and a deleted current EF becomes
-// none. What lies beneath is marked on the image as it came, and only then zeroed: a walk up over a half-zeroed
+// DELETE's effect (01 "DELETE"; 02 Ticket 4): a file and all beneath it become zero records, their bytes of the pool 00, and a deleted
+// current EF becomes none. What lies beneath is marked on the image as it came, and only then zeroed: a walk up over a half-zeroed
 // image leads nowhere.
 ghost use mathlib.Core.Path.{_≡_};
 ghost use mathlib.Core.Bool.{cond};
 ghost use Prim.Native.Nat.{_<_};
-ghost use lib.ListN.{getD};
+ghost use lib.ListN.{length, getD};
 ghost use lib.Dec.{eqb};
 ghost use Rattle.image.specs.Layout.{Sized, Within, countOf, none};
-ghost use Rattle.sound.specs.Effects.{clearIf, clearBelow, deleted};
+ghost use Rattle.pool.specs.Bodies.{startAt, bodyAt};
+ghost use Rattle.pool.specs.Laid.{Laid};
+ghost use Rattle.sound.specs.Effects.{clearIf, clearBelow, deleted, wiped};
 ghost use Rattle.kinship.specs.Climb.{Rooted};
 use image::fields;
 use image::write;
@@ -46,15 +48,18 @@ fn ef_left(ef: usize, d: usize) -> u16
 }
 
 // The file in slot d and all beneath it go.
-pub fn erase(image: &mut [u8], n: usize, d: usize)
+pub fn erase(image: &mut [u8], n: usize, pool: &mut [u8], d: usize)
     requires { ⌜ Rooted (now image) n ⌝ }
     requires { ⌜ (n ≡ countOf (now image)) × (d < n) ⌝ }
-    ensures { λ _. ⌜ now (image .exit) ≡ deleted (now (image .entry)) d ⌝ }
+    requires { ⌜ Laid n (startAt (now image)) (bodyAt (now image)) (length (now pool)) ⌝ }
+    ensures { λ _. ⌜ (now (image .exit) ≡ deleted (now (image .entry)) d)
+        × (now (pool .exit) ≡ wiped (now (image .entry)) (now (pool .entry)) d) ⌝ }
 {
     let df = fields::current_df(image);
     let ef = ef_left(fields::current_ef(image), d);
     let mut marks = [0u8; 1023];
     subtree::settle_all(&mut marks, image, n, d);
+    pool::wipe::wipe(image, n, pool, &marks);
     clear_chosen(image, n, &marks);
     write::set_current(image, df as u16, ef);
 }

@@ -1,8 +1,11 @@
-// What a verdict tells, written into the caller's response (02 Ticket 2): SELECT with P2 04 the template of the file that it makes
-// current. It comes before the effect, so that a response that is too short leaves everything as it came.
+// What a verdict tells, written into the caller's response (02 Tickets 2 and 4): SELECT with P2 04 the template of the file that it makes
+// current, READ bytes of the pool. It comes before the effect, so that a response that is too short leaves everything as it came.
 ghost use mathlib.Core.Path.{_≡_};
 ghost use mathlib.Core.Bool.{cond};
 ghost use mathlib.Core.List.{[]};
+ghost use Prim.Native.Nat.{_+_, _≤_};
+ghost use lib.ListN.{length};
+ghost use Rattle.laws.specs.Lists.{part};
 ghost use Rattle.image.specs.Layout.{recAt};
 ghost use Rattle.apdu.specs.Apdu.{wantsTemplate};
 ghost use Rattle.fcp.specs.Template.{templateOf};
@@ -34,10 +37,29 @@ fn tell_selected(response: &mut [u8], image: &[u8], command: &[u8], df: u16, ef:
     fcp::answer::write(response, image, s)
 }
 
+// A READ's data: a part of the pool.
+fn tell_read(response: &mut [u8], pool: &[u8], at: usize, count: usize) -> Written
+    requires { ⌜ at + count ≤ length (now pool) ⌝ }
+    ensures { λ r. ⌜ Answered (part (now (pool .entry)) at count) (now (response .entry)) (now (response .exit)) r ⌝ }
+{
+    if response.len() < count {
+        return Written::Short;
+    }
+    let to = at + count;
+    numbers::copy_in(response, 0, &pool[at..to]);
+    Written::Done(count)
+}
+
 // What the verdict on the command tells, at the start of the response, whose other bytes stay; or Short, and the response as it came.
-pub fn tell(response: &mut [u8], image: &[u8], command: &[u8], verdict: Verdict) -> Written
-    requires { ⌜ CanTell (now image) verdict ⌝ }
-    ensures { λ r. ⌜ Answered (told (now (image .entry)) (now (command .entry)) verdict) (now (response .entry))
+pub fn tell(
+    response: &mut [u8],
+    image: &[u8],
+    pool: &[u8],
+    command: &[u8],
+    verdict: Verdict,
+) -> Written
+    requires { ⌜ CanTell (now image) (now pool) verdict ⌝ }
+    ensures { λ r. ⌜ Answered (told (now (image .entry)) (now (pool .entry)) (now (command .entry)) verdict) (now (response .entry))
         (now (response .exit)) r ⌝ }
 {
     match verdict {
@@ -46,5 +68,7 @@ pub fn tell(response: &mut [u8], image: &[u8], command: &[u8], verdict: Verdict)
         Verdict::Create(new) => Written::Done(0),
         Verdict::Delete(slot) => Written::Done(0),
         Verdict::SetLife { slot, life } => Written::Done(0),
+        Verdict::Read { at, count } => tell_read(response, pool, at, count),
+        Verdict::Update(at) => Written::Done(0),
     }
 }

@@ -11,6 +11,7 @@ use lib.Dec.{eqb, ltb}
 use borrow.Author.Tests.{lt-ltb, le-ltb, eq-eqb}
 use Rattle.rules.specs.declared.Right.{Right}
 use Rattle.rules.specs.declared.Right.the-variants.{DeleteSelf, Terminate, Activate, Deactivate, CreateDf, CreateEf, DeleteChild}
+use Rattle.rules.specs.declared.Right.the-variants.{Update, Read}
 use Rattle.rules.specs.declared.Sets.{Sets}
 use Rattle.rules.specs.Condition.{holdsOf}
 use Rattle.rules.specs.Group.{b7, b6, b5, b4, b3, b2, b1, scAt, slotsOf, nextOf, someFrom, someGroup}
@@ -90,6 +91,8 @@ group-gives rule at Deactivate x g = seven-give rule at g
 group-gives rule at CreateDf x g = seven-give rule at g
 group-gives rule at CreateEf x g = seven-give rule at g
 group-gives rule at DeleteChild x g = seven-give rule at g
+group-gives rule at Update x g = seven-give rule at g
+group-gives rule at Read x g = seven-give rule at g
 
 none-gives : (w : ℕ) (x : Sets) → Gives w x [] false
 unfolding opensOne

@@ -7,6 +7,7 @@ use lib.ListN.{length, getD}
 use lib.Dec.{eqb, ltb}
 use Rattle.rules.specs.declared.Right.{Right}
 use Rattle.rules.specs.declared.Right.the-variants.{DeleteSelf, Terminate, Activate, Deactivate, CreateDf, CreateEf, DeleteChild}
+use Rattle.rules.specs.declared.Right.the-variants.{Update, Read}
 use Rattle.rules.specs.declared.Sets.{Sets}
 use Rattle.expanded.specs.Object.{Object, object, cut, objectsOf}
 use Rattle.expanded.specs.Condition.{formed, holds}
@@ -34,7 +35,7 @@ goesOn due (o ∷ os) = inPlace due o && goesOn (isAm o) os
 unfoldable pub expandedFormed : List ℕ → Bool
 expandedFormed rule = eqb (getD rule 0 0) 0x80 && goesOn false (objectsOf rule)
 
--- the bit of a right in an AM byte, as a number: b7 delete self .. b1 delete child
+-- the bit of a right in an AM byte, as a number: b7 delete self .. b1 delete child; in an EF b2 update, b1 read
 abbrev pub bitOf : Right → ℕ
 bitOf DeleteSelf = 64
 bitOf Terminate = 32
@@ -43,6 +44,8 @@ bitOf Deactivate = 8
 bitOf CreateDf = 4
 bitOf CreateEf = 2
 bitOf DeleteChild = 1
+bitOf Update = 2
+bitOf Read = 1
 
 -- the AM byte has the bit, and the object is a condition that holds
 unfoldable pub opens : ℕ → Sets → ℕ → Object → Bool

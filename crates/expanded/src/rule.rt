@@ -112,6 +112,8 @@ fn bit_of(right: Right) -> u8
         Right::CreateDf => 4,
         Right::CreateEf => 2,
         Right::DeleteChild => 1,
+        Right::Update => 2,
+        Right::Read => 1,
     }
 }
 

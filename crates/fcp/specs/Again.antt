@@ -1,7 +1,8 @@
 -- What SELECT tells of a file, CREATE takes: read as CREATE's data it is the same file again, and the record that is made of it has the
--- same 64 bytes but for parent and level (02 Ticket 2). Each statement is proved in proofs/ under the same name in small letters.
+-- same 64 bytes but for parent, level and start (02 Tickets 2 and 4). Each statement is proved in proofs/ under the same name in small
+-- letters.
 use mathlib.Core.Path.{_≡_}
-use mathlib.Core.Bool.{true}
+use mathlib.Core.Bool.{true, cond}
 use mathlib.Core.List.{List, _++_}
 use mathlib.Core.Logic.{_⊎_}
 use Prim.Native.Nat.{ℕ, _+_, _<_, _≤_}
@@ -11,9 +12,9 @@ use Rattle.numbers.specs.Numbers.{be16}
 use Rattle.rules.specs.Descriptor.{df, ef}
 use Rattle.rules.specs.Life.{newLife}
 use Rattle.image.specs.declared.Head.{Head}
-use Rattle.image.specs.Layout.{longestRule, countOf, recAt, recordBytes}
+use Rattle.image.specs.Layout.{longestRule, countOf, recAt, recordBytes, withStart}
 use Rattle.image.specs.Layout.{kindOf, descriptorOf, lifeCycleOf, formOf, identifierOf, recordLengthOf, sizeOf, nameOf, ruleOf}
-use Rattle.sound.specs.Own.{Used}
+use Rattle.sound.specs.Own.{Used, hasStart}
 use Rattle.sound.specs.Sound.{Sound}
 use Rattle.template.specs.Objects.{bytesAt}
 use Rattle.create_data.specs.declared.NewFile.{NewFile}
@@ -75,10 +76,14 @@ headAgain r parent level = record {
   size = sizeOf r;
 }
 
--- a used record is what its fields say and nothing else: written again it is the same but for parent and level
+-- a record with another start, if it has one
+unfoldable pub startedAt : ℕ → List ℕ → ℕ → List ℕ
+startedAt v r x = cond (hasStart v r) (withStart r x) r
+
+-- a used record is what its fields say and nothing else: written again it is the same but for parent, level and start
 abbrev pub RecordAgain : Type 0
 RecordAgain = (v : ℕ) (r : List ℕ) (parent level : ℕ) → length r ≡ 64 → Bytes r → Used v r
-    → recordBytes v (headAgain r parent level) (nameOf r) (ruleOf r) ≡ splice r 6 (be16 parent ++ be16 level)
+    → recordBytes v (headAgain r parent level) (nameOf r) (ruleOf r) ≡ splice (startedAt v r 0) 6 (be16 parent ++ be16 level)
 
 -- two bytes hold every size of a sound image: a file charges no more than its directory's total, and the root's total is at most 64
 -- for each slot but its own, 65,408

@@ -1,6 +1,7 @@
--- Every verdict is what its command announces: a new file, a deletion, or neither (`judge-announces`).
+-- Every verdict is what its command announces: a new file, a deletion, or neither; and a life cycle is changed by no command on a body
+-- (`judge-announces`).
 use mathlib.Core.Path.{_≡_, refl, sym, ap, _∙_}
-use mathlib.Core.Bool.{true}
+use mathlib.Core.Bool.{true, false, cond}
 use mathlib.Core.List.{List}
 use Prim.Native.Nat.{ℕ}
 use lib.Dec.{eqb}
@@ -19,16 +20,17 @@ use Rattle.create_data.specs.declared.Data.the-variants.{Df, Ef, Bad}
 use Rattle.create_data.specs.Data.{dataOf}
 use Rattle.verdict.specs.declared.State.{State}
 use Rattle.verdict.specs.declared.Verdict.{Verdict}
-use Rattle.verdict.specs.declared.Verdict.the-variants.{Refuse, Select, Create, Delete, SetLife}
+use Rattle.verdict.specs.declared.Verdict.the-variants.{Refuse, Select, Create, Delete, SetLife, Read, Update}
 use Rattle.verdict.specs.Applied.{sentData}
 use Rattle.judge_target.specs.Steps.{Plan, followed}
 use Rattle.judge_target.specs.Target.{slotIn, selected, creating}
 use Rattle.judge_create.specs.Creation.{create}
 use Rattle.judge_commands.specs.Commands.{selecting, select, delete}
-use Rattle.apdu.specs.Apdu.{instruction, sentIdentifier, selectFile, createFile, deleteFile}
+use Rattle.judge_bodies.specs.Bodies.{binary, recordwise}
+use Rattle.apdu.specs.Apdu.{instruction, sentIdentifier, selectFile, createFile, deleteFile, isBody, isBinary, isRead}
 use Rattle.judge.specs.Shared.{sharedSteps}
-use Rattle.judge.specs.Judge.{lifePlan, planFor, judgeFor, judgeOf}
-use Rattle.card.proofs.Steps.{cond-by, chosen-by, judged-by, followed-by, anyWord}
+use Rattle.judge.specs.Judge.{bodyPlan, lifePlan, planFor, judgeFor, judgeOf}
+use Rattle.card.proofs.Steps.{cond-by, chosen-by, touching-by, judged-by, followed-by, anyWord}
 use Rattle.card.proofs.Telling.{found-at}
 use Rattle.history.specs.Ledger.{makes, deletes, neither}
 use Rattle.history.specs.Story.{newEntry, announced}
@@ -38,7 +40,9 @@ Announces img c (Refuse w) = Unit {0}
 Announces img c (Select d e w) = announced (versionOf img) c ≡ neither
 Announces img c (Create x) = announced (versionOf img) c ≡ makes (x .head .identifier) (x .head .size) (eqb (x .head .kind) df)
 Announces img c (Delete s) = announced (versionOf img) c ≡ deletes (viewAt img s .identifier)
-Announces img c (SetLife s life) = announced (versionOf img) c ≡ neither
+Announces img c (SetLife s life) = (announced (versionOf img) c ≡ neither) × (isBody (instruction c) ≡ false)
+Announces img c (Read at n) = announced (versionOf img) c ≡ neither
+Announces img c (Update at) = announced (versionOf img) c ≡ neither
 
 module _ (img c : List ℕ) where
   refused : (w : ℕ) → anyWord w ≡ true → Announces img c (Refuse w)
@@ -78,14 +82,24 @@ module _ (img c : List ℕ) where
           let f = first-is n (isChildNamed (viewAt img) d (sentIdentifier c)) _ q in
           sent ∙ ap deletes (sym (child-says (viewAt img) d (sentIdentifier c) _ .0 (f .here) .1))
 
-  life-announces : (d i : ℕ) (sets : Sets) → announced (versionOf img) c ≡ neither → Announces img c (followed (lifePlan img d i sets))
+  life-announces : (d i : ℕ) (sets : Sets) → announced (versionOf img) c ≡ neither → isBody (instruction c) ≡ false
+      → Announces img c (followed (lifePlan img d i sets))
   unfolding lifePlan Fit
-  life-announces d i sets q =
-      chosen-by Fit i _ _ _ (λ e. followed-by (Announces img c) anyWord refused _ refl (λ a. q))
-      (λ z. chosen-by Fit i _ _ _ (λ e. followed-by (Announces img c) anyWord refused _ refl (λ a. q))
-      (λ z. chosen-by Fit i _ _ _ (λ e. followed-by (Announces img c) anyWord refused _ refl (λ a. q))
-      (λ z. chosen-by Fit i _ _ _ (λ e. followed-by (Announces img c) anyWord refused _ refl (λ a. q))
-      (λ z. followed-by (Announces img c) anyWord refused _ refl (λ a. q)))))
+  life-announces d i sets q b =
+      chosen-by Fit i _ _ _ (λ e. followed-by (Announces img c) anyWord refused _ refl (λ a. (q, b)))
+      (λ z. chosen-by Fit i _ _ _ (λ e. followed-by (Announces img c) anyWord refused _ refl (λ a. (q, b)))
+      (λ z. chosen-by Fit i _ _ _ (λ e. followed-by (Announces img c) anyWord refused _ refl (λ a. (q, b)))
+      (λ z. chosen-by Fit i _ _ _ (λ e. followed-by (Announces img c) anyWord refused _ refl (λ a. (q, b)))
+      (λ z. followed-by (Announces img c) anyWord refused _ refl (λ a. (q, b))))))
+
+  body-announces : (sets : Sets) → announced (versionOf img) c ≡ neither → Announces img c (followed (bodyPlan img c sets))
+  unfolding bodyPlan binary recordwise Fit
+  body-announces sets q =
+      cond-by Fit (isBinary (instruction c)) _ _ (λ e. followed-by (Announces img c) anyWord refused _ refl (λ a. either _ _ q q))
+      (λ e. followed-by (Announces img c) anyWord refused _ refl (λ a. either _ _ q q))
+    where
+      either : (x y : Verdict) → Announces img c x → Announces img c y → Announces img c (cond (isRead (instruction c)) x y)
+      either = touching-by (Announces img c) (isRead (instruction c))
 
   plan-announces : (n d : ℕ) (st : State) → Announces img c (followed (planFor img n d c st))
   unfolding planFor Fit
@@ -93,8 +107,11 @@ module _ (img c : List ℕ) where
       chosen-by Fit (instruction c) _ _ _ (λ e. select-announces n d (sentIdentifier c) e)
       (λ z. chosen-by Fit (instruction c) _ _ _ (λ e. create-announces n d (st .sets) e)
       (λ y. chosen-by Fit (instruction c) _ _ _ (λ e. delete-announces n d (st .sets) e)
-      (λ x. life-announces d (instruction c) (st .sets)
-      (unfold announced in rw (ne-eqb (instruction c) createFile y, ne-eqb (instruction c) deleteFile x)))))
+      (λ x. let q : announced (versionOf img) c ≡ neither =
+      unfold announced in rw (ne-eqb (instruction c) createFile y, ne-eqb (instruction c) deleteFile x)
+      in
+      cond-by Fit (isBody (instruction c)) _ _ (λ b. body-announces (st .sets) q)
+      (λ b. life-announces d (instruction c) (st .sets) q b))))
 
   pub judge-announces : (st : State) → Announces img c (judgeOf img c st)
   unfolding judgeOf judgeFor

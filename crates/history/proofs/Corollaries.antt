@@ -5,14 +5,19 @@ use mathlib.Core.List.{List, [], _∷_}
 use Prim.Native.Nat.{ℕ, _+_}
 use native.Mathlib.Omega.{arith}
 use borrow.Author.Tests.{eq-eqb}
+use Rattle.laws.proofs.Says.{untrue}
 use Rattle.sound.specs.Table.{View, charged}
 use Rattle.sound.specs.Kinship.{totalFor, roomFor}
 use Rattle.sound.proofs.FullTable.{slot-exists}
-use Rattle.card.specs.Demands.{Call}
-use Rattle.history.specs.Ledger.{Entry, makes, deletes, firstEntry, isNamed, fileIn, entered, strikes}
-use Rattle.history.specs.Story.{Story, hears, next, played, sizeSent}
+use Rattle.verdict.specs.Applied.{appliedOf}
+use Rattle.card.specs.Demands.{Call, imageAfter}
+use Rattle.card.proofs.Due.{pool-says, due-wrong}
+use Rattle.card.proofs.Answered.{image-is}
+use Rattle.history.specs.Ledger.{Entry, makes, deletes, neither, firstEntry, isNamed, fileIn, entered, strikes}
+use Rattle.history.specs.Story.{Story, heard, hears, next, played, sizeSent}
 use Rattle.history.specs.Demand3.{here, room, Lives, Strikes, AllElsewhere, NothingElsewhere, FullTableNever, ParentPaysAlone}
-use Rattle.history.specs.Demand3.{GivesBack, ChargedAnew}
+use Rattle.history.specs.Demand3.{FragmentedPoolNever, WrongPoolUnheard, GivesBack, ChargedAnew}
+use Rattle.history.proofs.Memory.{wrong-word}
 use Rattle.history.proofs.Directories.{Dir, room-same}
 use Rattle.history.proofs.Upward.{file-same}
 use Rattle.history.proofs.Rooms.{made-here, made-kept, gone-here}
@@ -39,6 +44,24 @@ full-table-never st h x r fits =
       m .takes x
           r .1 fits,
     )
+
+pub fragmented-pool-never : FragmentedPoolNever
+fragmented-pool-never st h x r fits =
+    let k = history-kept st h in
+    let n = kept-next st k x in
+    (kept-demand st k .takes x r .1 fits, rw (n .agrees .total) (n .sound .bodies))
+
+pub wrong-pool-unheard : WrongPoolUnheard
+unfolding heard next entered
+wrong-pool-unheard st h x z =
+    let k = history-kept st h in
+    let q = untrue _ (λ t. z (pool-says (st .image) (x .pool) .0 t)) in
+    let e : hears st x ≡ neither = rw (wrong-word (st .image) x (k .sound) q) refl in
+    let i : imageAfter (st .image) x ≡ st .image =
+    image-is (st .image) (x .pool) (x .command) (x .state) (x .lent) (k .sound)
+    ∙ ap (appliedOf (st .image) (x .command)) (due-wrong (st .image) (x .pool) (x .command) (x .state) (x .lent) q)
+    in
+    (e, rw (e, i) refl)
 
 -- one call on a card whose ledger is kept, and the directory that was current
 module _ (st : Story) (k : Kept st) (x : Call) where

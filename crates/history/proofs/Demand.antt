@@ -76,7 +76,7 @@ module _ (st : Story) (k : Kept st) (x : Call) where
   some = omega (arith, k .sound .header .least)
 
   count-stays : countOf (imageAfter (st .image) x) ≡ slots st
-  count-stays = effect-and-no-other (st .image) (x .command) (x .state) (x .lent) (k .sound) .count
+  count-stays = effect-and-no-other (st .image) (x .pool) (x .command) (x .state) (x .lent) (k .sound) .count
 
   pub did : Did (slots st) (table st) (tableAfter st x) (hears st x) (currentDfOf (st .image))
       (currentDfOf (imageAfter (st .image) x))
@@ -89,7 +89,7 @@ module _ (st : Story) (k : Kept st) (x : Call) where
       (hears st x) (currentDfOf (st .image)) (currentDfOf (imageAfter (st .image) x)) did
 
   sound-after : Sound (imageAfter (st .image) x)
-  sound-after = stays-sound (st .image) (x .command) (x .state) (x .lent) (k .sound)
+  sound-after = stays-sound (st .image) (x .pool) (x .command) (x .state) (x .lent) (k .sound)
 
   pub kin-after : Kin (slots st) (tableAfter st x)
   kin-after = rw count-stays at (sound-after .kin)
@@ -99,7 +99,7 @@ module _ (st : Story) (k : Kept st) (x : Call) where
   kept-next = record {
     sound = sound-after;
     agrees = rw count-stays agrees-after;
-    version = version-stays (st .image) (x .command) (x .state) (x .lent) ∙ k .version;
+    version = version-stays (st .image) (x .pool) (x .command) (x .state) (x .lent) ∙ k .version;
   }
 
 pub kept-played : (calls : List Call) (st : Story) → Kept st → Kept (played st calls)

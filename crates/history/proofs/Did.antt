@@ -4,12 +4,13 @@ use mathlib.Core.Path.{_≡_, refl, sym, ap, _∙_}
 use mathlib.Core.Bool.{Bool, true, false, not, cond}
 use Prim.Native.Nat.{ℕ, _<_}
 use native.Mathlib.Omega.{arith}
+use Rattle.laws.specs.declared.Found.the-variants.{At}
 use Rattle.laws.specs.Walks.{ifSo}
 use Rattle.laws.proofs.Sums.{sum-cong, sum-change}
 use Rattle.rules.specs.Descriptor.{df, ef}
 use Rattle.sound.specs.Table.{View, File}
 use Rattle.sound.specs.Kin.{Kin}
-use Rattle.sound.specs.Kinship.{atOrBeneath}
+use Rattle.sound.specs.Kinship.{atOrBeneath, freeSlot}
 use Rattle.sound.proofs.Kept.{gone}
 use Rattle.history.specs.Ledger.{Entry, Ledger, Announced, makes, deletes, neither, entered, sumOver, goesWith}
 use Rattle.history.proofs.Entries.{sum-keep}
@@ -21,6 +22,7 @@ pub record OneMore (n : ℕ) (v w : ℕ → View) (x z : ℕ) (isDf : Bool) (bef
   pub slot : ℕ
   pub low : slot < n
   pub free : v slot .kind ≡ 0
+  pub lowest : freeSlot n v ≡ At slot
   pub other : slot ≡ 0 → ⊥
   pub kind : w slot .kind ≡ cond isDf df ef
   pub parent : w slot .parent ≡ before

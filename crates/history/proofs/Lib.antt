@@ -5,8 +5,12 @@ pub mod Upward
 pub mod Did
 pub mod Rooms
 pub mod Announced
+pub mod Views
 pub mod Heard
 pub mod Memory
 pub mod Begins
 pub mod Demand
 pub mod Corollaries
+pub mod News
+pub mod Books
+pub mod BookReads

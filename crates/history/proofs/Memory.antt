@@ -26,10 +26,13 @@ use Rattle.judge_create.specs.Creation.{takesFiles, create}
 use Rattle.apdu.specs.Apdu.{instruction, createFile}
 use Rattle.judge.specs.Shared.{sharedSteps}
 use Rattle.judge.specs.Judge.{planFor, judgeOf}
+use Rattle.card.specs.Command.{poolFits, PoolFits}
 use Rattle.card.specs.Steps.{stepsOf, effectOf, firstFailing}
 use Rattle.card.specs.Demands.{Call}
 use Rattle.card.proofs.Steps.{allWords}
-use Rattle.card.proofs.Answered.{word-is, due-silent}
+use Rattle.card.proofs.Due.{pool-says, due-wrong}
+use Rattle.card.proofs.Answered.{word-is}
+use Rattle.card.proofs.Silent.{due-silent}
 use Rattle.card.proofs.Demands.{judged-in-order}
 use Rattle.history.specs.Story.{wordFor, butLast, Ready, ReadyExactly, sizeSent}
 
@@ -139,18 +142,25 @@ module _ (img c : List ℕ) (st : State) (e : instruction c ≡ createFile) wher
       let w = ap wordOf (judged-in-order img c st .1 (ap allHold steps-are ∙ f .0)) ∙ ap firstFailing steps-are ∙ f .1 in
       ap another w ∙ first-word another earlier (unfold earlier another in refl) h
 
--- CREATE tells nothing, so its word is that of the judging
-create-word : (img : List ℕ) (x : Call) → Sound img → instruction (x .command) ≡ createFile
+-- CREATE tells nothing, so with the card's pool its word is that of the judging
+create-word : (img : List ℕ) (x : Call) → Sound img → instruction (x .command) ≡ createFile → PoolFits img (x .pool)
     → wordFor img x ≡ wordOf (judgeOf img (x .command) (x .state))
-create-word img x sound e =
-    word-is img (x .command) (x .state) (x .lent) sound
-    ∙ ap wordOf (due-silent img (x .command) (x .state) (x .lent) (λ q p. omega (arith, e, q)))
+create-word img x sound e k =
+    word-is img (x .pool) (x .command) (x .state) (x .lent) sound
+    ∙ ap wordOf (due-silent img (x .pool) (x .command) (x .state) (x .lent) (λ q p. omega (arith, e, q)) (λ q. omega (arith, e, q))
+    (λ q. omega (arith, e, q)) k)
+
+-- with another it is answer 6, which has no word
+pub wrong-word : (img : List ℕ) (x : Call) → Sound img → poolFits img (x .pool) ≡ false → wordFor img x ≡ 0x0000
+wrong-word img x sound q =
+    word-is img (x .pool) (x .command) (x .state) (x .lent) sound
+    ∙ ap wordOf (due-wrong img (x .pool) (x .command) (x .state) (x .lent) q)
 
 pub memory-decides : (img : List ℕ) (x : Call) → Sound img → Ready img x
     → wordFor img x ≡ cond (fitsRoom (countOf img) (viewAt img) (currentDfOf img) (sizeSent (versionOf img) x)) done notEnoughMemory
 unfolding memory new
 memory-decides img x sound r =
-    create-word img x sound (r .create) ∙ decides img (x .command) (x .state) (r .create) sound (r .earlier) _ refl
+    create-word img x sound (r .create) (r .pool-fits) ∙ decides img (x .command) (x .state) (r .create) sound (r .earlier) _ refl
 
 -- a CREATE on a sound image is ready exactly when its word is 9000 or 6A84
 pub ready-exactly : ReadyExactly
@@ -166,16 +176,26 @@ ready-exactly img x sound e =
     back h =
         record {
           create = e;
+          pool-fits = fit;
           earlier = ap allHold
               (ap butLast (steps-are img (x .command) (x .state) e)
               ∙ but-last (earlier img (x .command) (x .state) e) (memory img (x .command) (x .state) e))
               ∙ holds;
         }
       where
+        fit : PoolFits img (x .pool)
+        fit = pool-says img (x .pool) .0 (go (poolFits img (x .pool)) refl)
+          where
+            go : (b : Bool) → poolFits img (x .pool) ≡ b → b ≡ true
+            go true q = refl
+            go false q =
+                let z = wrong-word img x sound q in
+                absurd (⊎-elim (λ w. omega (arith, w, z)) (λ w. omega (arith, w, z)) h)
+
         spoken : another (wordOf (judgeOf img (x .command) (x .state))) ≡ true → ⊥
         spoken a = not-says _ .0 a (or-says _ _ .1 (⊎-elim
-            (λ q. inl (eq-eqb _ _ (sym (create-word img x sound e) ∙ q)))
-            (λ q. inr (eq-eqb _ _ (sym (create-word img x sound e) ∙ q))) h))
+            (λ q. inl (eq-eqb _ _ (sym (create-word img x sound e fit) ∙ q)))
+            (λ q. inr (eq-eqb _ _ (sym (create-word img x sound e fit) ∙ q))) h))
 
         holds : allHold (earlier img (x .command) (x .state) e) ≡ true
         holds = go (allHold (earlier img (x .command) (x .state) e)) refl

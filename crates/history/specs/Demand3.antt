@@ -8,14 +8,17 @@ use Prim.Native.Nat.{ℕ, _+_, _<_, _≤_}
 use Rattle.laws.specs.declared.Found.the-variants.{Nothing}
 use Rattle.rules.specs.Descriptor.{df}
 use Rattle.image.specs.Layout.{countOf, currentDfOf}
+use Rattle.pool.specs.Bodies.{startAt, bodyAt}
+use Rattle.pool.specs.Laid.{Laid}
 use Rattle.sound.specs.Table.{viewAt}
 use Rattle.sound.specs.Kinship.{freeSlot, roomFor}
 use Rattle.maker.specs.declared.Edition.{Edition}
 use Rattle.maker.specs.declared.Made.the-variants.{Done}
 use Rattle.maker.specs.Making.{madeOf, leftBy}
 use Rattle.verdict.specs.Words.{done, notEnoughMemory}
+use Rattle.card.specs.Command.{PoolFits}
 use Rattle.card.specs.Demands.{Call}
-use Rattle.history.specs.Ledger.{makes, deletes, livesIn, totalIn, chargedIn, roomIn, fileIn, strikes}
+use Rattle.history.specs.Ledger.{makes, deletes, neither, livesIn, totalIn, chargedIn, roomIn, fileIn, strikes}
 use Rattle.history.specs.Story.{Story, begun, wordFor, hears, next, played, Ready, sizeSent}
 
 -- the directory whose slot is current
@@ -88,6 +91,18 @@ NothingElsewhere = (st : Story) → History st → (d : ℕ) → Lives st d → 
 abbrev pub FullTableNever : Type 0
 FullTableNever = (st : Story) → History st → (x : Call) → Ready (st .image) x → sizeSent (st .version) x + 64 ≤ room st (here st)
     → (freeSlot (countOf (st .image)) (viewAt (st .image)) ≡ Nothing → ⊥) × (wordFor (st .image) x ≡ done)
+
+-- .. and a fragmented pool never does (02 Ticket 4): however the bodies lie, such a CREATE is answered 9000, and afterwards all bodies, the
+-- new one among them, lie apart in a pool of the root's total
+abbrev pub FragmentedPoolNever : Type 0
+FragmentedPoolNever = (st : Story) → History st → (x : Call) → Ready (st .image) x → sizeSent (st .version) x + 64 ≤ room st (here st)
+    → (wordFor (st .image) x ≡ done)
+    × Laid (countOf (next st x .image)) (startAt (next st x .image)) (bodyAt (next st x .image)) (next st x .ledger .total)
+
+-- a pool of a wrong length, answer 6: nothing changes, and the ledger hears nothing
+abbrev pub WrongPoolUnheard : Type 0
+WrongPoolUnheard = (st : Story) → History st → (x : Call) → (PoolFits (st .image) (x .pool) → ⊥)
+    → (hears st x ≡ neither) × (next st x ≡ st)
 
 -- a file is charged to its direct parent alone: size plus 64, and no other directory that lives pays anything
 abbrev pub ParentPaysAlone : Type 0

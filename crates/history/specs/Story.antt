@@ -1,5 +1,5 @@
--- A history: the card's image and the ledger beside it, command by command; and when CREATE has passed every check
--- before memory (01 "What the statements must tie down").
+-- A history: the card's image and the ledger beside it, command by command, each with the pool that it was given; and when CREATE has
+-- passed every check before memory (01 "What the statements must tie down").
 use mathlib.Core.Path.{_≡_}
 use mathlib.Core.Bool.{true, false, cond}
 use mathlib.Core.List.{List, [], _∷_}
@@ -16,7 +16,7 @@ use Rattle.verdict.specs.Applied.{sentData}
 use Rattle.judge_target.specs.Steps.{Step, allHold}
 use Rattle.judge_target.specs.Target.{newSize}
 use Rattle.apdu.specs.Apdu.{instruction, sentIdentifier, createFile, deleteFile}
-use Rattle.card.specs.Command.{answerWord, replyOf}
+use Rattle.card.specs.Command.{answerWord, PoolFits, replyOf}
 use Rattle.card.specs.Steps.{stepsOf}
 use Rattle.card.specs.Demands.{Call, imageAfter}
 use Rattle.history.specs.Ledger.{Ledger, Announced, makes, deletes, neither, entered, opened}
@@ -35,7 +35,7 @@ announced v c =
 
 -- the word of a call, on an image
 abbrev pub wordFor : List ℕ → Call → ℕ
-wordFor img x = answerWord (replyOf img (x .command) (x .state) (x .lent))
+wordFor img x = answerWord (replyOf img (x .pool) (x .command) (x .state) (x .lent))
 
 -- the version that the maker was told, the card, and the ledger beside it
 pub record Story : Type 0 where
@@ -73,9 +73,10 @@ butLast [] = []
 butLast (s ∷ []) = []
 butLast (s ∷ t ∷ rest) = s ∷ butLast (t ∷ rest)
 
--- a CREATE FILE of which every check before memory passes, A to L: memory is the last of its steps
+-- a CREATE FILE of which every check before memory passes: its pool is the card's (answer 6), and A to L, of which memory is the last
 pub record Ready (img : List ℕ) (x : Call) : Type 0 where
   pub create : instruction (x .command) ≡ createFile
+  pub pool-fits : PoolFits img (x .pool)
   pub earlier : allHold (butLast (stepsOf img (x .command) (x .state))) ≡ true
 
 -- the size, or total, that it sends

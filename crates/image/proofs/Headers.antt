@@ -1,4 +1,4 @@
--- The header after each write: a written record and a life-cycle byte leave it; setting what is current
+-- The header after each write: a written record, a life-cycle byte and a start leave it; setting what is current
 -- changes those four bytes and no record.
 use mathlib.Core.Path.{_≡_, refl, _∙_}
 use mathlib.Core.List.{List, [], _∷_, _++_}
@@ -10,7 +10,7 @@ use Rattle.laws.specs.Lists.{splice}
 use Rattle.laws.proofs.Splices.{length-splice, getD-splice-below, getD-splice-above, getD-splice-in, part-splice-other}
 use Rattle.numbers.specs.Numbers.{u16At, be16}
 use Rattle.numbers.proofs.Reading.{u16At-same}
-use Rattle.image.specs.Layout.{base, Within, recAt, putRecord, setLife, setCurrent, versionOf, countOf, currentDfOf, currentEfOf}
+use Rattle.image.specs.Layout.{base, Within, recAt, putRecord, setLife, setStart, setCurrent, versionOf, countOf, currentDfOf, currentEfOf}
 
 -- an image b of the length of a, whose first 16 bytes are those of a but for what is current
 pub record SameFront (a b : List ℕ) : Type 0 where
@@ -71,6 +71,10 @@ header-put img s r w e = header-splice img (base s) r (omega arith) (omega arith
 pub header-life : (img : List ℕ) (s x : ℕ) → Within img s → SameHeader img (setLife img s x)
 unfolding setLife
 header-life img s x w = header-splice img (base s + 2) (x ∷ []) (omega arith) (omega arith)
+
+pub header-start : (img : List ℕ) (s x : ℕ) → Within img s → SameHeader img (setStart img s x)
+unfolding setStart
+header-start img s x w = header-splice img (base s + 62) (be16 x) (omega arith) (omega arith)
 
 module _ (img : List ℕ) (df ef : ℕ) (fits : 16 ≤ length img) where
   pub front-current : SameFront img (setCurrent img df ef)

@@ -4,3 +4,4 @@ pub mod Versions
 pub mod Made
 pub mod Headers
 pub mod Lives
+pub mod Starts

@@ -14,7 +14,7 @@ use Rattle.laws.proofs.Says.{same-or, apart}
 use Rattle.numbers.specs.Numbers.{u16At, u32At}
 use Rattle.numbers.proofs.Reading.{u16At-same}
 use Rattle.image.specs.Layout.{base, Within, recAt, withLife, setLife, kindOf, descriptorOf, lifeCycleOf, identifierOf, parentOf}
-use Rattle.image.specs.Layout.{formOf, levelOf, recordLengthOf, sizeOf, nameOf, ruleOf, fieldAt}
+use Rattle.image.specs.Layout.{formOf, levelOf, recordLengthOf, sizeOf, startOf, nameOf, ruleOf, fieldAt}
 use Rattle.image.proofs.Places.{length-record}
 
 module _ (r : List ℕ) (x : ℕ) (whole : length r ≡ 64) where
@@ -65,6 +65,10 @@ module _ (r : List ℕ) (x : ℕ) (whole : length r ≡ 64) where
   pub size-kept : sizeOf (withLife r x) ≡ sizeOf r
   unfolding sizeOf u32At
   size-kept = rw (u16-kept 12 (omega arith), u16-kept (12 + 2) (omega arith))
+
+  pub start-kept : startOf (withLife r x) ≡ startOf r
+  unfolding startOf
+  start-kept = u16-kept 62 (omega arith)
 
   field-kept : (n : ℕ) → 3 ≤ n → n ≤ 33 → getD r n 0 ≤ 30 → fieldAt (withLife r x) n ≡ fieldAt r n
   unfolding fieldAt withLife

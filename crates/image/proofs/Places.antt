@@ -9,7 +9,7 @@ use Rattle.laws.proofs.Splices.{getD-part, part-part, length-part}
 use Rattle.numbers.specs.Numbers.{u16At, u32At}
 use Rattle.numbers.proofs.Reading.{u16At-part, u32At-part}
 use Rattle.image.specs.Layout.{base, Within, recAt, kindOf, descriptorOf, lifeCycleOf, formOf, identifierOf, parentOf}
-use Rattle.image.specs.Layout.{levelOf, recordLengthOf, sizeOf, fieldAt}
+use Rattle.image.specs.Layout.{levelOf, recordLengthOf, sizeOf, startOf, fieldAt}
 
 module _ (img : List ℕ) (s : ℕ) where
   pub byte-in : (k : ℕ) → k < 64 → getD (recAt img s) k 0 ≡ getD img (base s + k) 0
@@ -55,6 +55,10 @@ module _ (img : List ℕ) (s : ℕ) where
   pub size-in : sizeOf (recAt img s) ≡ u32At img (base s + 12)
   unfolding recAt sizeOf
   size-in = u32At-part img (base s) 64 12 (omega arith)
+
+  pub start-in : startOf (recAt img s) ≡ u16At img (base s + 62)
+  unfolding startOf
+  start-in = u16-in 62 (omega arith)
 
   -- the record as a part of the image, from a start to an end
   pub record-in : take (base s + 64 - base s) (drop (base s) img) ≡ recAt img s

@@ -5,25 +5,27 @@ use Prim.Native.Nat.{ℕ, _<_, _≤_}
 use native.Mathlib.Omega.{arith}
 use lib.Dec.{eqb, ltb}
 use borrow.Author.Tests.{eqb-true, ltb-true}
-use Rattle.image.specs.Layout.{longestRule, formsOf, knownVersion}
+use Rattle.image.specs.Layout.{longestRule, formsOf, knownVersion, hasBodies}
 
 pub longest-within : (v : ℕ) → longestRule v ≤ 30
 unfolding longestRule
-longest-within v = go (eqb v 1) (eqb v 2)
+longest-within v = go (eqb v 1) (eqb v 2) (eqb v 3)
   where
-    go : (a b : Bool) → cond a 16 (cond b 30 0) ≤ 30
-    go true b = omega arith
-    go false true = omega arith
-    go false false = omega arith
+    go : (a b c : Bool) → cond a 16 (cond b 30 (cond c 28 0)) ≤ 30
+    go true b c = omega arith
+    go false true c = omega arith
+    go false false true = omega arith
+    go false false false = omega arith
 
-pub known-low : (v : ℕ) → knownVersion v ≡ true → v ≤ 2
+pub known-low : (v : ℕ) → knownVersion v ≡ true → v ≤ 3
 unfolding knownVersion formsOf
-known-low v k = go (eqb v 1) (eqb v 2) refl refl k
+known-low v k = go (eqb v 1) (eqb v 2) (eqb v 3) refl refl refl k
   where
-    go : (a b : Bool) → eqb v 1 ≡ a → eqb v 2 ≡ b → ltb 0 (cond a 1 (cond b 2 0)) ≡ true → v ≤ 2
-    go true b p q t = omega (arith, eqb-true v 1 p)
-    go false true p q t = omega (arith, eqb-true v 2 q)
-    go false false p q t = absurd (false≢true t)
+    go : (a b c : Bool) → eqb v 1 ≡ a → eqb v 2 ≡ b → eqb v 3 ≡ c → ltb 0 (cond a 1 (cond b 2 (cond c 2 0))) ≡ true → v ≤ 3
+    go true b c p q r t = omega (arith, eqb-true v 1 p)
+    go false true c p q r t = omega (arith, eqb-true v 2 q)
+    go false false true p q r t = omega (arith, eqb-true v 3 r)
+    go false false false p q r t = absurd (false≢true t)
 
 pub known-narrow : (v : ℕ) → knownVersion v ≡ true → v < 65536
 known-narrow v k = omega (arith, known-low v k)
@@ -35,18 +37,29 @@ known-form v k = ltb-true 0 (formsOf v) k
 
 pub longest-least : (v : ℕ) → knownVersion v ≡ true → 16 ≤ longestRule v
 unfolding knownVersion formsOf longestRule
-longest-least v k = go (eqb v 1) (eqb v 2) k
+longest-least v k = go (eqb v 1) (eqb v 2) (eqb v 3) k
   where
-    go : (a b : Bool) → ltb 0 (cond a 1 (cond b 2 0)) ≡ true → 16 ≤ cond a 16 (cond b 30 0)
-    go true b t = omega arith
-    go false true t = omega arith
-    go false false t = absurd (false≢true t)
+    go : (a b c : Bool) → ltb 0 (cond a 1 (cond b 2 (cond c 2 0))) ≡ true → 16 ≤ cond a 16 (cond b 30 (cond c 28 0))
+    go true b c t = omega arith
+    go false true c t = omega arith
+    go false false true t = omega arith
+    go false false false t = absurd (false≢true t)
 
 pub forms-few : (v : ℕ) → formsOf v ≤ 2
 unfolding formsOf
-forms-few v = go (eqb v 1) (eqb v 2)
+forms-few v = go (eqb v 1) (eqb v 2) (eqb v 3)
   where
-    go : (a b : Bool) → cond a 1 (cond b 2 0) ≤ 2
-    go true b = omega arith
-    go false true = omega arith
-    go false false = omega arith
+    go : (a b c : Bool) → cond a 1 (cond b 2 (cond c 2 0)) ≤ 2
+    go true b c = omega arith
+    go false true c = omega arith
+    go false false true = omega arith
+    go false false false = omega arith
+
+-- where there are bodies, the rule leaves two bytes for a start
+pub bodies-third : (v : ℕ) → hasBodies v ≡ true → v ≡ 3
+unfolding hasBodies
+bodies-third v h = eqb-true v 3 h
+
+pub bodies-rule : (v : ℕ) → hasBodies v ≡ true → longestRule v ≡ 28
+unfolding longestRule
+bodies-rule v h = rw (bodies-third v h)

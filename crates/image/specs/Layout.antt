@@ -31,13 +31,14 @@ currentEfOf img = u16At img 9
 abbrev pub none : ℕ
 none = 0xFFFF
 
--- The versions (02 Ticket 3), a line for each: how many of the 30 bytes from 34 of a record on a rule may have, and what follows it to the
--- record's end: as many zeros as are left; and how many forms of rules there are
+-- The versions (02 Tickets 3 and 4), a line for each: how many of the 30 bytes from 34 of a record on a rule may have, and what follows it
+-- to the record's end: as many zeros as are left, or the start of a body; and how many forms of rules there are
 
 unfoldable pub longestRule : ℕ → ℕ
 longestRule v =
     cond (eqb v 1) 16
-    (cond (eqb v 2) 30 0)
+    (cond (eqb v 2) 30
+    (cond (eqb v 3) 28 0))
 
 abbrev pub zerosAfter : ℕ → ℕ
 zerosAfter v = 30 - longestRule v
@@ -45,11 +46,16 @@ zerosAfter v = 30 - longestRule v
 unfoldable pub formsOf : ℕ → ℕ
 formsOf v =
     cond (eqb v 1) 1
-    (cond (eqb v 2) 2 0)
+    (cond (eqb v 2) 2
+    (cond (eqb v 3) 2 0))
 
 -- a version is known where it has a form
 unfoldable pub knownVersion : ℕ → Bool
 knownVersion v = ltb 0 (formsOf v)
+
+-- files have bodies (02 Ticket 4)
+unfoldable pub hasBodies : ℕ → Bool
+hasBodies v = eqb v 3
 
 -- the image has room for exactly n records, 2 to 1,023
 pub record Sized (img : List ℕ) (n : ℕ) : Type 0 where
@@ -71,7 +77,7 @@ recAt img s = part img (base s) 64
 
 -- A record: 0 kind (0 free, 1 DF, 2 EF); 1 file descriptor byte; 2 life-cycle byte; 3 the rule's form; 4 identifier;
 -- 6 parent slot; 8 level; 10 record length; 12 size; 16 name length, 17..32 name; 33 rule length, from 34 on the rule; zero
--- after it
+-- after it, but for 62, where a version has bodies: the start of an EF's
 
 unfoldable pub kindOf : List ℕ → ℕ
 kindOf r = getD r 0 0
@@ -99,6 +105,9 @@ recordLengthOf r = u16At r 10
 
 unfoldable pub sizeOf : List ℕ → ℕ
 sizeOf r = u32At r 12
+
+unfoldable pub startOf : List ℕ → ℕ
+startOf r = u16At r 62
 
 -- a length at n, and so many bytes after it
 unfoldable pub fieldAt : List ℕ → ℕ → List ℕ
@@ -146,6 +155,14 @@ withLife r life = splice r 2 (life ∷ [])
 -- another life-cycle byte for record s
 unfoldable pub setLife : List ℕ → ℕ → ℕ → List ℕ
 setLife img s life = splice img (base s + 2) (life ∷ [])
+
+-- a record with another start
+unfoldable pub withStart : List ℕ → ℕ → List ℕ
+withStart r x = splice r 62 (be16 x)
+
+-- another start for record s
+unfoldable pub setStart : List ℕ → ℕ → ℕ → List ℕ
+setStart img s x = splice img (base s + 62) (be16 x)
 
 -- another current DF and current EF
 unfoldable pub setCurrent : List ℕ → ℕ → ℕ → List ℕ

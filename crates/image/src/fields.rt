@@ -4,7 +4,7 @@ ghost use Prim.Native.Nat.{_+_, _*_, _<_, _≤_};
 ghost use lib.ListN.{length, getD};
 ghost use Rattle.image.specs.Layout.{versionOf, countOf, currentDfOf, currentEfOf, Within, recAt, kindOf, descriptorOf};
 ghost use Rattle.image.specs.Layout.{lifeCycleOf, formOf};
-ghost use Rattle.image.specs.Layout.{identifierOf, parentOf, levelOf, recordLengthOf, sizeOf, fieldAt, nameOf, ruleOf};
+ghost use Rattle.image.specs.Layout.{identifierOf, parentOf, levelOf, recordLengthOf, sizeOf, startOf, fieldAt, nameOf, ruleOf};
 
 // The version.
 pub fn version(image: &[u8]) -> u32
@@ -101,6 +101,14 @@ pub fn size(image: &[u8], s: usize) -> u64
     ensures { λ r. ⌜ (r ≡ sizeOf (recAt (now (image .entry)) s)) × (r < 4294967296) ⌝ }
 {
     numbers::u32_at(image, 16 + 64 * s + 12) as u64
+}
+
+// Where the body starts, in the pool.
+pub fn start(image: &[u8], s: usize) -> usize
+    requires { ⌜ Within (now image) s ⌝ }
+    ensures { λ r. ⌜ (r ≡ startOf (recAt (now (image .entry)) s)) × (r < 65536) ⌝ }
+{
+    numbers::u16_at(image, 16 + 64 * s + 62) as usize
 }
 
 // The 64 bytes of record s, as a part of the image.

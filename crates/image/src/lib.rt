@@ -1,5 +1,6 @@
 // The card image in its lent buffer: the header, the records and their fields, read and written. It answers 01
-// "Image", the two tables: where each field stands, and what a write leaves of the other bytes. What makes an image
+// "Image", the two tables, and what 02 Tickets 3 and 4 lay down by version: where each field stands, and what a write leaves of the
+// other bytes. What makes an image
 // sound is the matter of the crates above.
 pub mod fields;
 pub mod version;

@@ -1,7 +1,7 @@
-// What a version of the image lays down, a line for each version (01 "Image"; 02 Ticket 3).
+// What a version of the image lays down, a line for each version (01 "Image"; 02 Tickets 3 and 4).
 ghost use mathlib.Core.Path.{_≡_};
 ghost use Prim.Native.Nat.{_≤_};
-ghost use Rattle.image.specs.Layout.{longestRule, formsOf, knownVersion};
+ghost use Rattle.image.specs.Layout.{longestRule, formsOf, knownVersion, hasBodies};
 
 // How many bytes a rule may have, from 34 of a record on; 0 where the version is not known.
 pub fn longest_rule(v: u32) -> usize
@@ -12,6 +12,9 @@ pub fn longest_rule(v: u32) -> usize
     }
     if v == 2 {
         return 30;
+    }
+    if v == 3 {
+        return 28;
     }
     0
 }
@@ -26,6 +29,9 @@ pub fn forms(v: u32) -> u8
     if v == 2 {
         return 2;
     }
+    if v == 3 {
+        return 2;
+    }
     0
 }
 
@@ -33,4 +39,11 @@ pub fn is_known(v: u32) -> bool
     ensures { λ r. ⌜ r ≡ knownVersion v ⌝ }
 {
     0 < forms(v)
+}
+
+// Whether files have bodies.
+pub fn has_bodies(v: u32) -> bool
+    ensures { λ r. ⌜ r ≡ hasBodies v ⌝ }
+{
+    v == 3
 }

@@ -1,10 +1,11 @@
-// The writes into an image: a whole record, a free one, a life-cycle byte, what is current (01 "Image"). Each
+// The writes into an image: a whole record, a free one, a life-cycle byte, a start, what is current (01 "Image"). Each
 // leaves every byte that it does not name.
 ghost use mathlib.Core.Path.{_≡_};
-ghost use Prim.Native.Nat.{_+_, _*_, _≤_};
+ghost use Prim.Native.Nat.{_+_, _*_, _<_, _≤_};
 ghost use lib.ListN.{length};
 ghost use Rattle.laws.specs.Lists.{splice};
 ghost use Rattle.image.specs.Layout.{Within, longestRule, field, headBytes, recordBytes, putRecord, clearRecord, setLife, setCurrent};
+ghost use Rattle.image.specs.Layout.{setStart};
 use crate::Head;
 use crate::version;
 
@@ -62,6 +63,14 @@ pub fn set_life(image: &mut [u8], s: usize, life: u8)
     ensures { λ _. ⌜ now (image .exit) ≡ setLife (now (image .entry)) s life ⌝ }
 {
     numbers::put8(image, 16 + 64 * s + 2, life);
+}
+
+// Another start for the body of record s.
+pub fn set_start(image: &mut [u8], s: usize, to: usize)
+    requires { ⌜ Within (now image) s × (to < 65536) ⌝ }
+    ensures { λ _. ⌜ now (image .exit) ≡ setStart (now (image .entry)) s to ⌝ }
+{
+    numbers::put16(image, 16 + 64 * s + 62, to as u16);
 }
 
 // Another current DF, another current EF.

@@ -4,6 +4,7 @@ use mathlib.Core.Bool.{not}
 use mathlib.Core.List.{List, [], _∷_}
 use lib.ListN.{length}
 use lib.Dec.{eqb, leb}
+use Rattle.image.specs.Layout.{versionOf}
 use Rattle.sound.specs.Kinship.{terminatedAt}
 use Rattle.verdict.specs.declared.State.{State}
 use Rattle.verdict.specs.Words.{wrongLength, wrongClass, wrongInstruction, wrongParameters, conditionsNotSatisfied}
@@ -24,6 +25,6 @@ sharedSteps img c st =
     step (leb 4 (length c)) wrongLength                                                              -- A
     ∷ step (not (onOtherChannel (classByte c))) conditionsNotSatisfied                               -- B
     ∷ step (eqb (classByte c) 0x00) wrongClass
-    ∷ step (isKnown (instruction c)) wrongInstruction                                                -- C
+    ∷ step (isKnown (versionOf img) (instruction c)) wrongInstruction                                -- C
     ∷ step (not (terminatedAt img 0)) conditionsNotSatisfied                                         -- D
     ∷ laterSteps c st                                                                                -- E to G

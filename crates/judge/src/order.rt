@@ -4,13 +4,14 @@ ghost use mathlib.Core.Path.{_≡_};
 ghost use mathlib.Core.Bool.{true};
 ghost use Prim.Native.Nat.{_≤_};
 ghost use lib.ListN.{length};
-ghost use Rattle.image.specs.Layout.{currentDfOf};
+ghost use Rattle.image.specs.Layout.{versionOf, currentDfOf};
 ghost use Rattle.sound.specs.Sound.{Sound};
 ghost use Rattle.judge_target.specs.Judgeable.{Judgeable};
 ghost use Rattle.judge_target.specs.Steps.{judged, followed};
-ghost use Rattle.apdu.specs.Apdu.{fitLength};
+ghost use Rattle.apdu.specs.Apdu.{isKnown, fitLength};
 ghost use Rattle.judge.specs.Shared.{laterSteps};
-ghost use Rattle.judge.specs.Judge.{lifePlan, planFor, judgeFor, judgeOf};
+ghost use Rattle.judge.specs.Judge.{lifePlan, bodyPlan, planFor, judgeFor, judgeOf};
+use apdu::bodies;
 use image::fields;
 use judge_target::target;
 use rules::Sets;
@@ -39,6 +40,24 @@ fn on_current(image: &[u8], n: usize, d: usize, i: u8, sets: Sets) -> Verdict
     judge_commands::terminate_card(image, n, d, sets)
 }
 
+// The commands on a body, which are about the current EF.
+fn on_body(image: &[u8], n: usize, d: usize, command: &[u8], sets: Sets) -> Verdict
+    requires { ⌜ Judgeable (now image) n d ⌝ }
+    requires { ⌜ 5 ≤ length (now command) ⌝ }
+    ensures { λ r. ⌜ r ≡ followed (bodyPlan (now (image .entry)) (now (command .entry)) sets) ⌝ }
+{
+    let i = command[1];
+    let t = fields::current_ef(image);
+    let reads = bodies::is_read(i);
+    let count = bodies::asked(command);
+    if bodies::is_binary(i) {
+        let from = bodies::sent_start(command) as usize;
+        return judge_bodies::binary(image, n, d, t, reads, from, count, sets);
+    }
+    let number = bodies::record_number(command);
+    judge_bodies::recordwise(image, n, d, t, reads, number, count, sets)
+}
+
 // The steps of the command's own, by its instruction; the shared ones have passed. d is the current DF.
 fn by_instruction(image: &[u8], n: usize, d: usize, command: &[u8], state: State) -> Verdict
     requires { ⌜ Judgeable (now image) n d ⌝ }
@@ -56,6 +75,9 @@ fn by_instruction(image: &[u8], n: usize, d: usize, command: &[u8], state: State
     }
     if i == apdu::DELETE_FILE {
         return judge_commands::delete_file(image, n, d, apdu::sent_identifier(command), sets);
+    }
+    if bodies::is_body(i) {
+        return on_body(image, n, d, command, sets);
     }
     on_current(image, n, d, i, sets)
 }
@@ -79,6 +101,14 @@ fn judge_later(image: &[u8], n: usize, d: usize, command: &[u8], state: State) -
     by_instruction(image, n, d, command, state)
 }
 
+// Whether the card has the instruction, by its version.
+fn is_known(image: &[u8], i: u8) -> bool
+    requires { ⌜ 16 ≤ length (now image) ⌝ }
+    ensures { λ r. ⌜ r ≡ isKnown (versionOf (now (image .entry))) i ⌝ }
+{
+    apdu::is_known(fields::version(image), i)
+}
+
 // The verdict on a command, on a sound image with n slots and the current DF d.
 fn judge_for(image: &[u8], n: usize, d: usize, command: &[u8], state: State) -> Verdict
     requires { ⌜ Judgeable (now image) n d ⌝ }
@@ -94,7 +124,7 @@ fn judge_for(image: &[u8], n: usize, d: usize, command: &[u8], state: State) -> 
     if command[0] != 0x00 {
         return Verdict::Refuse(words::WRONG_CLASS);
     }
-    if !apdu::is_known(command[1]) {
+    if !is_known(image, command[1]) {
         return Verdict::Refuse(words::WRONG_INSTRUCTION);
     }
     if target::is_terminated(image, 0) {

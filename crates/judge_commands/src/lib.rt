@@ -1,5 +1,5 @@
-// The commands, each by its own steps H to L (01, from "SELECT" on): the word of the first that fails, or the
-// effect that is due.
+// The commands but CREATE and those on bodies, each by its own steps H to L (01, from "SELECT" on): the word of the first that
+// fails, or the effect that is due.
 ghost use mathlib.Core.Path.{_≡_};
 ghost use Prim.Native.Nat.{_<_, _≤_};
 ghost use Rattle.image.specs.Layout.{Within, none};

@@ -46,8 +46,8 @@ linesFrom (suc turns) s at = cond (wholeAt s at) (lineAt s at ++ linesFrom turns
 unfoldable pub headOf : List ℕ → List ℕ
 headOf s = cond (isTemplate s) [] (markLine 0 head)
 
--- what CREATE makes of data on a card of version 1, and so of version 2 (`DataAlike` in create_data/specs/Grammar), as a word; of data
--- that it refuses there, what on a card of version 2 alone
+-- what CREATE makes of data on a card of version 1, and so of any (`DataAlike` in create_data/specs/Grammar), as a word; of data that it
+-- refuses there, what on a card of version 2, which takes all that version 3 takes, and longer rules
 abbrev pub laterWordOf : Data → List ℕ
 laterWordOf (Df x) = laterDf
 laterWordOf (Ef x) = laterEf

@@ -5,7 +5,8 @@
 // 01 07 activated`: an 8A of one byte, with its life cycle in words. `15 END`: the objects end where the data does. `0A
 // BREAK`: no whole object stands at 0A. `00 HEAD`, in front: the data is not 62, LL and LL bytes. The last line is CREATE's
 // own reading: `DF`, `EF` or `6A80`, behind the place up to which it took the objects in 01's order. `DF 2` and `EF 2` are what
-// only a card of version 2 takes, for its rule (02 Ticket 3): the data do not say which card they are for.
+// a card of version 2 takes and one of version 1 does not, for its rule (02 Ticket 3; up to 28 bytes of rule, one of version 3 takes it
+// too): the data do not say which card they are for.
 ghost use mathlib.Core.Path.{_≡_};
 ghost use Prim.Native.Nat.{_+_, _<_, _≤_};
 ghost use lib.ListN.{length};

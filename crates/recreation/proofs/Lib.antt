@@ -1,3 +1,4 @@
 pub mod Told
+pub mod NewRecord
 pub mod MadeAgain
 pub mod Somewhere

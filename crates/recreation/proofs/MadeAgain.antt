@@ -1,9 +1,9 @@
 -- Re-creation (`made-again`): CREATE's conditions hold on a card that welcomes the file, and what it makes of the data is the file's
--- own record under another parent and level.
+-- own record under another parent and level, with the start that its body has there.
 use mathlib.Core.Path.{_≡_, refl, ap, subst, _∙_}
 use mathlib.Core.Bool.{Bool, true, false}
-use mathlib.Core.List.{List}
-use mathlib.Core.Logic.{_⊎_, ⊎-elim}
+use mathlib.Core.List.{List, _++_}
+use mathlib.Core.Logic.{⊎-elim}
 use Prim.Native.Nat.{ℕ, zero, suc, _+_, _<_, _≤_}
 use native.Mathlib.Omega.{arith}
 use lib.Dec.{eqb, ltb}
@@ -11,39 +11,35 @@ use lib.ListN.{length, getD, List·getD-eq-default}
 use borrow.Author.Tests.{ltb-true, ltb-false}
 use Rattle.laws.specs.declared.Found.{Found}
 use Rattle.laws.specs.declared.Found.the-variants.{At, Nothing}
-use Rattle.laws.specs.Lists.{Bytes}
+use Rattle.laws.specs.Lists.{Bytes, splice}
 use Rattle.laws.proofs.Firsts.{first-is}
+use Rattle.numbers.specs.Numbers.{be16}
 use Rattle.rules.specs.Life.{newLife, lifeOf, terminated}
-use Rattle.image.specs.declared.Head.{Head}
-use Rattle.image.specs.Layout.{longestRule, versionOf}
-use Rattle.image.specs.Layout.{base, countOf, currentDfOf, recAt, lifeCycleOf, identifierOf, sizeOf, nameOf, ruleOf, recordBytes}
-use Rattle.image.proofs.Made.{length-made}
-use Rattle.image.proofs.Records.{record-same}
-use Rattle.image.proofs.Headers.{header-put, record-current}
+use Rattle.image.specs.Layout.{versionOf, base, countOf, currentDfOf, recAt, lifeCycleOf, identifierOf, sizeOf, nameOf, ruleOf}
 use Rattle.image.proofs.Places.{byte-in, length-record}
 use Rattle.access.proofs.Fits.{fits-short}
 use Rattle.sound.specs.Own.{Used}
 use Rattle.sound.specs.Table.{viewAt, up}
 use Rattle.sound.specs.Sound.{Sound}
 use Rattle.sound.specs.Kinship.{freeSlot, roomFor}
-use Rattle.sound.specs.Effects.{created}
+use Rattle.sound.specs.Effects.{made}
 use Rattle.sound.proofs.Front.{sound-within}
 use Rattle.sound.proofs.FullTable.{root-above, slot-exists}
 use Rattle.create_data.specs.declared.Data.{Data}
 use Rattle.create_data.specs.declared.Data.the-variants.{Df, Ef, Bad}
 use Rattle.create_data.specs.Data.{dataOf}
 use Rattle.fcp.specs.Template.{templateOf, withC6}
-use Rattle.fcp.specs.Again.{Sends, Tells, headAgain}
+use Rattle.fcp.specs.Again.{Sends, Tells, headAgain, startedAt}
 use Rattle.fcp.proofs.Values.{name-short}
 use Rattle.fcp.proofs.ReadBack.{read-back}
-use Rattle.fcp.proofs.RecordAgain.{record-again}
 use Rattle.verdict.specs.declared.State.{State}
 use Rattle.judge_target.specs.Target.{lifeAt, slotIn, rightFor, newIdentifier, newName, newSize}
 use Rattle.card.specs.Conditions.{Met, NoneTerminated, createAsks, found}
 use Rattle.card.specs.Obeyed.{creating}
 use Rattle.card.proofs.Obeyed.{create-obeys}
+use Rattle.recreation.proofs.NewRecord.{made-record, bytes-again}
 use Rattle.recreation.proofs.Told.{found-stands, select-told}
-use Rattle.recreation.specs.Recreation.{createOf, rightOf, Welcomes, newSlot, MadeAgain}
+use Rattle.recreation.specs.Recreation.{createOf, rightOf, Welcomes, newSlot, newStart, MadeAgain}
 
 -- what data say that tell of record r
 record Same (s r : List ℕ) (x : Data) : Type 0 where
@@ -60,7 +56,7 @@ same s r (Ef x) t = record { right = rw (t .kind-is); identifier = t .identifier
 -- .. and what CREATE makes of them
 makes : (other s r : List ℕ) (slot : ℕ) (x : Data) → Tells s r x
     → creating other s slot x
-    ≡ created other slot (headAgain r (currentDfOf other) (viewAt other (currentDfOf other) .level + 1)) (nameOf r) (ruleOf r)
+    ≡ made other slot (headAgain r (currentDfOf other) (viewAt other (currentDfOf other) .level + 1)) (nameOf r) (ruleOf r)
 makes other s r slot Bad t = absurd t
 makes other s r slot (Df x) t = cc
 makes other s r slot (Ef x) t = cc
@@ -81,7 +77,7 @@ bytes-in img s h b k = go (ltb k 64) refl
         rw (List·getD-eq-default (recAt img s) 0 l) (omega arith)
 
 module _ (other : List ℕ) (sound : Sound other) where
-  -- the new slot is one, and holds what was made
+  -- the new slot is one
   module _ (size : ℕ) (room : size + 64 ≤ roomFor (countOf other) (viewAt other) (currentDfOf other)) where
     slot-low : newSlot other < countOf other
     unfolding freeSlot
@@ -91,20 +87,10 @@ module _ (other : List ℕ) (sound : Sound other) where
         go (At t) e = first-is (countOf other) (λ t. eqb (viewAt other t .kind) 0) t e .low
         go Nothing e = absurd (slot-exists other (currentDfOf other) size sound (sound .current .df-low) (sound .current .df-dir) room e)
 
-  new-record : (t : ℕ) (h : Head) (name rule : List ℕ) → t < countOf other → length name ≤ 16 → length rule ≤ longestRule (versionOf other)
-      → recAt (created other t h name rule) t ≡ recordBytes (versionOf other) h name rule
-  unfolding created
-  new-record t h name rule low short small =
-      let whole = length-made (versionOf other) h name rule short small in
-      let put = header-put other t (recordBytes (versionOf other) h name rule) (sound-within other sound t low) whole in
-      record-current _ _ _ (omega (arith, put .long, sound .header .long)) t (omega (arith, put .long, sound-within other sound t low .0))
-      ∙ record-same other t _ (sound-within other sound t low) whole
-
 -- the file in slot s, whose template is sent
-module _ (img : List ℕ) (s : ℕ) (sent other : List ℕ) (st : State) (own : Used (versionOf other) (recAt img s))
+module _ (img : List ℕ) (s : ℕ) (sent other bodies : List ℕ) (st : State) (own : Used (versionOf other) (recAt img s))
     (life : newLife (lifeCycleOf (recAt img s)) ≡ true) (sends : Sends (recAt img s) (templateOf (recAt img s)) sent) (whole : Sound other)
-    (welcomes : Welcomes img other (recAt img s) st) where
-
+    (welcomes : Welcomes img other bodies (recAt img s) st) where
   told : Tells sent (recAt img s) (dataOf (versionOf other) sent)
   told = read-back (versionOf other) (recAt img s) sent own life sends .1
 
@@ -124,34 +110,65 @@ module _ (img : List ℕ) (s : ℕ) (sent other : List ℕ) (st : State) (own : 
       (whole .current .df-low) (λ z. omega (arith, z, whole .current .df-dir))) ∙ e)
 
   met : Met (createAsks other (createOf sent) st)
-  met =
-      (omega arith, ((λ k. omega (arith, k .0)), (refl, (alive,
-      (welcomes .alone, ((refl, refl), ((sends-some (recAt img s) sent sends, omega arith),
-      (read-back (versionOf other) (recAt img s) sent own life sends .0,
-      (rw (said .right) (welcomes .right),
-      (((λ e. omega (arith, e, welcomes .active)), none-terminated),
-      (rw (said .identifier) ((λ t l f p q. welcomes .empty t l f p), welcomes .identifier),
-      (rw (said .name) (welcomes .name),
-      (rw (said .size) (welcomes .room), tt)))))))))))))
+  met = (
+    omega arith,
+    (
+      (λ k. omega (arith, k .0)),
+      (
+        refl,
+        (
+          alive,
+          (
+            welcomes .alone,
+            (
+              (refl, refl),
+              (
+                (sends-some (recAt img s) sent sends, omega arith),
+                (
+                  read-back (versionOf other) (recAt img s) sent own life sends .0,
+                  (
+                    rw (said .right) (welcomes .right),
+                    (
+                      ((λ e. omega (arith, e, welcomes .active)), none-terminated),
+                      (
+                        rw (said .identifier) ((λ t l f p q. welcomes .empty t l f p), welcomes .identifier),
+                        (
+                          rw (said .name) (welcomes .name),
+                          (rw (said .size) (welcomes .room), tt),
+                        ),
+                      ),
+                    ),
+                  ),
+                ),
+              ),
+            ),
+          ),
+        ),
+      ),
+    ),
+  )
 
 -- what was told is the template
 of-template : (r t u s : List ℕ) → t ≡ u → Sends r t s → Sends r u s
 of-template r t u s e w = subst (λ (x : List ℕ). Sends r x s) e w
 
 pub made-again : MadeAgain
-made-again img c st response n sent other state buffer bytes sound said life sends whole welcomes =
+made-again img pool c st response n sent other bodies state buffer bytes sound said life sends whole welcomes =
     let s = found img c in
     let r = recAt img s in
-    let file = found-stands img c st response n sound said in
+    let d = currentDfOf other in
+    let file = found-stands img pool c st response n sound said in
     let u : Used (versionOf other) r = rw (welcomes .version) (sound .records s (file .low) .used (file .used)) in
-    let w = of-template r _ _ sent (select-told img c st response n sound said) sends in
-    let k = create-obeys other (createOf sent) state buffer whole refl .met (met img s sent other state u life w whole welcomes) in
+    let w = of-template r _ _ sent (select-told img pool c st response n sound said) sends in
+    let k = create-obeys other bodies (createOf sent) state buffer whole (welcomes .pool-fits) refl .met
+    (met img s sent other bodies state u life w whole welcomes)
+    in
     let long = sound-within img sound s (file .low) .0 in
-    let slot = slot-low other whole (sizeOf r) (welcomes .room) in
-    (
+    let slot = slot-low other whole (sizeOf r) (welcomes .room) in (
       k .0,
       ap (λ (x : List ℕ). recAt x (newSlot other)) (k .1 ∙ makes other sent r (newSlot other) (dataOf (versionOf other) sent)
-      (told img s sent other state u life w whole welcomes))
-      ∙ new-record other whole (newSlot other) _ _ _ slot (name-short _ r u) (fits-short _ _ (ruleOf r) (u .formed))
-      ∙ record-again _ r _ _ (length-record img s long) (bytes-in img s long bytes) u,
+          (told img s sent other bodies state u life w whole welcomes))
+          ∙ made-record other whole (newSlot other) _ _ _ slot (name-short _ r u) (fits-short _ _ (ruleOf r) (u .formed))
+          ∙ bytes-again other r _ _ (length-record img s long) (bytes-in img s long bytes) u
+          ∙ ap (λ (v : ℕ). splice (startedAt v r (newStart other r)) 6 (be16 d ++ be16 (viewAt other d .level + 1))) (welcomes .version),
     )

@@ -6,6 +6,7 @@ use mathlib.Core.Logic.{⊎-elim}
 use Prim.Native.Nat.{ℕ, suc, _+_, _*_, _-_, _<_, _≤_}
 use native.Mathlib.Omega.{arith}
 use lib.Dec.{eqb}
+use lib.ListN.{length}
 use Rattle.laws.specs.Walks.{anyBelow, countBelow}
 use Rattle.laws.proofs.Says.{same-or}
 use Rattle.laws.proofs.Sums.{sum-none}
@@ -26,7 +27,7 @@ use Rattle.access.specs.Access.{compact, wellFormed, fitsRecord, grantedOf}
 use Rattle.access.proofs.Fits.{fits-says}
 use Rattle.sound.specs.Table.{View, File, viewAt, up, charged, chargeOf}
 use Rattle.sound.specs.Kin.{Placed}
-use Rattle.sound.specs.Sound.{Sound}
+use Rattle.sound.specs.Sound.{Sound, poolLength}
 use Rattle.sound.specs.Kinship.{roomFor, totalFor}
 use Rattle.sound.specs.Effects.{rootHead, fresh}
 use Rattle.sound.proofs.Charges.{charge-free, charge-stranger}
@@ -96,8 +97,8 @@ module _ (v n total : ℕ) (known : knownVersion v ≡ true) (least : 2 ≤ n) (
   unfolding roomFor totalFor charged
   all-room =
       let none = sum-none n (λ t. chargeOf 0 t (viewAt card t))
-          (λ t l. ⊎-elim (λ e. charge-stranger 0 t (viewAt card t) (λ u z w. z e))
-          (λ z. charge-free 0 t (viewAt card t) (ap (λ (x : View). x .kind) (free t l z))) (same-or t 0))
+      (λ t l. ⊎-elim (λ e. charge-stranger 0 t (viewAt card t) (λ u z w. z e))
+      (λ z. charge-free 0 t (viewAt card t) (ap (λ (x : View). x .kind) (free t l z))) (same-or t 0))
       in
       omega (arith, none, ap (λ (x : View). x .size) at-root)
 
@@ -107,12 +108,17 @@ module _ (v n total : ℕ) (known : knownVersion v ≡ true) (least : 2 ≤ n) (
       (λ z. ap (λ (x : View). x .name) (free t l z))
       (same-or t 0)
 
-  welcomes : (img r : List ℕ) (x : Sets) → versionOf img ≡ v → (identifierOf r ≡ 0x3F00 → ⊥) → sizeOf r + 64 ≤ total
-      → Welcomes img card r (record { sets = x; channels = 0 })
+  -- the pool is as long as its total
+  total-is : poolLength card ≡ total
+  total-is = ap (λ (x : View). x .size) at-root
+
+  welcomes : (img bodies r : List ℕ) (x : Sets) → versionOf img ≡ v → (identifierOf r ≡ 0x3F00 → ⊥) → sizeOf r + 64 ≤ total
+      → length bodies ≡ total → Welcomes img card bodies r (record { sets = x; channels = 0 })
   unfolding card allowedAt up
-  welcomes img r x same other fits = record {
+  welcomes img bodies r x same other fits long = record {
     version = fresh-version v n total compact allowing least most some within (all-fits v known) ∙ sym same;
     alone = refl;
+    pool-fits = λ h. long ∙ sym total-is;
     empty = λ t l f p. nobody t (rw slots at l) f;
     active = rw here (ap lifeOf (ap lifeCycleOf its-root ∙ life-made v (rootHead total compact) [] allowing) ∙ activated-is);
     above = λ k a b. absurd (omega (arith, a, b, level));
@@ -121,7 +127,7 @@ module _ (v n total : ℕ) (known : knownVersion v ≡ true) (least : 2 ≤ n) (
       ap formOf its-root ∙ form-made v (rootHead total compact) [] allowing,
       ap ruleOf its-root ∙ rule-made v (rootHead total compact) [] allowing (omega arith),
     )
-    (all-grants x r);
+        (all-grants x r);
     room = rw (here, slots) (omega (arith, all-room, fits));
     identifier = λ k l e. other
         (sym e ∙ ap (λ (j : ℕ). viewAt card (up (viewAt card) j (currentDfOf card)) .identifier) (none-above k l)
@@ -159,8 +165,8 @@ not-3F00 img sound s low file e =
 
 pub welcome-somewhere : WelcomeSomewhere
 unfolding card
-welcome-somewhere img s x sound low used z = (
+welcome-somewhere img s x bodies sound low used z long = (
   whole (versionOf img) 1023 65408 (sound .header .version) (omega arith) (omega arith) (omega arith) (omega arith),
-  welcomes (versionOf img) 1023 65408 (sound .header .version) (omega arith) (omega arith) (omega arith) (omega arith) img (recAt img s) x
-      refl (not-3F00 img sound s low (used, z)) (file-fits img sound s low used z),
+  welcomes (versionOf img) 1023 65408 (sound .header .version) (omega arith) (omega arith) (omega arith) (omega arith) img bodies
+      (recAt img s) x refl (not-3F00 img sound s low (used, z)) (file-fits img sound s low used z) long,
 )

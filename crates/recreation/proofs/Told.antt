@@ -1,6 +1,6 @@
 -- What SELECT told is the template of the file that it found: `select-told`.
 use mathlib.Core.Path.{_≡_, refl, sym, ap, _∙_}
-use mathlib.Core.Bool.{Bool, true, false, cond}
+use mathlib.Core.Bool.{Bool, true, false, cond, false≢true}
 use mathlib.Core.List.{List, []}
 use mathlib.Core.Logic.{⊎-elim}
 use Prim.Native.Nat.{ℕ, _≤_}
@@ -12,6 +12,7 @@ use Rattle.laws.proofs.Splices.{part-splice}
 use Rattle.rules.specs.Life.{lifeOf}
 use Rattle.image.specs.Layout.{countOf, currentDfOf, recAt}
 use Rattle.sound.specs.Sound.{Sound}
+use Rattle.sound.proofs.Says.{sound-says}
 use Rattle.kinship.specs.Climb.{Stands}
 use Rattle.fcp.specs.Template.{templateOf}
 use Rattle.verdict.specs.declared.State.{State}
@@ -19,12 +20,13 @@ use Rattle.judge_target.specs.Target.{lifeAt}
 use Rattle.judge_target.proofs.FromSound.{judgeable, selected-stands}
 use Rattle.apdu.specs.Apdu.{sentIdentifier}
 use Rattle.card.specs.declared.Reply.the-variants.{Word, Short}
-use Rattle.card.specs.Command.{answerTold, responseOf}
+use Rattle.card.specs.Command.{answerNumber, answerTold, poolFits, PoolFits, responseOf}
 use Rattle.card.specs.Conditions.{Met, selectAsks, found}
 use Rattle.card.specs.Obeyed.{refusal, Obeys, wordFor, selecting, telling}
 use Rattle.card.proofs.Obeyed.{select-obeys}
 use Rattle.card.proofs.Telling.{found-at}
-use Rattle.card.proofs.Answered.{response-stays}
+use Rattle.card.proofs.Due.{pool-says}
+use Rattle.card.proofs.Answered.{wrong-pool-refused, response-stays}
 use Rattle.recreation.specs.Recreation.{Told, toldBy, SelectTold}
 
 -- a refusal tells nothing
@@ -47,10 +49,20 @@ some-template c t h = go (eqb (getD c 3 0) 0x04) h
     go true k = refl
     go false k = absurd (omega arith)
 
-module _ (img c : List ℕ) (st : State) (response : List ℕ) (n : ℕ) (sound : Sound img) (t : Told img c st response n) where
-  obeyed : Obeys img c st response (selectAsks img c (length response)) (wordFor (lifeOf (lifeAt img (found img c))))
-      (selecting img (found img c)) (telling img c (found img c))
-  obeyed = select-obeys img c st response sound (t .select)
+module _ (img pool c : List ℕ) (st : State) (response : List ℕ) (n : ℕ) (sound : Sound img) (t : Told img pool c st response n) where
+  -- a word was given, so the pool was the card's
+  fit : PoolFits img pool
+  fit = pool-says img pool .0 (go (poolFits img pool) refl)
+    where
+      go : (b : Bool) → poolFits img pool ≡ b → b ≡ true
+      go true q = refl
+      go false q =
+          let z : PoolFits img pool → ⊥ = λ k. false≢true (sym q ∙ pool-says img pool .1 k) in
+          absurd (omega (arith, ap answerNumber (t .reply), wrong-pool-refused img pool c st response (sound-says img .1 sound) .0 z .0))
+
+  obeyed : Obeys img pool c st response (selectAsks img c (length response)) (wordFor (lifeOf (lifeAt img (found img c))))
+      (selecting img (found img c)) pool (telling img c (found img c))
+  obeyed = select-obeys img pool c st response sound fit (t .select)
 
   -- bytes were told, so all asks are met
   asks-met : Met (selectAsks img c (length response))
@@ -64,14 +76,14 @@ module _ (img c : List ℕ) (st : State) (response : List ℕ) (n : ℕ) (sound 
       selected-stands img (countOf img) (currentDfOf img) (sentIdentifier c) (found img c) (judgeable img sound)
       (found-at _ (asks-met .1 .1 .1 .1 .1 .1 .0))
 
-  told-is : toldBy img c st response n ≡ templateOf (recAt img (found img c))
+  told-is : toldBy img pool c st response n ≡ templateOf (recAt img (found img c))
   told-is =
       let k = obeyed .met asks-met in
       let long : n ≡ length (telling img c (found img c)) = ap answerTold (sym (t .reply) ∙ k .0) in
-      let within = response-stays img c st response .within in
-      ap (λ (i : ℕ). take i (responseOf img c st response)) long ∙ ap (take (length (telling img c (found img c)))) (k .2)
+      let within = response-stays img pool c st response .within in
+      ap (λ (i : ℕ). take i (responseOf img pool c st response)) long ∙ ap (take (length (telling img c (found img c)))) (k .3)
       ∙ take-splice response (telling img c (found img c)) (omega (arith, long, within, ap answerTold (t .reply)))
       ∙ some-template c (templateOf (recAt img (found img c))) (omega (arith, long, t .some))
 
 pub select-told : SelectTold
-select-told img c st response n sound t = told-is img c st response n sound t
+select-told img pool c st response n sound t = told-is img pool c st response n sound t

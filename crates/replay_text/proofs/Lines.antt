@@ -50,19 +50,19 @@ sent-part s at to e =
     ap (λ (n : ℕ). take n (drop (at + 2) s)) f
 
 -- r is what the card answered, the case k, with a response o that is long enough
-pub stepped : {img c o left y : List ℕ} {r k : Reply} → CommandPromises img c full o r left y → r ≡ k → length o ≡ lent
-    → (answerWord k ≡ answerWord (replyOf img c full lent)) × (left ≡ imageOf img c full lent)
+pub stepped : {img c o left z y : List ℕ} {r k : Reply} → CommandPromises img [] c full o r left z y → r ≡ k → length o ≡ lent
+    → (answerWord k ≡ answerWord (replyOf img [] c full lent)) × (left ≡ imageOf img [] c full lent)
 stepped {img} {c} p e l = (
-  ap answerWord (sym e ∙ p .reply) ∙ ap (λ (n : ℕ). answerWord (replyOf img c full n)) l,
-  p .image ∙ ap (λ (n : ℕ). imageOf img c full n) l,
+  ap answerWord (sym e ∙ p .reply) ∙ ap (λ (n : ℕ). answerWord (replyOf img [] c full n)) l,
+  p .image ∙ ap (λ (n : ℕ). imageOf img [] c full n) l,
 )
 
-pub turned-image : (s : List ℕ) (at : ℕ) (img c y : List ℕ) → c ≡ sentAt s at → y ≡ imageOf img c full lent → y ≡ imageAt s at img
+pub turned-image : (s : List ℕ) (at : ℕ) (img c y : List ℕ) → c ≡ sentAt s at → y ≡ imageOf img [] c full lent → y ≡ imageAt s at img
 unfolding imageAt
-turned-image s at img c y e h = h ∙ ap (λ (x : List ℕ). imageOf img x full lent) e
+turned-image s at img c y e h = h ∙ ap (λ (x : List ℕ). imageOf img [] x full lent) e
 
-pub turned-out : (s : List ℕ) (at : ℕ) (img c out y : List ℕ) (put w : ℕ) → c ≡ sentAt s at → w ≡ answerWord (replyOf img c full lent)
+pub turned-out : (s : List ℕ) (at : ℕ) (img c out y : List ℕ) (put w : ℕ) → c ≡ sentAt s at → w ≡ answerWord (replyOf img [] c full lent)
     → y ≡ splice out put (lineOf w) → y ≡ splice out put (lineOf (wordAt s at img))
 unfolding wordAt
 turned-out s at img c out y put w e h g =
-    g ∙ ap (λ (n : ℕ). splice out put (lineOf n)) (h ∙ ap (λ (x : List ℕ). answerWord (replyOf img x full lent)) e)
+    g ∙ ap (λ (n : ℕ). splice out put (lineOf n)) (h ∙ ap (λ (x : List ℕ). answerWord (replyOf img [] x full lent)) e)

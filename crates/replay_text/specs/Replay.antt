@@ -2,16 +2,18 @@
 -- and seven 00; sets full, no other channel.
 use Prim.Native.Nat.{ℕ, zero, suc, _+_, _*_}
 use mathlib.Core.Path.{_≡_}
-use mathlib.Core.Bool.{Bool, true, cond, _&&_, _||_}
+use mathlib.Core.Bool.{Bool, true, false, cond, _&&_, _||_}
 use mathlib.Core.List.{List, [], _∷_, _++_}
 use lib.Dec.{eqb, ltb, leb}
 use lib.ListN.{length, getD, replicate}
 use Rattle.laws.specs.Lists.{part}
 use Rattle.numbers.specs.Numbers.{u16At, u32At}
 use Rattle.maker.specs.declared.Edition.{Edition}
+use Rattle.image.specs.Layout.{hasBodies, versionOf}
 use Rattle.access.specs.Access.{compact}
 use Rattle.sound.specs.Sound.{soundb}
 use Rattle.verdict.specs.declared.State.{State}
+use Rattle.maker.specs.declared.Made.the-variants.{Done}
 use Rattle.maker.specs.Making.{madeOf, madeNumber, leftBy}
 use Rattle.card.specs.Command.{replyOf, imageOf, answerWord}
 use Rattle.card.specs.Obeyed.{isOneOf}
@@ -49,16 +51,22 @@ cutShort s at = ltb (length s) (at + 2) || ltb (length s) (endOf s at)
 abbrev pub lent : ℕ
 lent = 67
 
--- what that command gives on an image: its word, and the image afterwards
+-- what that command gives on an image, with an empty pool: its word, and the image afterwards
 unfoldable pub wordAt : List ℕ → ℕ → List ℕ → ℕ
-wordAt s at img = answerWord (replyOf img (sentAt s at) full lent)
+wordAt s at img = answerWord (replyOf img [] (sentAt s at) full lent)
 
 unfoldable pub imageAt : List ℕ → ℕ → List ℕ → List ℕ
-imageAt s at img = imageOf img (sentAt s at) full lent
+imageAt s at img = imageOf img [] (sentAt s at) full lent
 
--- .. so that a command on a sound image is always answered by a word of 01's table, never 0000 (proofs/Worded, `always-worded`)
+-- a sound image without bodies, as the fresh card of a stream is one: it takes the empty pool, and the response is long enough
+abbrev pub Played : List ℕ → Type 0
+Played img = (soundb img ≡ true) × (hasBodies (versionOf img) ≡ false)
+
+-- .. so that a command on it is always answered by a word of 01's table, never 0000, and leaves such an image (proofs/Worded,
+-- `always-worded`)
 abbrev pub AlwaysWorded : Type 0
-AlwaysWorded = (s : List ℕ) (at : ℕ) (img : List ℕ) → soundb img ≡ true → isOneOf (wordAt s at img) wordsOfTable ≡ true
+AlwaysWorded = (s : List ℕ) (at : ℕ) (img : List ℕ) → Played img
+    → (isOneOf (wordAt s at img) wordsOfTable ≡ true) × Played (imageAt s at img)
 
 -- the lines from `at` on, of commands on one image in turn. A command has two bytes at least, its length, so that as many
 -- turns as the stream has bytes are enough
@@ -83,6 +91,11 @@ performOf s img =
     cond (eqb (madeNumber (madeOf img firstEdition (u32At s 7) compact rootRule)) 0)
     (runOf (length s) s 11 (leftBy (madeOf img firstEdition (u32At s 7) compact rootRule) img firstEdition (u32At s 7) compact rootRule))
     bad
+
+-- the card that a stream begins with is one of those on which each command is answered by a word (proofs/Worded, `fresh-played`)
+abbrev pub FreshPlayed : Type 0
+FreshPlayed = (img : List ℕ) (total : ℕ) → madeOf img firstEdition total compact rootRule ≡ Done
+    → Played (leftBy Done img firstEdition total compact rootRule)
 
 -- over 32,768 bytes; a bad header; a card of N slots
 unfoldable pub replayOf : List ℕ → List ℕ

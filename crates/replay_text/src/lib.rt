@@ -2,6 +2,7 @@
 // `replay` only reads a stream and writes that text.
 ghost use mathlib.Core.Path.{_≡_};
 ghost use mathlib.Core.Bool.{false};
+ghost use mathlib.Core.List.{[]};
 ghost use Prim.Native.Nat.{_+_, _*_, _<_, _≤_};
 ghost use lib.ListN.{length};
 ghost use Rattle.laws.specs.Lists.{splice};
@@ -67,10 +68,10 @@ fn sent(s: &[u8], at: usize) -> &[u8]
     &s[from..to]
 }
 
-// Carries out one command, with full sets and no other channel, and gives its word. What it tells is not shown.
+// Carries out one command, with an empty pool, full sets and no other channel, and gives its word. What it tells is not shown.
 fn step(image: &mut [u8], command: &[u8]) -> u16
-    ensures { λ r. ⌜ (r ≡ answerWord (replyOf (now (image .entry)) (now (command .entry)) full lent))
-        × (now (image .exit) ≡ imageOf (now (image .entry)) (now (command .entry)) full lent) ⌝ }
+    ensures { λ r. ⌜ (r ≡ answerWord (replyOf (now (image .entry)) [] (now (command .entry)) full lent))
+        × (now (image .exit) ≡ imageOf (now (image .entry)) [] (now (command .entry)) full lent) ⌝ }
 {
     let mut response = [0u8; 67];
     let sets = Sets {
@@ -82,11 +83,13 @@ fn step(image: &mut [u8], command: &[u8]) -> u16
         sets: sets,
         channels: 0,
     };
-    let reply = card::command(image, command, &mut response[..67], state);
+    let mut none = [0u8; 0];
+    let reply = card::command(image, &mut none, command, &mut response[..67], state);
     match reply {
         Reply::Word { word, told } => word,
         Reply::Damaged => 0,
         Reply::Short => 0,
+        Reply::WrongPool => 0,
     }
 }
 

@@ -12,6 +12,8 @@ use Rattle.rows.specs.Tries.{SelectTries}
 use Rattle.rows.specs.Lives.{LivesTold}
 use Rattle.rows.specs.Templates.{TemplatesTold, FilesRemade}
 use Rattle.rows.specs.Forms.{FormsTold, FormsOpen, FormsJudged, FormsKept, FormsRemade}
+use Rattle.rows.specs.Bodies.{BinaryRead, LongRead, BinaryWritten, RecordsTold, StatesTried, RightsAsked, PoolsLent, BodiesMoved}
+use Rattle.rows.specs.Bodies.{BodiesPacked}
 use Rattle.rows.specs.Fresh.{FreshBytes}
 use Rattle.rows.proofs.Opened.{a-call}
 
@@ -24,12 +26,17 @@ second-rows : (x : Sets) → allGive (rows 2 x) ≡ allSay (rows 2 x)
 unfolding a-call
 second-rows x = refl
 
+third-rows : (x : Sets) → allGive (rows 3 x) ≡ allSay (rows 3 x)
+unfolding a-call
+third-rows x = refl
+
 pub both-sides : BothSides
 unfolding knownVersion formsOf
 both-sides zero known x = absurd (false≢true known)
 both-sides (suc zero) known x = first-rows x
 both-sides (suc (suc zero)) known x = second-rows x
-both-sides (suc (suc (suc v))) known x = absurd (omega (arith, known-low (suc (suc (suc v))) known))
+both-sides (suc (suc (suc zero))) known x = third-rows x
+both-sides (suc (suc (suc (suc v)))) known x = absurd (omega (arith, known-low (suc (suc (suc (suc v)))) known))
 
 pub select-tries : SelectTries
 unfolding a-call
@@ -49,7 +56,7 @@ files-remade x = refl
 
 pub forms-told : FormsTold
 unfolding a-call
-forms-told = (refl, refl)
+forms-told = (refl, refl, refl)
 
 pub forms-open : FormsOpen
 unfolding a-call
@@ -57,7 +64,7 @@ forms-open = (refl, refl, refl, refl)
 
 pub forms-judged : FormsJudged
 unfolding a-call
-forms-judged = refl
+forms-judged = (refl, refl, refl, refl)
 
 pub forms-kept : FormsKept
 unfolding a-call
@@ -66,6 +73,42 @@ forms-kept = (refl, refl)
 pub forms-remade : FormsRemade
 unfolding a-call
 forms-remade = refl
+
+pub binary-read : BinaryRead
+unfolding a-call
+binary-read x = refl
+
+pub long-read : LongRead
+unfolding a-call
+long-read x = refl
+
+pub binary-written : BinaryWritten
+unfolding a-call
+binary-written x = refl
+
+pub records-told : RecordsTold
+unfolding a-call
+records-told x = refl
+
+pub states-tried : StatesTried
+unfolding a-call
+states-tried x = (refl, refl, refl, refl, refl, refl)
+
+pub rights-asked : RightsAsked
+unfolding a-call
+rights-asked x = (refl, refl)
+
+pub pools-lent : PoolsLent
+unfolding a-call
+pools-lent x = (refl, refl, refl, refl, refl)
+
+pub bodies-moved : BodiesMoved
+unfolding a-call
+bodies-moved x = refl
+
+pub bodies-packed : BodiesPacked
+unfolding a-call
+bodies-packed x = refl
 
 pub fresh-bytes : FreshBytes
 unfolding longestRule headBytes field recordBytes freshHeader fresh

@@ -1,13 +1,16 @@
 -- Whole calls on cards that can exist, for the tables of this crate that are about commands: what is sent, the word that comes,
 -- and what the image holds afterwards.
 use Prim.Native.Nat.{ℕ}
+use mathlib.Core.Bool.{cond}
 use mathlib.Core.List.{List, [], _∷_}
+use lib.ListN.{replicate}
 use Rattle.rules.specs.declared.Sets.{Sets}
-use Rattle.image.specs.Layout.{recAt, lifeCycleOf, countOf, currentDfOf, setLife}
+use Rattle.image.specs.Layout.{hasBodies, versionOf, recAt, lifeCycleOf, countOf, currentDfOf, setLife}
 use Rattle.access.specs.Access.{compact}
 use Rattle.sound.specs.Table.{viewAt}
 use Rattle.sound.specs.Kinship.{roomFor}
 use Rattle.sound.specs.Effects.{fresh}
+use Rattle.sound.specs.Sound.{poolLength}
 use Rattle.verdict.specs.declared.State.{State}
 use Rattle.card.specs.Command.{answerWord, replyOf, imageOf}
 
@@ -15,12 +18,16 @@ use Rattle.card.specs.Command.{answerWord, replyOf, imageOf}
 abbrev pub with : Sets → State
 with x = record { sets = x; channels = 0 }
 
--- the word that a command gets that is lent no response, and the image that it leaves
+-- the pool that is lent with an image: all 00 where there are bodies, else of no bytes
+abbrev pub blank : List ℕ → List ℕ
+blank img = cond (hasBodies (versionOf img)) (replicate (poolLength img) 0x00) []
+
+-- the word that a command gets that is lent such a pool and no response, and the image that it leaves
 abbrev pub word : Sets → List ℕ → List ℕ → ℕ
-word x img c = answerWord (replyOf img c (with x) 0)
+word x img c = answerWord (replyOf img (blank img) c (with x) 0)
 
 abbrev pub left : Sets → List ℕ → List ℕ → List ℕ
-left x img c = imageOf img c (with x) 0
+left x img c = imageOf img (blank img) c (with x) 0
 
 -- the room of the current directory, and the life cycle of the file in slot s
 abbrev pub room : List ℕ → ℕ

@@ -15,8 +15,9 @@ use Rattle.rows.specs.Calls.{with, left, card, createDf, createEf, selec
 -- answer, word, how many bytes were told, what is current afterwards, and the response, of which n bytes of AA were lent
 abbrev pub said : Sets → List ℕ → ℕ → List ℕ → List ℕ
 said x img n c =
-    answerNumber (replyOf img c (with x) n) ∷ answerWord (replyOf img c (with x) n) ∷ answerTold (replyOf img c (with x) n)
-    ∷ currentDfOf (imageOf img c (with x) n) ∷ currentEfOf (imageOf img c (with x) n) ∷ responseOf img c (with x) (replicate n 0xAA)
+    answerNumber (replyOf img [] c (with x) n) ∷ answerWord (replyOf img [] c (with x) n) ∷ answerTold (replyOf img [] c (with x) n)
+    ∷ currentDfOf (imageOf img [] c (with x) n) ∷ currentEfOf (imageOf img [] c (with x) n)
+    ∷ responseOf img [] c (with x) (replicate n 0xAA)
 
 -- SELECT with P2 04 and Le 00
 abbrev pub askFile : ℕ → ℕ → List ℕ
@@ -99,11 +100,11 @@ abbrev pub elsewhere : Sets → List ℕ
 elsewhere x = left x (card 1 5 256) (createDf 0x7F 0x20 150)
 
 abbrev pub toldOf : Sets → List ℕ → ℕ → List ℕ → List ℕ
-toldOf x img n c = responseOf img c (with x) (replicate n 0xAA)
+toldOf x img n c = responseOf img [] c (with x) (replicate n 0xAA)
 
 abbrev pub again : Sets → List ℕ → List ℕ
 again x s =
-    answerWord (replyOf (elsewhere x) (createOf s) (with x) 0) ∷ recAt (imageOf (elsewhere x) (createOf s) (with x) 0) 2
+    answerWord (replyOf (elsewhere x) [] (createOf s) (with x) 0) ∷ recAt (imageOf (elsewhere x) [] (createOf s) (with x) 0) 2
 
 -- 6F07, 6F08, and 7F11 with a C6
 abbrev pub remade : Sets → List (List ℕ)

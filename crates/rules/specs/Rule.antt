@@ -6,6 +6,7 @@ use lib.ListN.{length, getD}
 use lib.Dec.{ltb}
 use Rattle.rules.specs.declared.Right.{Right}
 use Rattle.rules.specs.declared.Right.the-variants.{DeleteSelf, Terminate, Activate, Deactivate, CreateDf, CreateEf, DeleteChild}
+use Rattle.rules.specs.declared.Right.the-variants.{Update, Read}
 use Rattle.rules.specs.declared.Sets.{Sets}
 use Rattle.rules.specs.Condition.{holdsOf}
 use Rattle.rules.specs.Group.{slotsOf, nextOf, someGroup}
@@ -27,7 +28,7 @@ unfoldable pub allowsOf : List ℕ → ℕ → Sets → Bool
 allowsOf rule k x = someGroup (holdsAt rule k x) rule
 
 -- the slot of a right's bit: for a DF b7 delete self, b6 terminate, b5 activate, b4 deactivate, b3 create DF,
--- b2 create EF, b1 delete child; for an EF b7-b4 are the same
+-- b2 create EF, b1 delete child; for an EF b7-b4 are the same, b2 update and b1 read (02 Ticket 4)
 abbrev pub slotOf : Right → ℕ
 slotOf DeleteSelf = 0
 slotOf Terminate = 1
@@ -36,6 +37,8 @@ slotOf Deactivate = 3
 slotOf CreateDf = 4
 slotOf CreateEf = 5
 slotOf DeleteChild = 6
+slotOf Update = 5
+slotOf Read = 6
 
 -- what a compact rule decides on a right
 unfoldable pub compactGrants : List ℕ → Right → Sets → Bool

@@ -19,7 +19,8 @@ pub struct Sets {
     pub user: u16,
 }
 
-// What a rule is asked for: the bits b7 to b1 of its AM bytes, in that order.
+// What a rule is asked for: the bits b7 to b1 of its AM bytes, in that order; then the bits that mean another thing in an EF, b2 and b1
+// (02 Ticket 4).
 pub enum Right {
     DeleteSelf,
     Terminate,
@@ -28,4 +29,6 @@ pub enum Right {
     CreateDf,
     CreateEf,
     DeleteChild,
+    Update,
+    Read,
 }

@@ -84,6 +84,8 @@ fn slot_of(right: Right) -> usize
         Right::CreateDf => 4,
         Right::CreateEf => 5,
         Right::DeleteChild => 6,
+        Right::Update => 5,
+        Right::Read => 6,
     }
 }
 

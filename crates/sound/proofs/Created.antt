@@ -1,22 +1,24 @@
--- CREATE keeps an image sound: `sound-created`, from exactly what CREATE checks.
+-- CREATE's record keeps what holds of and between records: `files-created`, from exactly what CREATE checks.
 use mathlib.Core.Path.{_≡_, refl, ap, _∙_}
-use mathlib.Core.List.{List, []}
+use mathlib.Core.List.{List, [], _++_}
 use mathlib.Core.Bool.{Bool, true, false, cond}
 use mathlib.Core.Logic.{_↔_, _⊎_, inl, inr, ⊎-elim}
 use Prim.Native.Nat.{ℕ, suc, _+_, _<_, _≤_}
 use native.Mathlib.Omega.{arith}
-use lib.ListN.{length}
+use lib.ListN.{length, getD}
 use lib.Dec.{eqb}
 use borrow.Author.Tests.{eq-eqb, ne-eqb, eqb-true}
 use Rattle.laws.proofs.Says.{says, eq-says, not-says, same-or}
 use Rattle.laws.proofs.Firsts.{first-is}
 use Rattle.laws.specs.Walks.{FirstAt}
-use Rattle.rules.specs.Descriptor.{classOf, isDf, isEf}
+use Rattle.rules.specs.Descriptor.{classOf, isDf, isEf, df}
 use Rattle.image.specs.declared.Head.{Head}
-use Rattle.image.specs.Layout.{versionOf, Within, recAt, putRecord, kindOf, recordBytes, countOf, currentDfOf, none}
+use Rattle.image.specs.Layout.{versionOf, Within, recAt, putRecord, kindOf, recordBytes, countOf, currentDfOf, currentEfOf, none}
 use Rattle.image.proofs.Records.{record-same, record-other}
 use Rattle.image.proofs.Made.{length-made}
-use Rattle.image.proofs.Headers.{header-put, same-front}
+use Rattle.numbers.specs.Numbers.{be16}
+use Rattle.image.proofs.Headers.{SameFront, header-put, same-front, same-version, same-count, front-trans, front-current, df-current}
+use Rattle.image.proofs.Headers.{ef-current, current-byte}
 use Rattle.access.proofs.Fits.{fits-short}
 use Rattle.sound.specs.Table.{View, File, up, hasIdentifier, viewAt, viewOf}
 use Rattle.sound.specs.Own.{Own}
@@ -26,7 +28,7 @@ use Rattle.sound.specs.Kinship.{isChild, isChildNamed, namedUp, identifi
 use Rattle.sound.specs.Effects.{Creates, created}
 use Rattle.sound.proofs.Climbing.{upward-says}
 use Rattle.sound.proofs.Added.{Fits, kin-added}
-use Rattle.sound.proofs.Front.{sound-set, sound-within}
+use Rattle.sound.proofs.Front.{Files, files-set, header-front, count-current, version-current, current-record, sound-within}
 use Rattle.sound.proofs.NewRecords.{viewMade, view-made, own-made}
 
 -- what the tests of CREATE say
@@ -136,9 +138,58 @@ module _ (img : List ℕ) (s : ℕ) (h : Head) (name rule : List ℕ) (sound : S
       two : (h .kind ≡ 1 → ⊥) → h .kind ≡ 2
       two f = omega (arith, c .good .class, class-low (h .descriptor), c .good .some)
 
-  pub sound-created : Sound (created img s h name rule)
+  front : SameFront img after
+  unfolding after
+  front = same-front img after (header-put img s (recordBytes (versionOf img) h name rule) (within s (found .low)) whole)
+
+  pub files-created : Files (created img s h name rule)
   unfolding created after
-  sound-created =
-      sound-set img after (cond (eqb (h .kind) 1) s (currentDfOf img)) (cond (eqb (h .kind) 1) none s) sound
-      (same-front img after (header-put img s (recordBytes (versionOf img) h name rule) (within s (found .low)) whole))
+  files-created =
+      files-set img after (cond (eqb (h .kind) 1) s (currentDfOf img)) (cond (eqb (h .kind) 1) none s) (sound .header) front
       (λ t l. own t l (same-or t s)) kin current
+
+  -- what it leaves of the rest
+  pub slot-low : s < countOf img
+  slot-low = found .low
+
+  pub slot-free : kindOf (recAt img s) ≡ 0
+  slot-free = free
+
+  set-fits : 16 ≤ length after
+  set-fits = omega (arith, front .long, sound .header .long)
+
+  -- the header: only what is current differs
+  pub front-created : SameFront img (created img s h name rule)
+  unfolding created after
+  front-created = front-trans img after (created img s h name rule) front (front-current after _ _ set-fits)
+
+  pub df-created : currentDfOf (created img s h name rule) ≡ cond (eqb (h .kind) df) s (currentDfOf img)
+  unfolding created after
+  df-created = df-current after _ _ set-fits
+
+  pub ef-created : currentEfOf (created img s h name rule) ≡ cond (eqb (h .kind) df) none s
+  unfolding created after
+  ef-created = ef-current after _ _ set-fits
+
+  pub byte-created : (k : ℕ) → k < 4 → getD (created img s h name rule) (7 + k) 0
+      ≡ getD (be16 (cond (eqb (h .kind) df) s (currentDfOf img)) ++ be16 (cond (eqb (h .kind) df) none s)) k 0
+  unfolding created after
+  byte-created k l = current-byte after _ _ set-fits k l
+
+  pub count-created : countOf (created img s h name rule) ≡ countOf img
+  unfolding created after
+  count-created = count-current after _ _ (header-front img after front (sound .header)) ∙ same-count img after front
+
+  pub version-created : versionOf (created img s h name rule) ≡ versionOf img
+  unfolding created after
+  version-created = version-current after _ _ (header-front img after front (sound .header)) ∙ same-version img after front
+
+  record-after : (t : ℕ) → t < countOf img → recAt (created img s h name rule) t ≡ recAt after t
+  unfolding created after
+  record-after t l = current-record after _ _ (header-front img after front (sound .header)) t (rw (same-count img after front) l)
+
+  pub created-here : recAt (created img s h name rule) s ≡ recordBytes (versionOf img) h name rule
+  created-here = record-after s (found .low) ∙ here
+
+  pub created-other : (t : ℕ) → t < countOf img → (t ≡ s → ⊥) → recAt (created img s h name rule) t ≡ recAt img t
+  created-other t l z = record-after t l ∙ there t l z

@@ -9,7 +9,8 @@ use lib.Dec.{eqb}
 use borrow.Author.Tests.{eq-eqb, ne-eqb}
 use Rattle.laws.proofs.Says.{same-or, untrue}
 use Rattle.image.specs.Layout.{versionOf, recAt, kindOf, parentOf, freeBytes, countOf, currentDfOf, currentEfOf, none}
-use Rattle.image.proofs.Headers.{same-front}
+use Rattle.image.proofs.Headers.{SameFront, same-front, same-version, same-count}
+use Rattle.pool.specs.Bodies.{bodyOf, startAt, bodyAt}
 use Rattle.sound.specs.Table.{View, File, up, viewAt, viewOf}
 use Rattle.sound.specs.Own.{Own}
 use Rattle.sound.specs.Kin.{Kin}
@@ -19,8 +20,9 @@ use Rattle.sound.specs.Effects.{Deletes, clearBelow, deleted}
 use Rattle.sound.proofs.Says.{AtOrBeneath, beneath-says}
 use Rattle.sound.proofs.Climbing.{up-none, up-shift}
 use Rattle.sound.proofs.Kept.{gone, kin-kept}
-use Rattle.sound.proofs.NewRecords.{view-free, own-free}
-use Rattle.sound.proofs.Front.{sound-set, sound-sized}
+use Rattle.sound.proofs.NewRecords.{view-free, own-free, no-body}
+use Rattle.sound.proofs.Front.{Files, files-set, files-sound, bodies-kept, body-same, header-front, sound-sized}
+use Rattle.sound.proofs.Front.{count-current, version-current, current-record}
 use Rattle.sound.proofs.Cleared.{header-clear, record-clear}
 
 module _ (img : List ℕ) (d : ℕ) (sound : Sound img) (c : Deletes img d) where
@@ -139,10 +141,41 @@ module _ (img : List ℕ) (d : ℕ) (sound : Sound img) (c : Deletes img d) wher
             ∙ sound .current .df-dir,
       )
 
-  pub sound-deleted : Sound (deleted img d)
+  front : SameFront img after
+  unfolding after
+  front =
+      same-front img after
+      (header-clear img (countOf img) (atOrBeneath (viewAt img) d) (sound-sized img sound) (countOf img) (omega arith))
+
+  files : Files (deleted img d)
   unfolding deleted after
-  sound-deleted =
-      sound-set img after (currentDfOf img) (cond (eqb (currentEfOf img) d) none (currentEfOf img)) sound
-      (same-front img after
-      (header-clear img (countOf img) (atOrBeneath (viewAt img) d) (sound-sized img sound) (countOf img) (omega arith)))
+  files =
+      files-set img after (currentDfOf img) (cond (eqb (currentEfOf img) d) none (currentEfOf img)) (sound .header) front
       (λ t l. own t l (p t) refl) kin current
+
+  count : countOf (deleted img d) ≡ countOf img
+  unfolding deleted after
+  count = count-current after _ _ (header-front img after front (sound .header)) ∙ same-count img after front
+
+  version : versionOf (deleted img d) ≡ versionOf img
+  unfolding deleted after
+  version = version-current after _ _ (header-front img after front (sound .header)) ∙ same-version img after front
+
+  record-after : (t : ℕ) → t < countOf img → recAt (deleted img d) t ≡ recAt after t
+  unfolding deleted after
+  record-after t l = current-record after _ _ (header-front img after front (sound .header)) t (rw (same-count img after front) l)
+
+  -- a body that is left lies where it did
+  body : (t : ℕ) → t < countOf img → (b : Bool) → p t ≡ b → 0 < bodyAt (deleted img d) t
+      → (startAt img t ≡ startAt (deleted img d) t) × (bodyAt img t ≡ bodyAt (deleted img d) t)
+  unfolding bodyAt
+  body t l false e x = body-same img (deleted img d) t version (record-after t l ∙ kept t l e)
+  body t l true e x = absurd (omega (arith, ap (bodyOf (versionOf (deleted img d))) (record-after t l ∙ clear t l e), no-body (versionOf (deleted img d))))
+
+  pub sound-deleted : Sound (deleted img d)
+  sound-deleted =
+      files-sound (deleted img d) files
+      (bodies-kept img (deleted img d) sound count
+      (ap (λ (v : View). v .size) (ap viewOf (record-after 0 (omega (arith, sound .header .least))
+      ∙ kept 0 (omega (arith, sound .header .least)) (shallow 0 (omega (arith, sound .kin .root-level))))))
+      (λ t l x. body t l (p t) refl x))

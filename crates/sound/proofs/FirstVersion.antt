@@ -3,14 +3,15 @@ use mathlib.Core.Path.{_≡_, refl, sym, ap, _∙_}
 use mathlib.Core.List.{List}
 use Prim.Native.Nat.{ℕ, _+_, _<_, _≤_}
 use native.Mathlib.Omega.{arith}
-use Rattle.image.specs.Layout.{longestRule, formsOf, formOf, ruleOf}
+use mathlib.Core.Bool.{false≢true}
+use Rattle.image.specs.Layout.{longestRule, formsOf, hasBodies, formOf, ruleOf}
 use Rattle.access.specs.Access.{wellFormed}
 use Rattle.access.proofs.Fits.{Fits, fits-says}
-use Rattle.sound.specs.Own.{Used}
+use Rattle.sound.specs.Own.{Used, hasStart}
 use Rattle.sound.specs.Theorems.{FirstVersion}
 
 pub first-version : FirstVersion
-unfolding longestRule formsOf formOf wellFormed
+unfolding longestRule formsOf formOf wellFormed hasStart hasBodies
 first-version r u =
     let fits : Fits 1 (formOf r) (ruleOf r) = fits-says 1 (formOf r) (ruleOf r) .0 (u .formed) in
     let zero : formOf r ≡ 0 = omega (arith, fits .known) in
@@ -18,5 +19,5 @@ first-version r u =
       zero = zero;
       short = u .rule .short;
       formed = ap (λ (f : ℕ). wellFormed f (ruleOf r)) (sym zero) ∙ fits .formed;
-      spare = u .spare;
+      spare = u .spare (λ e. false≢true e);
     }

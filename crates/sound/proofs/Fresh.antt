@@ -29,7 +29,8 @@ use Rattle.sound.specs.Sound.{Header, Sound}
 use Rattle.sound.specs.Effects.{GoodRecord, rootHead, freshHeader, fresh}
 use Rattle.sound.proofs.Kept.{gone}
 use Rattle.sound.proofs.Charges.{charge-free, charge-stranger}
-use Rattle.sound.proofs.NewRecords.{viewMade, view-made, own-made, view-free, own-free}
+use Rattle.sound.proofs.NewRecords.{viewMade, view-made, own-made, view-free, own-free, no-body, no-directory-body}
+use Rattle.pool.specs.Bodies.{bodyOf, bodyAt}
 use Rattle.sound.specs.Theorems.{SoundFresh}
 
 -- a table whose only file is the root
@@ -193,6 +194,12 @@ module _ (v n total form : ℕ) (rule : List ℕ) (least : 2 ≤ n) (most : n �
   unfolding fresh freshHeader currentEfOf u16At
   ef = refl
 
+  -- no file has a body
+  none-has : (t : ℕ) → t < n → (t ≡ 0) ⊎ (t ≡ 0 → ⊥) → bodyAt (fresh v n total form rule) t ≡ 0
+  unfolding bodyAt
+  none-has t l (inl e) = rw (e, root) (no-directory-body (versionOf (fresh v n total form rule)) v (rootHead total form) [] rule refl)
+  none-has t l (inr z) = ap (bodyOf (versionOf (fresh v n total form rule))) (rest t l z) ∙ no-body (versionOf (fresh v n total form rule))
+
   fresh-sound : Sound (fresh v n total form rule)
   fresh-sound = record {
     header = header;
@@ -207,6 +214,10 @@ module _ (v n total form : ℕ) (rule : List ℕ) (least : 2 ≤ n) (most : n �
               (z refl);
           ef-child = λ z. absurd (z refl);
         });
+    bodies = rw count (record {
+      inside = λ t l x. absurd (omega (arith, none-has t l (same-or t 0)));
+      apart = λ s t k l x y. absurd (omega (arith, none-has s k (same-or s 0)));
+    });
   }
 
 pub sound-fresh : SoundFresh

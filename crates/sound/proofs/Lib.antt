@@ -6,7 +6,12 @@ pub mod Added
 pub mod FullTable
 pub mod Front
 pub mod NewRecords
+pub mod Started
+pub mod Bodied
 pub mod Created
+pub mod MovedDown
+pub mod Fitting
+pub mod Made
 pub mod Cleared
 pub mod Deleted
 pub mod Lived

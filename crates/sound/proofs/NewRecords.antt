@@ -1,14 +1,18 @@
 -- A record that CREATE or the maker made: what it says to others, and that it is good by itself. The same of a
 -- free record.
 use mathlib.Core.Path.{_≡_, refl, sym, ap, _∙_}
+use mathlib.Core.Bool.{Bool, true, false, cond, _&&_}
 use mathlib.Core.List.{List, []}
 use Prim.Native.Nat.{ℕ, _+_, _-_, _<_, _≤_}
 use native.Mathlib.Omega.{arith}
 use lib.ListN.{length, getD, getD-replicate}
+use lib.Dec.{eqb}
 use Rattle.laws.specs.Lists.{part}
 use Rattle.numbers.specs.Numbers.{u16At, u32At}
 use Rattle.image.specs.declared.Head.{Head}
 use Rattle.image.specs.Layout.{longestRule, kindOf, identifierOf, parentOf, levelOf, sizeOf, nameOf, fieldAt, recordBytes, freeBytes}
+use Rattle.image.specs.Layout.{hasBodies}
+use Rattle.pool.specs.Bodies.{bodyOf}
 use Rattle.image.proofs.Made.{kind-made, descriptor-made, life-made, form-made, identifier-made, parent-made, level-made}
 use Rattle.image.proofs.Made.{record-length-made, size-made, name-made, rule-made, name-length-made, name-zeros-made, rule-length-made}
 use Rattle.image.proofs.Made.{rule-zeros-made, spare-made}
@@ -66,14 +70,32 @@ module _ (v : ℕ) (h : Head) (name rule : List ℕ) where
       nameless = λ e. name-length-made v h name rule (g .name-short) ∙ g .nameless (sym (kind-made v h name rule) ∙ e);
       rule = rule-padded (g .name-short) short;
       formed = rw (form-made v h name rule, rule-made v h name rule (g .name-short)) (g .formed);
-      spare = spare-made v h name rule (g .name-short) short;
+      spare = λ n. spare-made v h name rule (g .name-short) short;
     };
   }
+
+bodiless : (b : Bool) (x : ℕ) → cond (b && eqb 1 2) x 0 ≡ 0
+bodiless true x = refl
+bodiless false x = refl
+
+-- a directory has no body
+pub no-directory-body : (w v : ℕ) (h : Head) (name rule : List ℕ) → h .kind ≡ 1 → bodyOf w (recordBytes v h name rule) ≡ 0
+unfolding bodyOf
+no-directory-body w v h name rule e = rw (kind-made v h name rule ∙ e) (bodiless (hasBodies w) _)
 
 -- a free record says nothing
 pub view-free : viewOf freeBytes ≡ gone
 unfolding kindOf identifierOf parentOf levelOf sizeOf nameOf fieldAt part u16At u32At
 view-free = refl
+
+-- .. and has no body
+pub no-body : (v : ℕ) → bodyOf v freeBytes ≡ 0
+unfolding bodyOf kindOf
+no-body v = go (hasBodies v) (sizeOf freeBytes)
+  where
+    go : (b : Bool) (x : ℕ) → cond (b && eqb 0 2) x 0 ≡ 0
+    go true x = refl
+    go false x = refl
 
 pub own-free : (v : ℕ) → Own v freeBytes
 unfolding kindOf

@@ -8,10 +8,11 @@ use borrow.Author.Tests.{not-false}
 use Rattle.laws.proofs.Settling.{settled}
 use Rattle.laws.proofs.Says.{says, not-says}
 use Rattle.sound.specs.Table.{View, File, up}
+use Rattle.pool.proofs.Clears.{laid-says}
 use Rattle.sound.specs.Own.{zerosb, Padded, paddedb, Used, usedb, classedb, measuredb, nameb, ruledb, Own, ownb}
 use Rattle.sound.specs.Kin.{Kin, kinb, rootb, placedb, placedAt, siblingsb, siblingsAt, apartAt, aboveb, aboveAt, namesb, namesAt}
 use Rattle.sound.specs.Kin.{sameName, chargesb, chargesAt}
-use Rattle.sound.specs.Sound.{Header, headerb, Current, currentb, recordsb, Sound, soundb}
+use Rattle.sound.specs.Sound.{Header, headerb, Current, currentb, recordsb, bodiesb, Sound, soundb}
 use Rattle.sound.specs.Kinship.{atOrBeneath, isChild, isChildNamed}
 use Rattle.sound.proofs.Climbing.{above-says}
 use Rattle.sound.specs.Theorems.{SoundSays, SoundOnce}
@@ -100,10 +101,10 @@ current-says n v d e = simp says (
 
 -- an image is sound by the test exactly when each sentence holds
 pub sound-says : SoundSays
-unfolding soundb recordsb
-sound-says img = simp (says, header-says, own-says, kin-says, current-says) (
-  (λ h. record { header = h .0; records = h .1 .0; kin = h .1 .1 .0; current = h .1 .1 .1 }),
-  (λ h. (h .header, (h .records, (h .kin, h .current)))),
+unfolding soundb recordsb bodiesb
+sound-says img = simp (says, header-says, own-says, kin-says, current-says, laid-says) (
+  (λ h. record { header = h .0; records = h .1 .0; kin = h .1 .1 .0; current = h .1 .1 .1 .0; bodies = h .1 .1 .1 .1 }),
+  (λ h. (h .header, (h .records, (h .kin, (h .current, h .bodies))))),
 )
 
 pub sound-once : SoundOnce

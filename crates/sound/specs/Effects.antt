@@ -1,20 +1,29 @@
--- What each effect leaves of an image (01 "Making", "SELECT", "CREATE", "DELETE", the life cycles), byte for
--- byte. SELECT leaves `setCurrent`, a change of life cycle `setLife`.
+-- What each effect leaves of an image (01 "Making", "SELECT", "CREATE", "DELETE", the life cycles) and of the pool (02 Ticket 4),
+-- byte for byte. SELECT leaves `setCurrent`, a change of life cycle `setLife`.
 use mathlib.Core.Path.{_≡_}
 use mathlib.Core.List.{List, [], _++_, _∷_}
 use mathlib.Core.Bool.{Bool, true, cond}
+use mathlib.Core.Bool.{_&&_}
 use Prim.Native.Nat.{ℕ, zero, suc, _+_, _*_, _-_, _<_, _≤_}
-use lib.Dec.{eqb}
+use lib.Dec.{eqb, ltb}
 use lib.ListN.{length, replicate}
-use Rattle.laws.specs.declared.Found.the-variants.{At}
+use Rattle.laws.specs.declared.Found.{Found}
+use Rattle.laws.specs.declared.Found.the-variants.{At, Nothing}
+use Rattle.laws.specs.Lists.{splice}
 use Rattle.numbers.specs.Numbers.{be16}
 use Rattle.rules.specs.Descriptor.{classOf, df, ef}
 use Rattle.rules.specs.Life.{knownLife, activatedByte}
 use Rattle.rules.specs.Value.{goodIdentifier, goodLength}
 use Rattle.image.specs.declared.Head.{Head}
 use Rattle.image.specs.Layout.{versionOf, countOf, currentDfOf, currentEfOf, none, recordBytes, putRecord, clearRecord, setCurrent}
+use Rattle.image.specs.Layout.{hasBodies, recAt, withStart, setStart}
 use Rattle.access.specs.Access.{fitsRecord}
+use Rattle.pool.specs.Bodies.{startAt, bodyAt}
+use Rattle.pool.specs.Packed.{packedStart}
+use Rattle.pool.specs.Places.{gapFor, placeAt, placeImage, placePool}
+use Rattle.pool.specs.Wiped.{wipeBelow}
 use Rattle.sound.specs.Table.{File, viewAt}
+use Rattle.sound.specs.Sound.{poolLength}
 use Rattle.sound.specs.Kinship.{freeSlot, identifierFree, nameFree, fitsRoom, atOrBeneath}
 
 -- CREATE: the new record in slot s; a new DF becomes current with no EF, a new EF becomes current EF
@@ -23,6 +32,42 @@ created img s h name rule =
     setCurrent (putRecord img s (recordBytes (versionOf img) h name rule))
     (cond (eqb (h .kind) df) s (currentDfOf img))
     (cond (eqb (h .kind) df) none s)
+
+-- how many bytes of the pool a new file needs: an EF its size, where the version has bodies
+unfoldable pub newBody : ℕ → Head → ℕ
+newBody v h = cond (hasBodies v && eqb (h .kind) ef) (h .size) 0
+
+-- the lowest gap that fits it, before any body is moved
+unfoldable pub newGap : List ℕ → Head → Found
+newGap img h = gapFor (countOf img) img (poolLength img) (newBody (versionOf img) h)
+
+-- CREATE with the body: where no gap fits, bodies are moved down first; then the record, and where its body starts
+unfoldable pub made : List ℕ → ℕ → Head → List ℕ → List ℕ → List ℕ
+made img s h name rule =
+    cond (eqb (newBody (versionOf img) h) 0) (created img s h name rule)
+    (setStart (created (placeImage (newGap img h) (countOf img) img) s h name rule) s (placeAt (newGap img h) (countOf img) img))
+
+-- so this is the new record
+unfoldable pub newBytes : List ℕ → Head → List ℕ → List ℕ → List ℕ
+newBytes img h name rule =
+    cond (eqb (newBody (versionOf img) h) 0) (recordBytes (versionOf img) h name rule)
+    (withStart (recordBytes (versionOf img) h name rule) (placeAt (newGap img h) (countOf img) img))
+
+-- .. and this every other: as it was, but for the start of a body that was moved down, since no gap fits
+unfoldable pub keptRecord : Found → List ℕ → ℕ → List ℕ
+keptRecord (At p) img t = recAt img t
+keptRecord Nothing img t =
+    cond (ltb 0 (bodyAt img t)) (withStart (recAt img t) (packedStart (countOf img) (startAt img) (bodyAt img) t)) (recAt img t)
+
+unfoldable pub otherRecord : List ℕ → Head → ℕ → List ℕ
+otherRecord img h t = cond (eqb (newBody (versionOf img) h) 0) (recAt img t) (keptRecord (newGap img h) img t)
+
+-- .. and the pool: the new body is all FF
+unfoldable pub filled : List ℕ → List ℕ → Head → List ℕ
+filled img pool h =
+    cond (eqb (newBody (versionOf img) h) 0) pool
+    (splice (placePool (newGap img h) (countOf img) img pool) (placeAt (newGap img h) (countOf img) img)
+    (replicate (newBody (versionOf img) h) 0xFF))
 
 -- what the data of a new file must satisfy by themselves, on a card of a version
 pub record GoodRecord (v : ℕ) (h : Head) (name rule : List ℕ) : Type 0 where
@@ -60,6 +105,10 @@ deleted img d =
     setCurrent (clearBelow (countOf img) (atOrBeneath (viewAt img) d) img)
     (currentDfOf img)
     (cond (eqb (currentEfOf img) d) none (currentEfOf img))
+
+-- .. and their bytes of the pool become 00
+unfoldable pub wiped : List ℕ → List ℕ → ℕ → List ℕ
+wiped img pool d = wipeBelow (countOf img) (atOrBeneath (viewAt img) d) (startAt img) (bodyAt img) pool
 
 -- what DELETE has found: a child of the current DF
 pub record Deletes (img : List ℕ) (d : ℕ) : Type 0 where

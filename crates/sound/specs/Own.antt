@@ -1,9 +1,9 @@
 -- What a record must satisfy by itself, over its 64 bytes (01 "Image": the table of a record, the sentences
--- on kind, descriptor, rule, size, record length and padding; 02 Ticket 3): as a test, and as a record with a field for
+-- on kind, descriptor, rule, size, record length and padding; 02 Tickets 3 and 4): as a test, and as a record with a field for
 -- each sentence.
 use mathlib.Core.Path.{_≡_}
 use mathlib.Core.List.{List}
-use mathlib.Core.Bool.{Bool, true, _&&_}
+use mathlib.Core.Bool.{Bool, true, not, _&&_}
 use Prim.Native.Nat.{ℕ, _+_, _-_, _<_, _≤_}
 use lib.Dec.{eqb, leb}
 use lib.ListN.{getD}
@@ -13,7 +13,7 @@ use Rattle.rules.specs.Descriptor.{classOf, ef}
 use Rattle.rules.specs.Life.{knownLife}
 use Rattle.rules.specs.Value.{goodIdentifier, goodLength}
 use Rattle.image.specs.Layout.{longestRule, zerosAfter, kindOf, descriptorOf, lifeCycleOf, formOf, identifierOf, recordLengthOf, sizeOf}
-use Rattle.image.specs.Layout.{ruleOf}
+use Rattle.image.specs.Layout.{ruleOf, hasBodies}
 use Rattle.access.specs.Access.{fitsRecord}
 
 -- the n bytes from `at` on are zero
@@ -27,6 +27,10 @@ pub record Padded (most : ℕ) (r : List ℕ) (n : ℕ) : Type 0 where
 
 unfoldable pub paddedb : ℕ → List ℕ → ℕ → Bool
 paddedb most r n = leb (getD r n 0) most && zerosb r (n + 1 + getD r n 0) (most - getD r n 0)
+
+-- behind the rule stands the start of a body: in EFs of a version that has bodies
+unfoldable pub hasStart : ℕ → List ℕ → Bool
+hasStart v r = hasBodies v && eqb (kindOf r) ef
 
 -- a used record of a version
 pub record Used (v : ℕ) (r : List ℕ) : Type 0 where
@@ -47,8 +51,8 @@ pub record Used (v : ℕ) (r : List ℕ) : Type 0 where
   -- rule length 1 to what the version has for it, rule, zero-padded; its form is one of the version's, and it is well formed
   pub rule : Padded (longestRule v) r 33
   pub formed : fitsRecord v (formOf r) (ruleOf r) ≡ true
-  -- the bytes after the longest rule are 0
-  pub spare : (k : ℕ) → k < zerosAfter v → getD r (34 + longestRule v + k) 0 ≡ 0
+  -- the bytes after the longest rule are 0, but for the start of a body
+  pub spare : (hasStart v r ≡ true → ⊥) → (k : ℕ) → k < zerosAfter v → getD r (34 + longestRule v + k) 0 ≡ 0
 
 unfoldable pub classedb : List ℕ → Bool
 classedb r =
@@ -66,7 +70,7 @@ unfoldable pub ruledb : ℕ → List ℕ → Bool
 ruledb v r =
     paddedb (longestRule v) r 33
     && (fitsRecord v (formOf r) (ruleOf r)
-    && zerosb r (34 + longestRule v) (zerosAfter v))
+    && implies (not (hasStart v r)) (zerosb r (34 + longestRule v) (zerosAfter v)))
 
 unfoldable pub usedb : ℕ → List ℕ → Bool
 usedb v r = classedb r && (measuredb r && (nameb r && ruledb v r))

@@ -1,5 +1,5 @@
--- When an image is sound (01 "Image"): the header, each record by itself, what holds between records, what is
--- current. `soundb` computes it for any bytes; `Sound` says it, sentence by sentence; they agree
+-- When an image is sound (01 "Image"; 02 Ticket 4): the header, each record by itself, what holds between records, what is
+-- current, where bodies lie. `soundb` computes it for any bytes; `Sound` says it, sentence by sentence; they agree
 -- (proofs/Says, `sound-says`).
 use mathlib.Core.Path.{_≡_}
 use mathlib.Core.List.{List}
@@ -11,6 +11,8 @@ use Rattle.laws.specs.Walks.{allBelow}
 use Rattle.laws.specs.Tests.{implies}
 use Rattle.rules.specs.Descriptor.{df, ef}
 use Rattle.image.specs.Layout.{markAt, knownVersion, versionOf, countOf, currentDfOf, currentEfOf, none, recAt}
+use Rattle.pool.specs.Bodies.{startAt, bodyAt}
+use Rattle.pool.specs.Laid.{Laid, laid}
 use Rattle.sound.specs.Table.{View, viewAt}
 use Rattle.sound.specs.Own.{Own, ownb, zerosb}
 use Rattle.sound.specs.Kin.{Kin, kinb}
@@ -24,7 +26,7 @@ pub record Header (img : List ℕ) : Type 0 where
   pub mark-0 : markAt img 0 ≡ 0x55
   pub mark-1 : markAt img 1 ≡ 0x46
   pub mark-2 : markAt img 2 ≡ 0x54
-  -- version 1 or 2
+  -- version 1, 2 or 3
   pub version : knownVersion (versionOf img) ≡ true
   -- five zero bytes
   pub zeros : (k : ℕ) → k < 5 → getD img (11 + k) 0 ≡ 0
@@ -60,15 +62,25 @@ currentb n v d e =
     && (implies (not (eqb e none)) (eqb (v e .kind) ef)
     && implies (not (eqb e none)) (eqb (v e .parent) d))))
 
+-- the pool is as long as the root's total
+abbrev pub poolLength : List ℕ → ℕ
+poolLength img = viewAt img 0 .size
+
 pub record Sound (img : List ℕ) : Type 0 where
   pub header : Header img
   pub records : (s : ℕ) → s < countOf img → Own (versionOf img) (recAt img s)
   pub kin : Kin (countOf img) (viewAt img)
   pub current : Current (countOf img) (viewAt img) (currentDfOf img) (currentEfOf img)
+  -- bodies lie in the pool, apart
+  pub bodies : Laid (countOf img) (startAt img) (bodyAt img) (poolLength img)
+
+unfoldable pub bodiesb : List ℕ → Bool
+bodiesb img = laid (countOf img) (startAt img) (bodyAt img) (poolLength img)
 
 unfoldable pub soundb : List ℕ → Bool
 soundb img =
     headerb img
     && (recordsb img (countOf img)
     && (kinb (countOf img) (viewAt img)
-    && currentb (countOf img) (viewAt img) (currentDfOf img) (currentEfOf img)))
+    && (currentb (countOf img) (viewAt img) (currentDfOf img) (currentEfOf img)
+    && bodiesb img)))

@@ -24,9 +24,11 @@ use Rattle.image.proofs.Versions.{longest-within, longest-least}
 use Rattle.image.proofs.Places.{record-in}
 use Rattle.access.specs.Access.{wellFormed, fitsRecord}
 use Rattle.access.proofs.Fits.{fits-says}
+use Rattle.sound_records.specs.Ends.{zerosEnd}
 use Rattle.sound.specs.Own.{zerosb, paddedb, ownb, measuredb, nameb, ruledb}
 use Rattle.sound.specs.Sound.{headerb, recordsb}
 use Rattle.sound_records.proofs.Zeros.{agree, zeros-each, zeros-part, zeros-both, zeros-start, zeros-more}
+use Rattle.sound_records.proofs.Tails.{tail-says}
 
 pub identifier-last : (v w : ℕ) {b : Bool} → v ≡ w → b ≡ goodIdentifier v → b ≡ goodIdentifier w
 identifier-last v w e h = h ∙ ap goodIdentifier e
@@ -108,7 +110,7 @@ record Ruled (v : ℕ) (r : List ℕ) (n : ℕ) : Type 0 where
   some : 1 ≤ n
   short : n ≤ longestRule v
   known : formOf r < formsOf v
-  zeros : zerosb r (34 + n) (30 - n) ≡ true
+  zeros : zerosb r (34 + n) (zerosEnd v r - (34 + n)) ≡ true
   formed : wellFormed (formOf r) (take n (drop 34 r)) ≡ true
 
 -- k is how many forms there are
@@ -138,16 +140,11 @@ module _ (v : ℕ) (r : List ℕ) (whole : length r ≡ 64) (n : ℕ) (f : n ≡
           some = omega (arith, fits .some, rule-long short);
           short = short;
           known = fits .known;
-          zeros =
-              zeros-both r (34 + n) (longestRule v - n) (34 + longestRule v) (30 - longestRule v) (34 + n) (30 - n)
-              (omega arith) (omega arith) (omega (arith, longest-within v)) (rw f (p .1)) (b .1);
+          zeros = tail-says v r n short .1 (rw f (p .1), b .1);
           formed = ap (wellFormed (formOf r)) (sym rule-is) ∙ fits .formed;
         },
     λ u.
-        let within = longest-within v in
-        let pad = zeros-part r (34 + n) (30 - n) (34 + n) (longestRule v - n) (omega arith) (omega (arith, u .short)) (u .zeros) in
-        let spare = zeros-part r (34 + n) (30 - n) (34 + longestRule v) (30 - longestRule v) (omega (arith, u .short)) (omega arith)
-            (u .zeros) in
+        let tail = tail-says v r n (u .short) .0 (u .zeros) in
         let fits = fits-says v (formOf r) (ruleOf r) .1 (record {
           some = omega (arith, u .some, rule-long (u .short));
           short = omega (arith, u .short, rule-long (u .short));
@@ -155,7 +152,7 @@ module _ (v : ℕ) (r : List ℕ) (whole : length r ≡ 64) (n : ℕ) (f : n ≡
           formed = ap (wellFormed (formOf r)) rule-is ∙ u .formed;
         }) in
         and-says _ _ .1
-        (and-says _ _ .1 (le-leb (getD r 33 0) (longestRule v) (omega (arith, u .short)), rw (← f) pad), and-says _ _ .1 (fits, spare)),
+        (and-says _ _ .1 (le-leb (getD r 33 0) (longestRule v) (omega (arith, u .short)), rw (← f) (tail .0)), and-says _ _ .1 (fits, tail .1)),
   )
 
   refuted : (Ruled v r n → ⊥) → false ≡ ruledb v r
@@ -168,11 +165,16 @@ module _ (v : ℕ) (r : List ℕ) (whole : length r ≡ 64) (n : ℕ) (f : n ≡
   unfolding formOf
   ruled-unknown e h = refuted (λ u. omega (arith, u .known))
 
-  pub ruled-tail : {p : Bool} → p ≡ zerosb r (34 + n) (30 - n) → not p ≡ true → false ≡ ruledb v r
-  ruled-tail {p} e t = refuted (λ u. false≢true (sym (not-true p t) ∙ e ∙ u .zeros))
+  -- e is where the zeros end
+  pub ruled-tail : {e : ℕ} {p : Bool} → e ≡ zerosEnd v r → p ≡ zerosb r (34 + n) (e - (34 + n)) → not p ≡ true → false ≡ ruledb v r
+  ruled-tail {e} {p} to z t = refuted (λ u. false≢true (sym (not-true p t) ∙ z ∙ rw to (u .zeros)))
+
+  tail-passed : {e : ℕ} {p : Bool} → e ≡ zerosEnd v r → p ≡ zerosb r (34 + n) (e - (34 + n)) → not p ≡ false
+      → zerosb r (34 + n) (zerosEnd v r - (34 + n)) ≡ true
+  tail-passed {e} {p} to z t = rw (← to) (sym z ∙ not-false p t)
 
   -- a rule that fits where it stands: what is left is whether it is well formed
-  left-formed : 1 ≤ n → n ≤ longestRule v → formOf r < formsOf v → zerosb r (34 + n) (30 - n) ≡ true → (b : Bool)
+  left-formed : 1 ≤ n → n ≤ longestRule v → formOf r < formsOf v → zerosb r (34 + n) (zerosEnd v r - (34 + n)) ≡ true → (b : Bool)
       → b ≡ wellFormed (getD r 3 0) (take (34 + n - 34) (drop 34 r)) → b ≡ ruledb v r
   unfolding formOf
   left-formed some short known zeros b g =
@@ -183,22 +185,24 @@ module _ (v : ℕ) (r : List ℕ) (whole : length r ≡ 64) (n : ℕ) (f : n ≡
       (λ z. formed ∙ ruled-says .0 z .formed)
 
   -- at most 16 bytes, for which every version that has the form has room; k is how many forms there are
-  pub ruled-is : {p : Bool} {k : ℕ} → 1 ≤ n → k ≡ formsOf v → getD r 3 0 < k → n ≤ 16 → p ≡ zerosb r (34 + n) (30 - n) → not p ≡ false
+  pub ruled-is : {k e : ℕ} {p : Bool} → 1 ≤ n → k ≡ formsOf v → getD r 3 0 < k → n ≤ 16 → e ≡ zerosEnd v r
+      → p ≡ zerosb r (34 + n) (e - (34 + n)) → not p ≡ false
       → (b : Bool) → b ≡ wellFormed (getD r 3 0) (take (34 + n - 34) (drop 34 r)) → b ≡ ruledb v r
   unfolding formOf knownVersion
-  ruled-is {p} some forms known short e t =
+  ruled-is {k} {e} {p} some forms known short to z t =
       let some-form : 0 < formsOf v = omega arith in
       let room = longest-least v (lt-ltb 0 (formsOf v) some-form) in
-      left-formed some (omega (arith, room)) (omega arith) (sym e ∙ not-false p t)
+      left-formed some (omega (arith, room)) (omega arith) (tail-passed to z t)
 
   -- more than 16; m is how many bytes the version has room for
   module _ {m : ℕ} (most : m ≡ longestRule v) where
     pub long-past : m < n → false ≡ ruledb v r
     long-past h = refuted (λ u. omega (arith, u .short))
 
-    pub long-is : {p : Bool} → 16 < n → n ≤ m → formOf r < formsOf v → p ≡ zerosb r (34 + n) (30 - n) → not p ≡ false
+    pub long-is : {e : ℕ} {p : Bool} → 16 < n → n ≤ m → formOf r < formsOf v → e ≡ zerosEnd v r
+        → p ≡ zerosb r (34 + n) (e - (34 + n)) → not p ≡ false
         → (b : Bool) → b ≡ wellFormed (getD r 3 0) (take (34 + n - 34) (drop 34 r)) → b ≡ ruledb v r
-    long-is {p} some short known e t = left-formed (omega arith) (omega arith) known (sym e ∙ not-false p t)
+    long-is some short known to z t = left-formed (omega arith) (omega arith) known (tail-passed to z t)
 
 pub ruleset ruling = (ruled-none, ruled-unknown, ruled-tail, ruled-is)
 

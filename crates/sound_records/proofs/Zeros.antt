@@ -3,16 +3,16 @@
 use mathlib.Core.Path.{_≡_, refl, sym, _∙_, ap}
 use mathlib.Core.Bool.{Bool, true, false, not, _&&_, false≢true}
 use mathlib.Core.List.{List}
-use mathlib.Core.Logic.{_⊎_, inl, inr, ⊎-elim}
+use mathlib.Core.Logic.{⊎-elim}
 use Prim.Native.Nat.{ℕ, _+_, _*_, _-_, _/_, _<_, _≤_}
 use native.Mathlib.Numerals.{add-one}
 use native.Mathlib.Omega.{arith}
 use lib.ListN.{getD}
 use lib.Bits.{bitOr, or-add-and, and-le-l, and-le-r}
-use lib.Dec.{eqb, leb}
-use borrow.Author.Tests.{eqb-true, eq-eqb, ne-eqb, leb-true, leb-false, not-true, not-false}
+use lib.Dec.{eqb}
+use borrow.Author.Tests.{eqb-true, eq-eqb, ne-eqb, not-true, not-false}
 use Rattle.laws.specs.Walks.{allBelow}
-use Rattle.laws.proofs.Says.{and-says}
+use Rattle.laws.proofs.Says.{and-says, lt-or}
 use Rattle.laws.proofs.Walks.{all-zero, all-more, all-fails, all-each, each-all}
 use Rattle.numbers.specs.Numbers.{u16At, u32At}
 use Rattle.sound.specs.Own.{zerosb}
@@ -22,13 +22,6 @@ pub agree : (a b : Bool) → (a ≡ true → b ≡ true) → (b ≡ true → a �
 agree true b f g = sym (f refl)
 agree false true f g = g refl
 agree false false f g = refl
-
-low-or : (a b : ℕ) → (a < b) ⊎ (b ≤ a)
-low-or a b = go (leb b a) refl
-  where
-    go : (t : Bool) → leb b a ≡ t → (a < b) ⊎ (b ≤ a)
-    go true e = inr (leb-true b a e)
-    go false e = inl (leb-false b a e)
 
 module _ (s : List ℕ) where
   pub zeros-each : (a n : ℕ) → zerosb s a n ≡ true → (p : ℕ) → a ≤ p → p < a + n → getD s p 0 ≡ 0
@@ -51,7 +44,7 @@ module _ (s : List ℕ) where
   zeros-both a n b m c k l o r g h =
       each-zeros c k
       (λ p i j. ⊎-elim (λ u. zeros-each a n g p (omega arith) u) (λ u. zeros-each b m h p (omega arith) (omega arith))
-      (low-or p (a + n)))
+      (lt-or p (a + n)))
 
   -- a test of a part that failed, and one of the last part after the rest passed: x is what it answered
   pub part-fails : (a n b m : ℕ) (x : Bool) → a ≤ b → b + m ≤ a + n → x ≡ zerosb s b m → not x ≡ true → false ≡ zerosb s a n
@@ -166,33 +159,36 @@ module _ (r : List ℕ) where
     name-last t b f =
         last-part r (17 + n) 8 25 8 (17 + n) (16 - n) b (omega arith) (omega arith) (omega arith) (omega arith) (passed (17 + n) 8 a e t) f
 
-  -- after a rule of n bytes, more than 16
-  module _ (n : ℕ) (low : 16 < n) (h : n ≤ 22) (a : Bool) (e : a ≡ zerosb r (34 + n) 8) where
-    pub long-first : not a ≡ true → false ≡ zerosb r (34 + n) (30 - n)
-    long-first t = part-fails r (34 + n) (30 - n) (34 + n) 8 a (omega arith) (omega arith) e t
+  -- after a rule of n bytes, up to `to`, which is the end of the record, or two bytes before it
+  module _ (n to : ℕ) (low : 62 ≤ to) (high : to ≤ 64) (a : Bool) (e : a ≡ zerosb r (34 + n) 8) where
+    -- more than 16 bytes
+    module _ (some : 16 < n) (h : n ≤ 20) where
+      pub long-first : not a ≡ true → false ≡ zerosb r (34 + n) (to - (34 + n))
+      long-first t = part-fails r (34 + n) (to - (34 + n)) (34 + n) 8 a (omega arith) (omega arith) e t
 
-    pub long-last : not a ≡ false → (d : Bool) → d ≡ zerosb r 56 8 → d ≡ zerosb r (34 + n) (30 - n)
-    long-last t d i =
-        let to-56 = zeros-part r (34 + n) 8 (34 + n) (22 - n) (omega arith) (omega arith) (passed (34 + n) 8 a e t) in
-        last-part r (34 + n) (22 - n) 56 8 (34 + n) (30 - n) d (omega arith) (omega arith) (omega arith) (omega arith) to-56 i
+      pub long-last : not a ≡ false → (d : Bool) → d ≡ zerosb r (to - 8) 8 → d ≡ zerosb r (34 + n) (to - (34 + n))
+      long-last t d i =
+          last-part r (34 + n) 8 (to - 8) 8 (34 + n) (to - (34 + n)) d (omega arith) (omega arith) (omega arith) (omega arith)
+          (passed (34 + n) 8 a e t) i
 
-  -- after a rule of n bytes, at most 16
-  module _ (n : ℕ) (h : n ≤ 16) (a : Bool) (e : a ≡ zerosb r (34 + n) 8) where
-    pub rule-first : not a ≡ true → false ≡ zerosb r (34 + n) (30 - n)
-    rule-first t = part-fails r (34 + n) (30 - n) (34 + n) 8 a (omega arith) (omega arith) e t
+    -- at most 16
+    module _ (h : n ≤ 16) where
+      pub rule-first : not a ≡ true → false ≡ zerosb r (34 + n) (to - (34 + n))
+      rule-first t = part-fails r (34 + n) (to - (34 + n)) (34 + n) 8 a (omega arith) (omega arith) e t
 
-    module _ (t : not a ≡ false) (b : Bool) (f : b ≡ zerosb r (42 + n / 2) 8) where
-      pub rule-second : not b ≡ true → false ≡ zerosb r (34 + n) (30 - n)
-      rule-second u = part-fails r (34 + n) (30 - n) (42 + n / 2) 8 b (omega arith) (omega arith) f u
+      module _ (t : not a ≡ false) (b : Bool) (f : b ≡ zerosb r (42 + n / 2) 8) where
+        pub rule-second : not b ≡ true → false ≡ zerosb r (34 + n) (to - (34 + n))
+        rule-second u = part-fails r (34 + n) (to - (34 + n)) (42 + n / 2) 8 b (omega arith) (omega arith) f u
 
-      module _ (u : not b ≡ false) (c : Bool) (g : c ≡ zerosb r (48 + n / 8) 8) where
-        pub rule-third : not c ≡ true → false ≡ zerosb r (34 + n) (30 - n)
-        rule-third v = part-fails r (34 + n) (30 - n) (48 + n / 8) 8 c (omega arith) (omega arith) g v
+        module _ (u : not b ≡ false) (c : Bool) (g : c ≡ zerosb r (48 + n / 8) 8) where
+          pub rule-third : not c ≡ true → false ≡ zerosb r (34 + n) (to - (34 + n))
+          rule-third v = part-fails r (34 + n) (to - (34 + n)) (48 + n / 8) 8 c (omega arith) (omega arith) g v
 
-        pub rule-last : not c ≡ false → (d : Bool) → d ≡ zerosb r 56 8 → d ≡ zerosb r (34 + n) (30 - n)
-        rule-last v d i =
-            let to-50 = zeros-both r (34 + n) 8 (42 + n / 2) 8 (34 + n) (16 - n) (omega arith) (omega arith) (omega arith)
-            (passed (34 + n) 8 a e t) (passed (42 + n / 2) 8 b f u) in
-            let to-56 = zeros-both r (34 + n) (16 - n) (48 + n / 8) 8 (34 + n) (22 - n) (omega arith) (omega arith) (omega arith) to-50
-            (passed (48 + n / 8) 8 c g v) in
-            last-part r (34 + n) (22 - n) 56 8 (34 + n) (30 - n) d (omega arith) (omega arith) (omega arith) (omega arith) to-56 i
+          pub rule-last : not c ≡ false → (d : Bool) → d ≡ zerosb r (to - 8) 8 → d ≡ zerosb r (34 + n) (to - (34 + n))
+          rule-last v d i =
+              let to-50 = zeros-both r (34 + n) 8 (42 + n / 2) 8 (34 + n) (16 - n) (omega arith) (omega arith) (omega arith)
+              (passed (34 + n) 8 a e t) (passed (42 + n / 2) 8 b f u) in
+              let to-56 = zeros-both r (34 + n) (16 - n) (48 + n / 8) 8 (34 + n) (22 - n) (omega arith) (omega arith) (omega arith) to-50
+              (passed (48 + n / 8) 8 c g v) in
+              last-part r (34 + n) (22 - n) (to - 8) 8 (34 + n) (to - (34 + n)) d (omega arith) (omega arith) (omega arith) (omega arith)
+              to-56 i

@@ -73,24 +73,26 @@ pub fn after_name(r: &[u8], n: usize) -> bool
     eight(r, 25)
 }
 
-// Whether the bytes after a rule of more than 16 bytes are zero, up to the end of the record.
-pub fn after_long_rule(r: &[u8], n: usize) -> bool
-    requires { ⌜ (length (now r) ≡ 64) × ((16 < n) × (n ≤ 30)) ⌝ }
-    ensures { λ b. ⌜ b ≡ zerosb (now (r .entry)) (34 + n) (30 - n) ⌝ }
+// Whether the bytes after a rule of more than 16 bytes are zero, up to `to`: the end of the record, or the start of a body.
+pub fn after_long_rule(r: &[u8], n: usize, to: usize) -> bool
+    requires { ⌜ (length (now r) ≡ 64) × ((16 < n) × (34 + n ≤ to)) ⌝ }
+    requires { ⌜ (62 ≤ to) × (to ≤ 64) ⌝ }
+    ensures { λ b. ⌜ b ≡ zerosb (now (r .entry)) (34 + n) (to - (34 + n)) ⌝ }
 {
-    if n > 22 {
-        return zeros(r, 34 + n, 30 - n);
+    if n > 20 {
+        return zeros(r, 34 + n, to - (34 + n));
     }
     if !eight(r, 34 + n) {
         return false;
     }
-    eight(r, 56)
+    eight(r, to - 8)
 }
 
 // The same of a rule of at most 16 bytes. The words lie so that no length of it is a case of its own.
-pub fn after_rule(r: &[u8], n: usize) -> bool
+pub fn after_rule(r: &[u8], n: usize, to: usize) -> bool
     requires { ⌜ (length (now r) ≡ 64) × (n ≤ 16) ⌝ }
-    ensures { λ b. ⌜ b ≡ zerosb (now (r .entry)) (34 + n) (30 - n) ⌝ }
+    requires { ⌜ (62 ≤ to) × (to ≤ 64) ⌝ }
+    ensures { λ b. ⌜ b ≡ zerosb (now (r .entry)) (34 + n) (to - (34 + n)) ⌝ }
 {
     if !eight(r, 34 + n) {
         return false;
@@ -101,5 +103,5 @@ pub fn after_rule(r: &[u8], n: usize) -> bool
     if !eight(r, 48 + n / 8) {
         return false;
     }
-    eight(r, 56)
+    eight(r, to - 8)
 }

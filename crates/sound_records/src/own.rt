@@ -3,13 +3,14 @@
 // records, and lent.
 ghost use mathlib.Core.Path.{_≡_};
 ghost use mathlib.Core.Bool.{_&&_};
-ghost use Prim.Native.Nat.{_<_};
+ghost use Prim.Native.Nat.{_<_, _≤_};
 ghost use lib.Dec.{leb};
 ghost use lib.ListN.{length, getD};
 ghost use Rattle.rules.specs.Descriptor.{Classes};
 ghost use Rattle.rules.specs.Group.{Lengths};
 ghost use Rattle.rules.specs.Value.{wholeRecords};
 ghost use Rattle.image.specs.Layout.{Sized, Within, formsOf, recAt, formOf, recordLengthOf, sizeOf};
+ghost use Rattle.sound_records.specs.Ends.{zerosEnd};
 ghost use Rattle.sound.specs.Own.{classedb, measuredb, nameb, ruledb, usedb, ownb};
 ghost use Rattle.sound.specs.Sound.{recordsb};
 use crate::blank;
@@ -74,24 +75,39 @@ fn name_fits(r: &[u8]) -> bool
     blank::after_name(r, n)
 }
 
-// A rule of n bytes, more than 16: as long as the version has room for, and zeros after it to the end. What most rules do not
+// Where the zeros after a rule end: at the start of a body, where one stands, else at the end of the record.
+fn zeros_end(r: &[u8], v: u32) -> usize
+    requires { ⌜ length (now r) ≡ 64 ⌝ }
+    ensures { λ e. ⌜ (e ≡ zerosEnd v (now (r .entry))) × ((62 ≤ e) × (e ≤ 64)) ⌝ }
+{
+    if !image::version::has_bodies(v) {
+        return 64;
+    }
+    if r[0] == rules::descriptor::EF {
+        return 62;
+    }
+    64
+}
+
+// A rule of n bytes, more than 16: as long as the version has room for, and zeros after it up to `end`. What most rules do not
 // ask stands apart.
-fn ruled_long(r: &[u8], v: u32, n: usize, lengths: &[u8; 256]) -> bool
+fn ruled_long(r: &[u8], v: u32, n: usize, end: usize, lengths: &[u8; 256]) -> bool
     requires { ⌜ (length (now r) ≡ 64) × ((n ≡ getD (now r) 33 0) × (16 < n)) ⌝ }
     requires { ⌜ Lengths (now lengths) × (formOf (now r) < formsOf v) ⌝ }
+    requires { ⌜ (end ≡ zerosEnd v (now r)) × ((62 ≤ end) × (end ≤ 64)) ⌝ }
     ensures { λ b. ⌜ b ≡ ruledb v (now (r .entry)) ⌝ }
 {
     if image::version::longest_rule(v) < n {
         return false;
     }
-    if !blank::after_long_rule(r, n) {
+    if !blank::after_long_rule(r, n, end) {
         return false;
     }
     let to = 34 + n;
     access::formed_by(r[3], &r[34..to], lengths)
 }
 
-// The rule, of one of the version's forms, which has room for 16 bytes at least, and zeros after it to the end.
+// The rule, of one of the version's forms, which has room for 16 bytes at least, and zeros after it to the end, or to the start of a body.
 fn ruled(r: &[u8], v: u32, lengths: &[u8; 256]) -> bool
     requires { ⌜ length (now r) ≡ 64 ⌝ }
     requires { ⌜ Lengths (now lengths) ⌝ }
@@ -104,10 +120,11 @@ fn ruled(r: &[u8], v: u32, lengths: &[u8; 256]) -> bool
     if image::version::forms(v) <= r[3] {
         return false;
     }
+    let end = zeros_end(r, v);
     if n > 16 {
-        return ruled_long(r, v, n, lengths);
+        return ruled_long(r, v, n, end, lengths);
     }
-    if !blank::after_rule(r, n) {
+    if !blank::after_rule(r, n, end) {
         return false;
     }
     let to = 34 + n;

@@ -9,7 +9,7 @@ use borrow.Author.Tests.{not-true, not-false}
 use Rattle.image.specs.Layout.{Sized, countOf, currentDfOf, currentEfOf}
 use Rattle.sound.specs.Table.{View, viewAt}
 use Rattle.sound.specs.Kin.{rootb, namesb, kinb}
-use Rattle.sound.specs.Sound.{Header, headerb, recordsb, currentb, Sound, soundb}
+use Rattle.sound.specs.Sound.{Header, headerb, recordsb, currentb, bodiesb, Sound, soundb}
 use Rattle.sound.proofs.Says.{header-says, sound-says}
 use Rattle.kinship.proofs.Sound.{sized-by}
 use Rattle.sound_links.specs.Linked.{linkedb}
@@ -54,6 +54,11 @@ module _ (img : List ℕ) (h : Bool) (e : h ≡ headerb img) (t : not h ≡ fals
         unfolding soundb
         sound-kin w = rw (← e, not-false h t, ← f, ← g, not-false r u, ← i, not-true k w)
 
-        pub sound-last : not k ≡ false → (x : Bool) → x ≡ currentb n (viewAt img) (currentDfOf img) (currentEfOf img) → x ≡ soundb img
-        unfolding soundb
-        sound-last w x y = rw (← e, not-false h t, ← f, ← g, not-false r u, ← i, not-false k w) y
+        module _ (w : not k ≡ false) (y : Bool) (j : y ≡ currentb n (viewAt img) (currentDfOf img) (currentEfOf img)) where
+          pub sound-current : not y ≡ true → false ≡ soundb img
+          unfolding soundb
+          sound-current o = rw (← e, not-false h t, ← f, ← g, not-false r u, ← i, not-false k w, ← j, not-true y o)
+
+          pub sound-last : not y ≡ false → (x : Bool) → x ≡ bodiesb img → x ≡ soundb img
+          unfolding soundb
+          sound-last o x z = rw (← e, not-false h t, ← f, ← g, not-false r u, ← i, not-false k w, ← j, not-false y o) z

@@ -1,4 +1,4 @@
--- The status words of 01 "The order in which a command is judged", each given once.
+-- The status words of 01 "The order in which a command is judged" and of 02, each given once.
 use Prim.Native.Nat.{ℕ}
 
 abbrev pub done : ℕ
@@ -13,6 +13,10 @@ fileTerminated = 0x6285
 
 abbrev pub wrongLength : ℕ
 wrongLength = 0x6700
+
+-- the file has another structure than the command is for
+abbrev pub wrongStructure : ℕ
+wrongStructure = 0x6981
 
 abbrev pub securityNotSatisfied : ℕ
 securityNotSatisfied = 0x6982
@@ -29,6 +33,9 @@ wrongData = 0x6A80
 
 abbrev pub notFound : ℕ
 notFound = 0x6A82
+
+abbrev pub noSuchRecord : ℕ
+noSuchRecord = 0x6A83
 
 abbrev pub notEnoughMemory : ℕ
 notEnoughMemory = 0x6A84

@@ -1,6 +1,6 @@
 // What passes between judging and applying a command (judge, then apply): what the caller hands over, and the verdict,
 // a refusal with its word or one effect with its numbers. No code but the words' names. specs/ has the status words of
-// 01 and what each verdict gives: its word, and every byte of the image afterwards.
+// 01 and 02, and what each verdict gives: its word, and every byte of image and pool afterwards.
 
 pub mod words;
 
@@ -30,4 +30,8 @@ pub enum Verdict {
     Delete(usize),
     // The slot whose life-cycle byte changes, and the byte.
     SetLife { slot: usize, life: u8 },
+    // From where on so many bytes of the pool are told.
+    Read { at: usize, count: usize },
+    // From where on the command's data are written into the pool.
+    Update(usize),
 }

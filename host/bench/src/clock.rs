@@ -3,6 +3,8 @@
 use std::hint::black_box;
 use std::time::{Duration, Instant};
 
+use cases::Lent;
+
 /// Fewest and most runs of one measurement.
 const FEWEST_RUNS: usize = 15;
 const MOST_RUNS: usize = 2000;
@@ -25,34 +27,35 @@ impl Times {
     }
 }
 
-/// Runs two works in turn, each on a fresh copy of the start, as often as the
+/// Runs two works in turn, each on a fresh copy of its start, as often as the
 /// budget allows; so both meet the same load. Making the copies is not
 /// measured.
 pub fn measure<T, U>(
-    start: &[u8],
+    (start, mut one): (&Lent, impl FnMut(&mut Lent) -> T),
+    (other_start, mut other): (&Lent, impl FnMut(&mut Lent) -> U),
     budget: Duration,
-    mut one: impl FnMut(&mut [u8]) -> T,
-    mut other: impl FnMut(&mut [u8]) -> U,
 ) -> (Times, Times) {
-    let mut image = start.to_vec();
+    let mut lent = start.clone();
     let (first, second) = repeat(budget, || {
-        let first = time(&mut image, start, &mut one);
-        (first, time(&mut image, start, &mut other))
+        let first = time(&mut lent, start, &mut one);
+        (first, time(&mut lent, other_start, &mut other))
     })
     .into_iter()
     .unzip();
     (Times::of(first), Times::of(second))
 }
 
-/// One run on a fresh copy of the start, in seconds.
-fn time<T>(image: &mut [u8], start: &[u8], work: &mut impl FnMut(&mut [u8]) -> T) -> f64 {
-    image.copy_from_slice(start);
+/// One run on a fresh copy of the start, in the same place in memory, in
+/// seconds.
+fn time<T>(lent: &mut Lent, start: &Lent, work: &mut impl FnMut(&mut Lent) -> T) -> f64 {
+    lent.image.clone_from(&start.image);
+    lent.pool.clone_from(&start.pool);
     let before = Instant::now();
-    black_box(work(black_box(image)));
+    black_box(work(black_box(lent)));
     before.elapsed().as_secs_f64()
 }
 
-/// One copy of an image of so many bytes.
+/// One copy of an image, or of a pool, of so many bytes.
 pub fn measure_copy(length: usize, budget: Duration) -> Times {
     let start = vec![0xA5_u8; length];
     let mut image = vec![0_u8; length];
@@ -91,16 +94,19 @@ mod tests {
     #[test]
     fn every_run_starts_alike() {
         let (mut runs, mut others) = (0, 0);
-        let one = |image: &mut [u8]| {
-            assert_eq!(image, [7; 4]);
-            image.fill(1);
+        let lent = |image: &[u8], pool: &[u8]| Lent { image: image.to_vec(), pool: pool.to_vec() };
+        let (start, other_start) = (lent(&[7; 4], &[8; 2]), lent(&[7; 3], &[]));
+        let one = |given: &mut Lent| {
+            assert_eq!(*given, lent(&[7; 4], &[8; 2]));
+            given.image.fill(1);
+            given.pool.fill(1);
             runs += 1;
         };
-        let other = |image: &mut [u8]| {
-            assert_eq!(image, [7; 4]);
+        let other = |given: &mut Lent| {
+            assert_eq!(*given, lent(&[7; 3], &[]));
             others += 1;
         };
-        measure(&[7; 4], Duration::ZERO, one, other);
+        measure((&start, one), (&other_start, other), Duration::ZERO);
         assert_eq!((runs, others), (FEWEST_RUNS + 1, FEWEST_RUNS + 1));
     }
 }

@@ -1,10 +1,13 @@
-//! The cards that are measured: those of `cases`, which are of version 1, and
-//! cards of version 2 with other rules on the same files.
+//! The cards that are measured: those of `cases`, which are of version 1, cards
+//! of version 2 with other rules on the same files, and cards of version 3 with
+//! bodies.
 
-use cases::worst;
+use cases::{worst, Lent};
 use model::edition::{Edition, Version};
 use model::rule::Form;
 use model::Card;
+
+use crate::bodied;
 
 /// The files that cards of version 2 have.
 const FILES: &str = "900 files in 40 directories";
@@ -12,7 +15,8 @@ const FILES: &str = "900 files in 40 directories";
 /// A card that is measured.
 pub struct Shape {
     pub title: &'static str,
-    pub image: Vec<u8>,
+    /// Its image, and its pool where it has bodies.
+    pub start: Lent,
     /// How many copies of the image a command is to take at most, at the largest
     /// size (docs/SPEED.md).
     pub wanted: Option<f64>,
@@ -36,10 +40,14 @@ pub fn shapes(slots: usize) -> Vec<Shape> {
     let version_2: Vec<_> = all_rules().into_iter().filter_map(ruled).collect();
     let version_1 = worst.into_iter().map(|worst| Shape {
         title: worst.title,
-        image: worst.image,
+        start: without_bodies(worst.image),
         wanted: wanted(worst.title),
     });
-    version_1.chain(version_2).collect()
+    version_1.chain(version_2).chain(bodied::shapes(slots)).collect()
+}
+
+fn without_bodies(image: Vec<u8>) -> Lent {
+    Lent { image, pool: Vec::new() }
 }
 
 fn wanted(title: &str) -> Option<f64> {
@@ -60,7 +68,7 @@ fn ruled(mut card: Card, rules: Rules) -> Shape {
         (record.form, record.rule) = (form, rule);
         card.put(slot, record);
     }
-    Shape { title, image: card.encode(), wanted: Some(wanted) }
+    Shape { title, start: without_bodies(card.encode()), wanted: Some(wanted) }
 }
 
 /// What the cards of version 2 hold. Which rule of 30 bytes is the slowest goes
@@ -181,13 +189,17 @@ mod tests {
     }
 
     #[test]
-    fn cards_of_version_2_are_sound_and_have_all_their_rules() {
-        for Shape { title, image, .. } in shapes(1023) {
-            let card = Card::decode(&image).expect("a card");
-            assert!(model::sound(&image), "{title}");
-            let version = if title.starts_with("version 2") { Version::Two } else { Version::One };
+    fn cards_are_sound_and_of_the_version_that_their_titles_say() {
+        for Shape { title, start, .. } in shapes(1023) {
+            let card = Card::decode(&start.image).expect("a card");
+            assert!(model::sound(&start.image), "{title}");
+            let version = match title.get(..9) {
+                Some("version 2") => Version::Two,
+                Some("version 3") => Version::Three,
+                _ => Version::One,
+            };
             assert_eq!(card.edition.version, version, "{title}");
-            if title.starts_with("version 2") {
+            if version == Version::Two {
                 assert_eq!(card.used_slots().count(), 1 + 40 + 900, "{title}");
             }
         }

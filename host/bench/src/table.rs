@@ -53,20 +53,20 @@ pub fn row(title: &str, sizes: &[usize; 4], cells: &[Cell; 4], copies: &[Times; 
 }
 
 /// What the lines of ratios are about.
-pub fn ratio_head(sizes: &[usize; 4]) -> String {
+pub fn ratio_head(what: &str, sizes: &[usize; 4]) -> String {
     let [a, b, c, d] = sizes;
     let largest = format!("lowest, N {d}");
     let times = format!("{a:>6} {b:>7} {c:>7} {d:>8}");
-    let what = "SELECT with template / without, in turn in one run: medians at N".to_string();
-    format!("{what}\n{}", line("", "", [times, largest, String::new(), String::new()]))
+    let sizes = line("", "", [times, largest, String::new(), String::new()]);
+    format!("{what}: medians at N\n{sizes}")
 }
 
-/// The line of one ratio: of the medians, and of the lowest times at the
-/// largest size.
-pub fn ratio_row(what: &str, ratios: &[Times; 4]) -> String {
+/// The line of one ratio, in so many digits: of the medians, and of the lowest
+/// times at the largest size.
+pub fn ratio_row(what: &str, ratios: &[Times; 4], digits: usize) -> String {
     let [a, b, c, d] = ratios.each_ref().map(|ratio| ratio.median);
-    let times = format!("{a:>6.3} {b:>7.3} {c:>7.3} {d:>8.3}");
-    let lowest = format!("{:>8.3}", ratios[3].lowest);
+    let times = format!("{a:>6.digits$} {b:>7.digits$} {c:>7.digits$} {d:>8.digits$}");
+    let lowest = format!("{:>8.digits$}", ratios[3].lowest);
     line(what, "", [times, lowest, String::new(), String::new()])
 }
 
@@ -114,8 +114,8 @@ mod tests {
     #[test]
     fn ratios_stand_below_their_sizes() {
         let ratio = |median| Times { median, lowest: 1.007 };
-        let row = ratio_row("the root", &[1.2, 1.1, 1.05, 1.012].map(ratio));
-        let head = ratio_head(&[16, 64, 256, 1023]);
+        let row = ratio_row("the root", &[1.2, 1.1, 1.05, 1.012].map(ratio), 3);
+        let head = ratio_head("what", &[16, 64, 256, 1023]);
         let head = head.lines().last().expect("a line");
         for (size, ratio) in [("16", "1.200"), ("256", "1.050"), ("1023", "1.012")] {
             let end = |text: &str, part: &str| text.find(part).map(|at| at + part.len());

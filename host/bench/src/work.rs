@@ -4,9 +4,16 @@
 use cases::actions::{bare, delete, select};
 use cases::rules::Rule;
 use cases::template::FileData;
+use cases::Lent;
 use model::{Card, Record};
 
+use crate::bodied::BYTES;
+
+/// A body of so many bytes finds a gap on every card with bodies.
+const FEW_BYTES: u32 = 40;
+
 /// A call with its command.
+#[derive(Clone, PartialEq, Eq, Debug)]
 pub enum Call {
     Sound,
     Report,
@@ -24,8 +31,12 @@ pub enum Task {
     SelectFile,
     SelectFileTemplate,
     SelectNothing,
+    Read,
+    Update,
     CreateDf,
     CreateEf,
+    CreateInGap,
+    CreateMoving,
     DeleteFile,
     DeleteTree,
     Activate,
@@ -36,6 +47,7 @@ pub enum Task {
 }
 
 impl Task {
+    /// What is measured on a card without bodies.
     pub const ALL: [Task; 17] = [
         Task::Sound,
         Task::Report,
@@ -56,10 +68,36 @@ impl Task {
         Task::TerminateCard,
     ];
 
+    /// What is measured on a card with bodies.
+    pub const BODIED: [Task; 13] = [
+        Task::Sound,
+        Task::Report,
+        Task::UnknownInstruction,
+        Task::SelectRoot,
+        Task::SelectFile,
+        Task::SelectFileTemplate,
+        Task::Read,
+        Task::Update,
+        Task::CreateInGap,
+        Task::CreateMoving,
+        Task::DeleteFile,
+        Task::DeleteTree,
+        Task::Activate,
+    ];
+
     /// Each SELECT with the one that answers the template, and what both select.
     pub const TEMPLATES: [(&'static str, Task, Task); 2] = [
         ("the root", Task::SelectRoot, Task::SelectRootTemplate),
         ("last file", Task::SelectFile, Task::SelectFileTemplate),
+    ];
+
+    /// SELECT with each command about a body.
+    pub const AGAINST_SELECT: [(&'static str, Task, Task); 5] = [
+        ("READ, 200 bytes", Task::SelectFile, Task::Read),
+        ("UPDATE, 200 bytes", Task::SelectFile, Task::Update),
+        ("CREATE, a gap fits", Task::SelectFile, Task::CreateInGap),
+        ("CREATE, all moved", Task::SelectFile, Task::CreateMoving),
+        ("DELETE, last file", Task::SelectFile, Task::DeleteFile),
     ];
 
     pub fn title(self) -> &'static str {
@@ -72,8 +110,12 @@ impl Task {
             Task::SelectFile => "SELECT, last file",
             Task::SelectFileTemplate => ".. with its template",
             Task::SelectNothing => "SELECT, no such file",
+            Task::Read => "READ, 200 bytes",
+            Task::Update => "UPDATE, 200 bytes",
             Task::CreateDf => "CREATE, a DF",
             Task::CreateEf => "CREATE, an EF",
+            Task::CreateInGap => "CREATE, a gap fits",
+            Task::CreateMoving => "CREATE, all moved",
             Task::DeleteFile => "DELETE, last file",
             Task::DeleteTree => "DELETE, first in root",
             Task::Activate => "ACTIVATE",
@@ -84,20 +126,24 @@ impl Task {
         }
     }
 
-    /// The image from which the work starts, and the call.
-    pub fn prepared(self, image: &[u8]) -> (Vec<u8>, Call) {
-        let Some(mut card) = Card::decode(image) else {
-            return (image.to_vec(), Call::Sound);
+    /// The card from which the work starts, and the call.
+    pub fn prepared(self, start: &Lent) -> (Lent, Call) {
+        let Some(mut card) = Card::decode(&start.image) else {
+            return (start.clone(), Call::Sound);
         };
         let call = match self {
             Task::Sound => Call::Sound,
             Task::Report => Call::Report,
-            Task::UnknownInstruction => Call::Command(bare(0xB0)),
+            Task::UnknownInstruction => Call::Command(bare(0xB1)),
             Task::SelectRoot => Call::Command(select(0x3F00)),
             Task::SelectRootTemplate => Call::Command(with_template(select(0x3F00))),
             Task::SelectFile => Call::Command(select_last(&mut card)),
             Task::SelectFileTemplate => Call::Command(with_template(select_last(&mut card))),
             Task::SelectNothing => Call::Command(select(0x5555)),
+            Task::Read => Call::Command(of_last_body(&mut card, 0xB0, &[])),
+            Task::Update => Call::Command(of_last_body(&mut card, 0xD6, &[0x5A; BYTES as usize])),
+            Task::CreateInGap => Call::Command(beside_last_file(&mut card, FEW_BYTES)),
+            Task::CreateMoving => Call::Command(beside_last_file(&mut card, BYTES)),
             Task::CreateDf => Call::Command(last_file_again(&mut card, 0x78)),
             Task::CreateEf => Call::Command(last_file_again(&mut card, 0x41)),
             Task::DeleteFile => {
@@ -115,7 +161,7 @@ impl Task {
             Task::TerminateDf => on_last_file(&mut card, 0x05, 0xE6),
             Task::TerminateCard => Call::Command(bare(0xFE)),
         };
-        (card.encode(), call)
+        (Lent { image: card.encode(), pool: start.pool.clone() }, call)
     }
 }
 
@@ -152,6 +198,22 @@ fn last_file_again(card: &mut Card, descriptor: u8) -> Vec<u8> {
     file.command()
 }
 
+/// Makes the last file's directory current, and gives the CREATE of another file
+/// of so many bytes in it.
+fn beside_last_file(card: &mut Card, size: u32) -> Vec<u8> {
+    card.make_current(card.parent(last_slot(card)));
+    FileData::plain(0x41, 0x5555, size).command()
+}
+
+/// Makes the last file current, with its directory, and gives the READ or UPDATE
+/// of its first bytes.
+fn of_last_body(card: &mut Card, ins: u8, data: &[u8]) -> Vec<u8> {
+    let slot = last_slot(card);
+    card.make_current(card.parent(slot));
+    card.make_current(slot);
+    [&[0x00, ins, 0x00, 0x00, BYTES as u8], data].concat()
+}
+
 /// Makes the last file current, with its directory, in a life cycle.
 fn on_last_file(card: &mut Card, life_cycle: u8, ins: u8) -> Call {
     let slot = last_slot(card);
@@ -171,8 +233,8 @@ mod tests {
     fn a_template_is_compared_with_the_same_select_without() {
         for worst in shapes(64) {
             for (_, without, with) in Task::TEMPLATES {
-                let (start, one) = without.prepared(&worst.image);
-                let (same_start, other) = with.prepared(&worst.image);
+                let (start, one) = without.prepared(&worst.start);
+                let (same_start, other) = with.prepared(&worst.start);
                 assert_eq!(start, same_start, "{}, {with:?}", worst.title);
                 let (Call::Command(one), Call::Command(other)) = (one, other) else {
                     panic!("{with:?} is no command");
@@ -191,8 +253,9 @@ mod tests {
             let has_ef =
                 ["identifier", "files", "version 2"].map(|part| worst.title.contains(part));
             let has_ef = has_ef.contains(&true);
-            for task in Task::ALL {
-                let (mut image, call) = task.prepared(&worst.image);
+            let bodied = !worst.start.pool.is_empty();
+            for task in if bodied { &Task::BODIED[..] } else { &Task::ALL } {
+                let (Lent { mut image, mut pool }, call) = task.prepared(&worst.start);
                 assert!(card::lent::is_sound(&image), "{}, {task:?}", worst.title);
                 let Call::Command(bytes) = call else { continue };
                 let wanted = match task {
@@ -203,11 +266,31 @@ mod tests {
                 };
                 let mut response = [0; card::LONGEST_RESPONSE];
                 let full = card::State::FULL;
-                let answer = card::lent::command(&mut image, &bytes, &mut response, &full);
-                let answer = answer.expect("a sound card and a long response");
+                let answer =
+                    card::lent::command(&mut image, &mut pool, &bytes, &mut response, &full);
+                let answer = answer.expect("a sound card, its pool and a long response");
                 assert_eq!(answer.word.0, wanted, "{}, {task:?}", worst.title);
-                let has_data = format!("{task:?}").contains("Template");
+                let has_data = format!("{task:?}").contains("Template") || *task == Task::Read;
                 assert_eq!(answer.data_length > 0, has_data, "{}, {task:?}", worst.title);
+            }
+        }
+    }
+
+    /// What a CREATE on a card with bodies does to those that are there.
+    #[test]
+    fn bodies_are_moved_by_one_create_and_not_by_the_other() {
+        let shapes = [16, 128, 1023].into_iter().flat_map(shapes);
+        for worst in shapes.filter(|shape| !shape.start.pool.is_empty()) {
+            for (task, moves) in [(Task::CreateInGap, false), (Task::CreateMoving, true)] {
+                let (Lent { mut image, mut pool }, call) = task.prepared(&worst.start);
+                let before = Card::decode(&image).expect("a card");
+                let Call::Command(bytes) = call else { panic!("no command") };
+                model::command(&mut image, &mut pool, &bytes, &mut [], &model::State::FULL);
+                let after = Card::decode(&image).expect("a card");
+                for slot in model::bodies::in_order(&before) {
+                    let moved = before.record(slot).start != after.record(slot).start;
+                    assert_eq!(moved, moves, "{}, {task:?}, slot {slot}", worst.title);
+                }
             }
         }
     }

@@ -63,7 +63,7 @@ impl fmt::Display for MakeError {
         match self {
             MakeError::Length => f.write_str("a card has 2 to 1,023 slots, and this is no such"),
             MakeError::Version(version) => {
-                write!(f, "there is no card of version {version}: choose 1 or 2")
+                write!(f, "there is no card of version {version}: choose 1, 2 or 3")
             }
             MakeError::Total => f.write_str(
                 "the root's total does not fit the slots: choose from 1 up to 64 bytes for each \
@@ -71,8 +71,8 @@ impl fmt::Display for MakeError {
             ),
             MakeError::Form(version, form) => write!(
                 f,
-                "a card of version {version} takes no rule of tag {:02X}; one of version 2 takes \
-                 8C and AB",
+                "a card of version {version} takes no rule of tag {:02X}; one of version 2 or 3 \
+                 takes 8C and AB",
                 form.tag()
             ),
             MakeError::RuleLength(longest) => {
@@ -121,13 +121,21 @@ impl Error for Damaged {}
 /// Why a command has no word.
 #[derive(Clone, Copy, PartialEq, Eq, Debug)]
 pub enum CommandError {
-    /// Answer 1: the image is not sound. Image and response are as they came.
+    /// Answer 1: the image is not sound. All buffers are as they came.
     Damaged,
-    /// Answer 5: the response is shorter than the data. Nothing is selected;
-    /// image and response are as they came.
+    /// Answer 5: the response is shorter than the data. Nothing is selected; all
+    /// buffers are as they came.
     ShortResponse,
+    /// Answer 6: the image has bodies, and the pool is not as long as its root's
+    /// total. All buffers are as they came.
+    WrongPool {
+        /// How many bytes the pool must have.
+        wanted: usize,
+        /// How many it has.
+        given: usize,
+    },
     /// An answer that this version does not know, or data that is longer than
-    /// the response; what became of image and response is not known.
+    /// the response; what became of the buffers is not known.
     Unknown(u32),
 }
 
@@ -137,6 +145,7 @@ impl CommandError {
         match self {
             CommandError::Damaged => 1,
             CommandError::ShortResponse => 5,
+            CommandError::WrongPool { .. } => 6,
             CommandError::Unknown(answer) => answer,
         }
     }
@@ -151,6 +160,11 @@ impl fmt::Display for CommandError {
                 "the response buffer is too short for the data: {LONGEST_RESPONSE} bytes are \
                  enough for every command"
             ),
+            CommandError::WrongPool { wanted, given } => write!(
+                f,
+                "the pool has {given} bytes, and this card's has {wanted}, the root's total: \
+                 give the pool that was kept with this image"
+            ),
             CommandError::Unknown(answer) => unknown(*answer, f),
         }
     }
@@ -162,35 +176,43 @@ fn unknown(answer: u32, f: &mut fmt::Formatter<'_>) -> fmt::Result {
     write!(f, "the card library gave the unknown answer {answer}: build both anew")
 }
 
-/// An image that a [`crate::Card`] was not made of, because it is damaged. It
-/// can be had back.
+/// An image and a pool that a [`crate::Card`] was not made of, because the image
+/// is damaged or the pool has the wrong length. Both can be had back.
 #[derive(Clone, PartialEq, Eq)]
-pub struct DamagedImage {
+pub struct RefusedParts {
+    reason: CommandError,
     image: Vec<u8>,
+    pool: Vec<u8>,
 }
 
-impl DamagedImage {
-    pub(crate) fn new(image: Vec<u8>) -> DamagedImage {
-        DamagedImage { image }
+impl RefusedParts {
+    pub(crate) fn new(reason: CommandError, image: Vec<u8>, pool: Vec<u8>) -> RefusedParts {
+        RefusedParts { reason, image, pool }
     }
 
-    /// The bytes as they came.
-    pub fn into_image(self) -> Vec<u8> {
-        self.image
+    /// What a command on them answers.
+    pub fn reason(&self) -> CommandError {
+        self.reason
+    }
+
+    /// The bytes of image and pool as they came.
+    pub fn into_parts(self) -> (Vec<u8>, Vec<u8>) {
+        (self.image, self.pool)
     }
 }
 
-/// Tells the length only; an image may have 65,488 bytes.
-impl fmt::Debug for DamagedImage {
+/// Tells the lengths only; an image may have 65,488 bytes.
+impl fmt::Debug for RefusedParts {
     fn fmt(&self, f: &mut fmt::Formatter<'_>) -> fmt::Result {
-        write!(f, "DamagedImage of {} bytes", self.image.len())
+        let (image, pool) = (self.image.len(), self.pool.len());
+        write!(f, "RefusedParts of {image} and {pool} bytes: {:?}", self.reason)
     }
 }
 
-impl fmt::Display for DamagedImage {
+impl fmt::Display for RefusedParts {
     fn fmt(&self, f: &mut fmt::Formatter<'_>) -> fmt::Result {
-        Damaged.fmt(f)
+        self.reason.fmt(f)
     }
 }
 
-impl Error for DamagedImage {}
+impl Error for RefusedParts {}

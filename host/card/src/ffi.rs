@@ -17,6 +17,8 @@ extern "C" {
     fn hull_command(
         image: *mut u8,
         image_len: usize,
+        pool: *mut u8,
+        pool_len: usize,
         command: *const u8,
         command_len: usize,
         response: *mut u8,
@@ -47,6 +49,7 @@ pub fn make(image: &mut [u8], kind: u32, total: u32, form: u32, rule: &[u8]) -> 
 /// each is written.
 pub fn command(
     image: &mut [u8],
+    pool: &mut [u8],
     command: &[u8],
     response: &mut [u8],
     sets: [u16; 3],
@@ -55,14 +58,16 @@ pub fn command(
     let [messaging, external, user] = sets;
     let mut numbers = [u32::MAX; 3];
     // SAFETY: as for `make`: live slices with their own lengths, no pointer
-    // kept. Image and response are borrowed for this call alone, so that
-    // nothing else reads or writes them, and they overlap neither each other
+    // kept. Image, pool and response are borrowed for this call alone, so that
+    // nothing else reads or writes them, and they overlap neither one another
     // nor the command. The library writes three numbers, and `numbers`, which
     // is this function's own, has room for three.
     let both = unsafe {
         hull_command(
             image.as_mut_ptr(),
             image.len(),
+            pool.as_mut_ptr(),
+            pool.len(),
             command.as_ptr(),
             command.len(),
             response.as_mut_ptr(),

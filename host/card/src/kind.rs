@@ -1,7 +1,9 @@
 //! What card the maker makes, and in which form a rule is written.
 
+use std::ops::Range;
+
 /// Where the version stands in an image, 16 bits.
-const VERSION_AT: std::ops::Range<usize> = 3..5;
+const VERSION_AT: Range<usize> = 3..5;
 
 /// What card it is: today the version of its image. What else will tell cards
 /// apart joins it, so that a caller hands one value on.
@@ -17,8 +19,11 @@ impl Kind {
     pub const VERSION_1: Kind = Kind::of_version(1);
     /// Compact and expanded rules, of 1 to 30 bytes.
     pub const VERSION_2: Kind = Kind::of_version(2);
+    /// Compact and expanded rules, of 1 to 28 bytes; files have bodies, which
+    /// lie in a pool.
+    pub const VERSION_3: Kind = Kind::of_version(3);
     /// Every kind of card that there is.
-    pub const ALL: [Kind; 2] = [Kind::VERSION_1, Kind::VERSION_2];
+    pub const ALL: [Kind; 3] = [Kind::VERSION_1, Kind::VERSION_2, Kind::VERSION_3];
 
     /// The card of a version, known or not.
     pub const fn of_version(version: u16) -> Kind {
@@ -43,8 +48,14 @@ impl Kind {
         match (self.version, form) {
             (1, Form::Compact) => Some(16),
             (2, Form::Compact | Form::Expanded) => Some(30),
+            (3, Form::Compact | Form::Expanded) => Some(28),
             _ => None,
         }
+    }
+
+    /// Whether its files have bodies, so that a pool belongs to its image.
+    pub fn has_bodies(self) -> bool {
+        self.version == 3
     }
 }
 

@@ -1,9 +1,11 @@
-//! The four calls of the proved card on a buffer of the caller's. The buffer
-//! may hold anything; what is not a sound image is found and left alone.
+//! The four calls of the proved card on buffers of the caller's. They may hold
+//! anything; what is not a sound image with a pool of its length is found and
+//! left alone.
 
 use crate::errors::{CommandError, Damaged, MakeError};
 use crate::ffi;
 use crate::kind::{Kind, Rule};
+use crate::pool_length;
 use crate::state::State;
 use crate::word::Word;
 
@@ -29,7 +31,8 @@ pub struct Answer {
     pub data_length: usize,
 }
 
-/// Makes a fresh card in the buffer: only the root, which is current.
+/// Makes a fresh card in the buffer: only the root, which is current. Its pool,
+/// if it has one, may hold anything: no byte of it belongs to a body.
 pub fn make(image: &mut [u8], kind: Kind, total: u32, root_rule: Rule) -> Result<(), MakeError> {
     match ffi::make(image, kind.number(), total, root_rule.form.number(), root_rule.bytes) {
         0 => Ok(()),
@@ -41,18 +44,22 @@ pub fn make(image: &mut [u8], kind: Kind, total: u32, root_rule: Rule) -> Result
 }
 
 /// Runs one command. The word tells whether it had its effect; after a
-/// refusal, on a damaged image and with a response that is too short, image
-/// and response are as they came. Only a SELECT that wants the template has
-/// data; the bytes past it stay, and [`crate::LONGEST_RESPONSE`] bytes are
-/// enough for it.
+/// refusal, on a damaged image, with a pool of the wrong length and with a
+/// response that is too short, image, pool and response are as they came.
+///
+/// The pool is as long as [`pool_length`] tells; where that tells nothing it may
+/// have any length, also 0, and stays as it came. Only a READ and a SELECT that
+/// wants the template have data; the bytes past it stay, and
+/// [`crate::LONGEST_RESPONSE`] bytes are enough for it.
 pub fn command(
     image: &mut [u8],
+    pool: &mut [u8],
     command: &[u8],
     response: &mut [u8],
     state: &State,
 ) -> Result<Answer, CommandError> {
     let sets = [state.messaging, state.external, state.user];
-    let (both, [written, ..]) = ffi::command(image, command, response, sets, state.channels);
+    let (both, [written, ..]) = ffi::command(image, pool, command, response, sets, state.channels);
     let data_length = usize::try_from(written).unwrap_or(usize::MAX);
     match both >> 16 {
         0 if data_length <= response.len() => {
@@ -60,6 +67,10 @@ pub fn command(
         }
         1 => Err(CommandError::Damaged),
         5 => Err(CommandError::ShortResponse),
+        6 => {
+            let wanted = pool_length(image).unwrap_or(0);
+            Err(CommandError::WrongPool { wanted, given: pool.len() })
+        }
         answer => Err(CommandError::Unknown(answer)),
     }
 }

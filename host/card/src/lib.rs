@@ -1,9 +1,9 @@
 //! The proved card, safe to use from Rust.
 //!
-//! [`Card`] owns its image and is what most programs want; [`lent`] has the
-//! same four calls on a buffer of the caller's, sound or not. Everything that
-//! decides is the proved library; here bytes are handed to it, and its numbers
-//! get names. No input makes a function of this crate panic.
+//! [`Card`] owns its image and its pool and is what most programs want;
+//! [`lent`] has the same four calls on buffers of the caller's, sound or not.
+//! Everything that decides is the proved library; here bytes are handed to it,
+//! and its numbers get names. No input makes a function of this crate panic.
 //!
 //! ```
 //! use card::{Card, Kind, Rule, State};
@@ -19,14 +19,14 @@
 //!
 //! | what | where |
 //! |---|---|
-//! | a card that owns its image | [`Card`] |
-//! | the calls on a lent buffer | [`lent`] |
+//! | a card that owns its image and its pool | [`Card`] |
+//! | the calls on lent buffers | [`lent`] |
 //! | the same with the library's bare numbers | [`ffi`] |
 //! | what card it is, its root's rule | [`Kind`]; [`Rule`], [`Form`] |
 //! | what the caller has authenticated | [`State`] |
 //! | status words and their meaning | [`Word`] |
 //! | a word with the data that came with it | [`Reply`] |
-//! | what goes wrong | [`MakeError`], [`CommandError`], [`Damaged`], [`DamagedImage`] |
+//! | what goes wrong | [`MakeError`], [`CommandError`], [`Damaged`], [`RefusedParts`] |
 
 #![deny(unsafe_code)]
 #![warn(missing_docs)]
@@ -38,6 +38,8 @@
     clippy::unreachable
 )]
 
+use std::ops::Range;
+
 mod errors;
 #[allow(unsafe_code)]
 pub mod ffi;
@@ -47,7 +49,7 @@ mod owned;
 mod state;
 mod word;
 
-pub use errors::{CommandError, Damaged, DamagedImage, MakeError};
+pub use errors::{CommandError, Damaged, MakeError, RefusedParts};
 pub use kind::{Form, Kind, Rule};
 pub use lent::{Answer, Report};
 pub use owned::{Card, Reply};
@@ -62,9 +64,9 @@ pub const RECORD_BYTES: usize = 64;
 pub const FEWEST_SLOTS: usize = 2;
 /// Most slots of a card.
 pub const MOST_SLOTS: usize = 1023;
-/// The most bytes of data that a command answers: the template of a directory
-/// with a name of 16 bytes and a rule of 30.
-pub const LONGEST_RESPONSE: usize = 67;
+/// The most bytes of data that a command answers: a READ with Le 00. A template
+/// has at most 67.
+pub const LONGEST_RESPONSE: usize = 256;
 
 /// The length of the image of a card with so many slots.
 pub const fn image_length(slots: usize) -> usize {
@@ -78,4 +80,17 @@ pub fn largest_total(slots: usize) -> u32 {
         return 0;
     }
     u32::try_from(RECORD_BYTES * (slots - 1)).unwrap_or(0)
+}
+
+/// Where the root's total stands in an image, 32 bits.
+const ROOT_TOTAL_AT: Range<usize> = HEADER_BYTES + 12..HEADER_BYTES + 16;
+
+/// How long the pool of an image must be: as long as the root's total. Nothing
+/// where there are no bodies and a pool of any length does, and nothing where no
+/// sound image has this total.
+pub fn pool_length(image: &[u8]) -> Option<usize> {
+    let bytes = image.get(ROOT_TOTAL_AT)?.try_into().ok()?;
+    let total = u32::from_be_bytes(bytes);
+    let known = Kind::of_image(image).has_bodies() && total <= largest_total(MOST_SLOTS);
+    usize::try_from(total).ok().filter(|_| known)
 }

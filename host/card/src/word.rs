@@ -7,16 +7,18 @@ use std::fmt;
 pub struct Word(pub u16);
 
 /// Every word that a command can give, with its meaning.
-const MEANINGS: [(u16, &str); 15] = [
+const MEANINGS: [(u16, &str); 17] = [
     (0x9000, "done"),
     (0x6283, "selected; the file is deactivated"),
     (0x6285, "selected; the file is terminated"),
     (0x6700, "wrong length"),
+    (0x6981, "wrong structure: BINARY is for transparent files, RECORD for those with records"),
     (0x6982, "security status not satisfied: no access rule allows this"),
     (0x6985, "conditions of use not satisfied: life cycle or open channels forbid this"),
     (0x6986, "no current EF"),
     (0x6A80, "wrong data: the file cannot be described like this"),
     (0x6A82, "file not found"),
+    (0x6A83, "record not found"),
     (0x6A84, "not enough memory in the current directory"),
     (0x6A89, "a file with this identifier exists already"),
     (0x6A8A, "a directory with this name exists already"),
@@ -41,7 +43,7 @@ impl Word {
     }
 
     /// Whether the command had its effect: 9000, or a SELECT that warns. Any
-    /// other word is a refusal, after which the image is as it was.
+    /// other word is a refusal, after which image and pool are as they were.
     pub fn is_success(self) -> bool {
         matches!(self.0, 0x9000 | 0x6283 | 0x6285)
     }

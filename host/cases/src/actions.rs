@@ -6,7 +6,7 @@ use model::Card;
 use crate::choices::{a_child, beside, some_identifier, upwards};
 use crate::random::Random;
 use crate::template::create_command;
-use crate::{breach, creations, raw};
+use crate::{bodies, breach, creations, raw};
 
 /// Something that a history can do next.
 #[derive(Clone, Copy, PartialEq, Eq, Debug)]
@@ -29,6 +29,11 @@ pub enum Action {
     CreateRuled,
     /// A file in any life cycle that CREATE takes.
     CreateInState,
+    /// An EF of a large part of the room, which leaves a large gap when it is
+    /// deleted.
+    CreateLarge,
+    /// An EF whose body fits a gap exactly, lacks a byte in it, or fits none.
+    CreateByGaps,
     /// An identifier of a sibling, the current DF or one above.
     CreateTakenIdentifier,
     /// A name that is on the card.
@@ -61,12 +66,14 @@ pub enum Action {
     TerminateDf,
     /// TERMINATE CARD USAGE.
     TerminateCard,
+    /// READ or UPDATE of the current EF, mostly good.
+    ReadOrUpdate,
     /// Another action's command with one thing wrong.
     NearMiss,
 }
 
 /// The mix of all actions, those that succeed more often.
-const MIX: [(Action, usize); 24] = [
+const MIX: [(Action, usize); 27] = [
     (Action::CreateEf, 12),
     (Action::CreateDf, 8),
     (Action::CreateExact, 3),
@@ -76,6 +83,8 @@ const MIX: [(Action, usize); 24] = [
     (Action::CreateNamed, 3),
     (Action::CreateRuled, 2),
     (Action::CreateInState, 4),
+    (Action::CreateLarge, 2),
+    (Action::CreateByGaps, 4),
     (Action::CreateTakenIdentifier, 2),
     (Action::CreateTakenName, 1),
     (Action::CreateBroken, 2),
@@ -90,6 +99,7 @@ const MIX: [(Action, usize); 24] = [
     (Action::Deactivate, 4),
     (Action::TerminateEf, 1),
     (Action::TerminateDf, 1),
+    (Action::ReadOrUpdate, 12),
     (Action::NearMiss, 3),
 ];
 
@@ -121,10 +131,18 @@ pub fn command_for(
         Action::TerminateEf => Some(bare(0xE8)),
         Action::TerminateDf => Some(bare(0xE6)),
         Action::TerminateCard => Some(bare(0xFE)),
+        Action::ReadOrUpdate => read_or_update(random, card),
         Action::NearMiss => Some(raw::near_miss(random, card)),
         Action::CreateBroken => Some(create_command(&breach::any(random, card.edition))),
         _ => Some(creations::data_for(action, random, card, remembered)?.command()),
     }
+}
+
+/// A READ or UPDATE; where there are no bodies, or no EF is current, only now and
+/// then.
+fn read_or_update(random: &mut Random, card: &Card) -> Option<Vec<u8>> {
+    let good = card.edition.has_bodies() && card.current_ef.is_some();
+    (good || random.chance(12)).then(|| bodies::read_or_update(random, card))
 }
 
 /// What an action selects.

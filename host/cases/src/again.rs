@@ -1,7 +1,7 @@
 //! Files made again by their templates (02, Ticket 2): "the template (with a
 //! C6 after 81 for a DF) must create the same record again on another card ...
-//! but for parent, level, slot". One by one, each on a card of its own, or a
-//! whole tree on a card of the same measures.
+//! but for parent, level, slot and, later, start". One by one, each on a card of
+//! its own, or a whole tree on a card of the same measures.
 //!
 //! Here is what is asked of a card, call by call; whoever plays a case makes
 //! the calls, and judges what was made.
@@ -21,7 +21,7 @@ use crate::images;
 use crate::random::Random;
 use crate::target::Target;
 use crate::template::create_command;
-use crate::{editions, life_cycles, rules};
+use crate::{editions, life_cycles, pools, rules};
 
 /// A card of more slots is large, and only so many of its files are made again
 /// one by one, so that it takes no longer than many small ones.
@@ -29,6 +29,8 @@ const LARGE_CARD: usize = 160;
 const MOST_FILES_OF_A_LARGE_CARD: usize = 12;
 /// Long enough for every template.
 const RESPONSE: [u8; 72] = [0x5A; 72];
+/// Where the start of a body stands in a record.
+const START_AT: usize = 62;
 
 /// Files of a card to be made again.
 #[derive(Clone, PartialEq, Eq, Debug)]
@@ -48,6 +50,8 @@ pub struct Left {
     pub word: Word,
     /// The image.
     pub image: Vec<u8>,
+    /// The pool; none for the maker.
+    pub pool: Vec<u8>,
     /// The data, without what stands behind them in the response buffer.
     pub data: Vec<u8>,
 }
@@ -68,6 +72,8 @@ pub struct Remade {
     pub word: Word,
     /// Slot and level of the directory in which it was made.
     pub directory: (u16, u16),
+    /// Whether it has a body on one of the cards: the start may be another.
+    pub with_body: bool,
 }
 
 /// All files that were made again, and how many were not.
@@ -84,13 +90,17 @@ pub struct Played {
 
 impl Remade {
     /// What is wrong with what was made, if anything: the record must be the
-    /// file's but for parent and level.
+    /// file's but for parent, level and start.
     pub fn complaint(&self) -> Option<String> {
         let (parent, level) = self.directory;
         let mut wanted = self.old.clone();
         if let Some(place) = wanted.get_mut(6..10) {
             let [parent, level] = [parent, level.wrapping_add(1)].map(u16::to_be_bytes);
             place.copy_from_slice(&[parent, level].concat());
+        }
+        if self.with_body {
+            wanted.truncate(START_AT);
+            wanted.extend(self.new.get(START_AT..).unwrap_or_default());
         }
         if self.word != SUCCESS {
             return Some(format!("CREATE by the template gives {:04X}", self.word));
@@ -179,7 +189,7 @@ impl Again {
         slot: usize,
         call: Call<E>,
     ) -> Result<Remade, E> {
-        let mut own = Session { image: self.image.clone(), state: State::EMPTY };
+        let mut own = Session::of(self.seed, self.image.clone(), State::EMPTY);
         for df in card.above(slot).into_iter().rev() {
             own.command(call, &select(card.record(df).identifier))?;
         }
@@ -187,7 +197,7 @@ impl Again {
         let template = own.command(call, &select_fcp(file.identifier))?.data;
         let edition = another_edition(random, card, slot);
         let target = Target::for_file(random, edition, file);
-        let mut other = Session { image: call(&target.make())?.image, state: target.state };
+        let mut other = Session::of(self.seed, call(&target.make())?.image, target.state);
         for command in &target.commands {
             other.command(call, command)?;
         }
@@ -198,6 +208,7 @@ impl Again {
             template,
             word,
             directory: target.directory,
+            with_body: file.is_ef() && (card.edition.has_bodies() || edition.has_bodies()),
         })
     }
 }
@@ -216,13 +227,21 @@ fn another_edition(random: &mut Random, card: &Card, slot: usize) -> Edition {
 /// A card that is given commands under one state.
 pub(crate) struct Session {
     pub(crate) image: Vec<u8>,
-    pub(crate) state: State,
+    pool: Vec<u8>,
+    state: State,
 }
 
 impl Session {
+    /// A card with a pool of a right length, which goes by the seed.
+    pub(crate) fn of(seed: u64, image: Vec<u8>, state: State) -> Session {
+        let pool = pools::right(&mut Random::new(seed), &image);
+        Session { image, pool, state }
+    }
+
     pub(crate) fn command<E>(&mut self, call: Call<E>, bytes: &[u8]) -> Result<Left, E> {
-        let left = call(&Line::command(&self.image, bytes, &RESPONSE, self.state))?;
+        let left = call(&Line::command(&self.image, &self.pool, bytes, &RESPONSE, self.state))?;
         self.image.clone_from(&left.image);
+        self.pool.clone_from(&left.pool);
         Ok(left)
     }
 
@@ -268,14 +287,14 @@ pub fn by_model(line: &Line) -> Left {
         Line::Make { buffer, version, total, form, rule } => {
             let mut image = buffer.clone();
             model::make(&mut image, *version, *total, *form, rule);
-            Left { word: 0, image, data: Vec::new() }
+            Left { word: 0, image, pool: Vec::new(), data: Vec::new() }
         }
-        Line::Command { image, command, state, response, .. } => {
-            let (mut image, mut response) = (image.clone(), response.clone());
-            let told = model::command(&mut image, command, &mut response, state);
+        Line::Command { image, command, state, pool, response } => {
+            let [mut image, mut pool, mut response] = [image, pool, response].map(Vec::clone);
+            let told = model::command(&mut image, &mut pool, command, &mut response, state);
             response.truncate(told.data);
-            Left { word: told.word, image, data: response }
+            Left { word: told.word, image, pool, data: response }
         }
-        _ => Left { word: 0, image: Vec::new(), data: Vec::new() },
+        _ => Left { word: 0, image: Vec::new(), pool: Vec::new(), data: Vec::new() },
     }
 }

@@ -5,6 +5,7 @@ use model::lines::Case as Line;
 use model::{command, Outcome, State};
 
 use crate::again::{by_model, Again};
+use crate::editions;
 use crate::rules::{self, Rule};
 use crate::template::create_command;
 
@@ -20,6 +21,15 @@ pub struct Step {
     pub state: State,
 }
 
+/// What is lent with a command to be changed by it.
+#[derive(Clone, PartialEq, Eq, Debug)]
+pub struct Lent {
+    /// The image.
+    pub image: Vec<u8>,
+    /// The pool.
+    pub pool: Vec<u8>,
+}
+
 /// A fresh card and the commands it is given, one after the other.
 #[derive(Clone, PartialEq, Eq, Debug)]
 pub struct History {
@@ -31,6 +41,8 @@ pub struct History {
     pub total: u32,
     /// The root's rule, fit for a record of the edition.
     pub rule: Rule,
+    /// The pool as it is before the first command, of a right length.
+    pub pool: Vec<u8>,
     /// The commands.
     pub steps: Vec<Step>,
 }
@@ -53,15 +65,21 @@ impl History {
         by_model(&self.make()).image
     }
 
-    /// Runs the history by the model; `see` gets, for each step, the image
-    /// before, the step, the outcome and the image after.
-    pub fn play(&self, mut see: impl FnMut(&[u8], &Step, Outcome, &[u8])) {
-        let mut image = self.fresh_image();
+    /// The fresh card with its pool.
+    pub fn fresh(&self) -> Lent {
+        Lent { image: self.fresh_image(), pool: self.pool.clone() }
+    }
+
+    /// Runs the history by the model; `see` gets, for each step, image and pool
+    /// before, the step, the outcome, image and pool after.
+    pub fn play(&self, mut see: impl FnMut(&Lent, &Step, Outcome, &Lent)) {
+        let mut lent = self.fresh();
         for step in &self.steps {
-            let before = image.clone();
+            let before = lent.clone();
             let mut response = step.response.clone();
-            let outcome = command(&mut image, &step.command, &mut response, &step.state);
-            see(&before, step, outcome, &image);
+            let Lent { image, pool } = &mut lent;
+            let outcome = command(image, pool, &step.command, &mut response, &step.state);
+            see(&before, step, outcome, &lent);
         }
     }
 }
@@ -75,6 +93,8 @@ pub enum Case {
     OneCommand {
         /// The image.
         image: Vec<u8>,
+        /// The pool.
+        pool: Vec<u8>,
         /// The command.
         command: Vec<u8>,
         /// The lent response buffer.
@@ -129,6 +149,8 @@ pub const TEMPLATE_CARD: (usize, u32) = (24, 64 * 23);
 
 /// The response buffer that is lent there, and that CREATE leaves.
 const TEMPLATE_BUFFER: [u8; 4] = [0x5A; 4];
+/// What the pool holds there before.
+const TEMPLATE_POOL: u8 = 0xC3;
 
 impl Case {
     /// The case as lines of the vectors: a history is the maker's line and
@@ -136,8 +158,8 @@ impl Case {
     pub fn lines(&self) -> Vec<Line> {
         match self {
             Case::History(history) => history_lines(history),
-            Case::OneCommand { image, command, response, state } => {
-                vec![Line::command(image, command, response, *state)]
+            Case::OneCommand { image, pool, command, response, state } => {
+                vec![Line::command(image, pool, command, response, *state)]
             }
             Case::Report { image } => vec![Line::Report { image: image.clone() }],
             Case::Make { buffer, version, total, form, rule } => vec![Line::Make {
@@ -158,15 +180,18 @@ impl Case {
 fn history_lines(history: &History) -> Vec<Line> {
     let mut lines = vec![history.make()];
     history.play(|before, step, _, _| {
-        lines.push(Line::command(before, &step.command, &step.response, step.state));
+        let Lent { image, pool } = before;
+        lines.push(Line::command(image, pool, &step.command, &step.response, step.state));
     });
     lines
 }
 
 fn template_line(edition: Edition, data: &[u8]) -> Line {
     let (slots, total) = TEMPLATE_CARD;
-    let card = History { edition, slots, total, rule: rules::open(), steps: Vec::new() };
-    Line::command(&card.fresh_image(), &create_command(data), &TEMPLATE_BUFFER, State::FULL)
+    let pool = if edition.has_bodies() { vec![TEMPLATE_POOL; total as usize] } else { Vec::new() };
+    let card = History { edition, slots, total, rule: rules::open(), pool, steps: Vec::new() };
+    let Lent { image, pool } = card.fresh();
+    Line::command(&image, &pool, &create_command(data), &TEMPLATE_BUFFER, State::FULL)
 }
 
 /// Whether the rule is fit for a record of each version, and what it decides.
@@ -176,7 +201,7 @@ fn rule_lines(rule: &Rule, state: State) -> Vec<Line> {
         let version = u32::from(version.number());
         Line::Fit { version, form, rule: rule.bytes.clone() }
     };
-    let mut lines: Vec<_> = Version::ALL.into_iter().map(fit).collect();
+    let mut lines: Vec<_> = editions::all().into_iter().map(fit).collect();
     let state = State { channels: 0, ..state };
     lines.push(Line::Decide { form, rule: rule.bytes.clone(), state });
     lines

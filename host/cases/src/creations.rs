@@ -1,5 +1,6 @@
 //! The data of the CREATE actions, with sizes taken from the room of the card
-//! at hand: fitting, exactly at the room, one above, and beyond 32 bits.
+//! at hand: fitting, exactly at the room, one above, and beyond 32 bits; and from
+//! the gaps between its bodies.
 
 use model::rule::Form;
 use model::Card;
@@ -8,7 +9,7 @@ use crate::actions::Action;
 use crate::choices::{a_name, free_identifier, taken_identifiers};
 use crate::random::Random;
 use crate::template::{directory, elementary, FileData};
-use crate::{life_cycles, rules};
+use crate::{layouts, life_cycles, rules};
 
 /// Where the new file would stand.
 struct Place {
@@ -51,7 +52,9 @@ pub fn data_for(
         | Action::CreateExact
         | Action::CreateOneAbove
         | Action::CreateHuge
+        | Action::CreateLarge
         | Action::CreateDeep => by_size(action, random, &place)?,
+        Action::CreateByGaps => by_gaps(random, card, &place)?,
         Action::CreateTakenIdentifier | Action::CreateLastDeleted => {
             by_identifier(action, random, card, &place, remembered)?
         }
@@ -76,6 +79,10 @@ fn by_size(action: Action, random: &mut Random, place: &Place) -> Option<FileDat
             let total = random.range(place.most? / 4 + 1, place.most?);
             directory(random, identifier, total)
         }
+        Action::CreateLarge => {
+            let size = random.range(place.most? / 4 + 1, place.most? / 4 * 3 + 1).min(place.most?);
+            elementary(random, identifier, size)
+        }
         Action::CreateDeep => {
             let total = place.most?.saturating_sub(random.pick([0, 0, 1, 65])).max(1);
             directory(random, identifier, total)
@@ -87,6 +94,22 @@ fn by_size(action: Action, random: &mut Random, place: &Place) -> Option<FileDat
             either(random, identifier, size)
         }
     })
+}
+
+/// An EF that is as large as a gap, one byte larger, or larger than all gaps, if
+/// the room pays for it.
+fn by_gaps(random: &mut Random, card: &Card, place: &Place) -> Option<FileData> {
+    let gaps = layouts::gaps(card);
+    let (most, gap) = (place.most?, *random.choose(&gaps)?);
+    let largest = gaps.iter().copied().max()?;
+    let size = match random.below(4) {
+        0 => gap,
+        1 => gap + 1,
+        2 => largest + 1,
+        _ => random.range(largest, most),
+    };
+    let wanted = card.edition.has_bodies() && size <= most;
+    wanted.then(|| elementary(random, place.identifier, size))
 }
 
 fn by_identifier(

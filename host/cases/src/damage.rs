@@ -1,12 +1,11 @@
 //! Images damaged in one field: for each field of header and record the
-//! values just beyond what soundness allows (01, "Image"; 02, Ticket 3).
+//! values just beyond what soundness allows (01, "Image"; 02, Tickets 3 and 4).
 
-use model::edition::Edition;
-use model::rule::{self, Form};
+use model::rule::Form;
 use model::Card;
 
 use crate::random::Random;
-use crate::{expanded, life_cycles, rules};
+use crate::{editions, expanded, layouts, life_cycles, rules};
 
 /// The field that was damaged.
 #[derive(Clone, Copy, PartialEq, Eq, PartialOrd, Ord, Debug)]
@@ -34,11 +33,12 @@ pub enum Field {
     Rule,
     RulePadding,
     Tail,
+    Start,
 }
 
 impl Field {
     /// All fields.
-    pub const ALL: [Field; 22] = [
+    pub const ALL: [Field; 23] = [
         Field::BufferLength,
         Field::Mark,
         Field::Version,
@@ -61,18 +61,19 @@ impl Field {
         Field::Rule,
         Field::RulePadding,
         Field::Tail,
+        Field::Start,
     ];
 
     /// What belongs to a record's rule, where versions differ.
     pub const OF_THE_RULE: [Field; 4] =
         [Field::ByteThree, Field::Rule, Field::RulePadding, Field::Tail];
 
-    /// Any field, those of the rule more often.
+    /// Any field, those of the rule and the start more often.
     pub fn any(random: &mut Random) -> Field {
-        if random.chance(20) {
-            random.pick(Field::OF_THE_RULE)
-        } else {
-            random.pick(Field::ALL)
+        match random.below(10) {
+            0 | 1 => random.pick(Field::OF_THE_RULE),
+            2 | 3 => Field::Start,
+            _ => random.pick(Field::ALL),
         }
     }
 }
@@ -86,11 +87,15 @@ pub fn damaged(random: &mut Random, card: &Card, field: Field) -> Vec<u8> {
     match field {
         Field::BufferLength => resize(random, &mut image),
         Field::Mark => set(&mut image, random.range(0, 2) as usize, &[random.byte() | 0x80]),
-        Field::Version => set16(&mut image, 3, wrong_version(random, card)),
+        Field::Version => set16(&mut image, 3, editions::wrong_for(random, card)),
         Field::SlotCount => {
             let slots = card.records.len() as u16;
             let count = random.pick([0, 1, slots - 1, slots + 1, 1024, 0xFFFF]);
             set16(&mut image, 5, count);
+        }
+        Field::Start if card.edition.has_bodies() => {
+            let (slot, start) = layouts::wrong_start(random, card);
+            set16(&mut image, at(slot, 62), start);
         }
         Field::CurrentDf | Field::CurrentEf => current(random, card, field, &mut image),
         Field::HeaderZeros => {
@@ -142,31 +147,18 @@ fn record(random: &mut Random, card: &Card, field: Field, slot: usize, image: &m
     }
 }
 
-/// A version that no card has; more seldom an older one than the card's, which
-/// a card with newer rules cannot have.
-fn wrong_version(random: &mut Random, card: &Card) -> u16 {
-    let older = Edition::BASE.version_number();
-    let newer_rules = card.used_slots().any(|slot| {
-        let record = card.record(slot);
-        !rule::fit(Edition::BASE, record.form, &record.rule)
-    });
-    if newer_rules && random.chance(50) {
-        older
-    } else {
-        random.pick([0, 3, 4, 0x0100, 0x0101, 0x0102, 0x0200, 0xFFFF])
-    }
-}
-
 /// A form that the record's rule does not have: unknown, or the other one.
 fn wrong_form(random: &mut Random, card: &Card, slot: usize) -> u8 {
     let other = 1 - card.record(slot).form.number();
     random.pick([other, other, 2, 3, 0x80, 0x81, 0xFF])
 }
 
-/// The last bytes of a record: zero on version 1; where the rule reaches so far
-/// one of its bytes, an AM_DO's or AM byte's b8 being wrong there, else padding.
+/// The last bytes of a record, but for a start: zero on version 1; where the rule
+/// reaches so far one of its bytes, an AM_DO's or AM byte's b8 being wrong there,
+/// else padding.
 fn tail(random: &mut Random, card: &Card, slot: usize, image: &mut [u8]) {
-    let offset = random.range(50, 63) as usize;
+    let last = if card.edition.has_bodies() { 61 } else { 63 };
+    let offset = random.range(50, last) as usize;
     let in_rule = offset < 34 + card.record(slot).rule.len();
     let wrong = if in_rule { random.pick([0xC0, 0xFF]) } else { random.byte() | 1 };
     set(image, at(slot, offset), &[wrong]);

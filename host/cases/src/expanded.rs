@@ -135,7 +135,7 @@ fn tree(random: &mut Random, longest: usize, depth: usize) -> Vec<u8> {
     object(template_tag(random), &inside)
 }
 
-/// A well-formed rule of at most so many bytes, 30 or more; of fewer an open
+/// A well-formed rule of at most so many bytes, 28 or more; of fewer an open
 /// one, at least 5.
 pub fn well_formed(random: &mut Random, longest: usize) -> Vec<u8> {
     let left = longest.saturating_sub(MODE_BYTES);

@@ -94,7 +94,7 @@ impl Flaw {
     }
 }
 
-/// A rule with this flaw, for records that take so many bytes, 30 or more.
+/// A rule with this flaw, for records that take so many bytes, 28 or more.
 pub fn flawed(random: &mut Random, flaw: Flaw, longest: usize) -> Vec<u8> {
     match flaw {
         Flaw::Empty => Vec::new(),

@@ -7,7 +7,8 @@ use crate::case::Case;
 use crate::damage::{damaged, Field};
 use crate::history::{fitting_command, history};
 use crate::random::Random;
-use crate::{breach, editions, images, makers, raw, responses, rules, states, streams, worst};
+use crate::{bodied, breach, editions, images, makers, pools, raw};
+use crate::{responses, rules, states, streams, worst};
 
 /// What a case is made for.
 #[derive(Clone, Copy, PartialEq, Eq, PartialOrd, Ord, Debug)]
@@ -26,6 +27,8 @@ pub enum Kind {
     RawCommand,
     /// A command with one thing wrong on a sound image.
     NearMiss,
+    /// READ, UPDATE, CREATE or DELETE on a sound image made for its bodies.
+    Bodies,
     /// CREATE's data, good or broken.
     Template,
     /// A call of the maker.
@@ -44,7 +47,7 @@ pub enum Kind {
 
 impl Kind {
     /// All kinds with their weights in the mix.
-    pub const MIX: [(Kind, usize); 14] = [
+    pub const MIX: [(Kind, usize); 15] = [
         (Kind::History, 100),
         (Kind::SoundCommand, 300),
         (Kind::SoundReport, 60),
@@ -52,6 +55,7 @@ impl Kind {
         (Kind::DamagedReport, 40),
         (Kind::RawCommand, 70),
         (Kind::NearMiss, 110),
+        (Kind::Bodies, 140),
         (Kind::Template, 180),
         (Kind::Make, 30),
         (Kind::Replay, 30),
@@ -148,6 +152,11 @@ pub fn make_case(random: &mut Random, kind: Kind) -> Case {
             let (command, state) = (raw::near_miss(random, &card), states::mostly_full(random));
             one_command(random, card.encode(), command, state)
         }
+        Kind::Bodies => {
+            let card = bodied::card(random);
+            let (command, state) = (bodied::command(random, &card), states::mostly_full(random));
+            one_command(random, card.encode(), command, state)
+        }
         Kind::Template => {
             let edition = editions::any(random);
             Case::Template { edition, data: breach::any(random, edition) }
@@ -176,15 +185,19 @@ fn fitting(random: &mut Random, card: &Card, image: Vec<u8>) -> Case {
     one_command(random, image, command, state)
 }
 
-/// A command with a response buffer for it.
+/// A command with a pool and a response buffer for it.
 fn one_command(random: &mut Random, image: Vec<u8>, command: Vec<u8>, state: State) -> Case {
-    let response = responses::lent(random, &image, &command);
-    Case::OneCommand { image, command, response, state }
+    let pool = pools::lent(random, &image);
+    let response = responses::lent(random, &image, &pool, &command);
+    Case::OneCommand { image, pool, command, response, state }
 }
 
 fn worst_case(random: &mut Random) -> Case {
     let mut cards = worst::cards();
     cards.extend(worst::ruled_of(worst::MOST_SLOTS));
+    if editions::NEWEST.has_bodies() {
+        cards.extend(worst::far_apart_of(worst::MOST_SLOTS));
+    }
     let image = random.choose(&cards).map(|worst| worst.image.clone()).unwrap_or_default();
     match Card::decode(&image) {
         Some(card) if random.chance(75) => fitting(random, &card, image),

@@ -5,20 +5,22 @@ use model::edition::Edition;
 use model::soundness::sound_card;
 use model::{command, words, Card, State};
 
-use crate::actions::{bare, command_for, select_by, Action};
-use crate::case::{History, Step};
+use crate::actions::{bare, command_for, delete, select_by, Action};
+use crate::case::{History, Lent, Step};
 use crate::images::slot_count;
 use crate::random::Random;
 use crate::themes::Theme;
-use crate::{editions, responses, rules, states};
+use crate::{editions, pools, responses, rules, states};
 
 /// How often another action is tried where the card gives no occasion.
 const TRIES: usize = 6;
+/// How many commands it takes at most to leave a gap.
+const STEPS_OF_A_GAP: usize = 4;
 
 /// A history being written.
 struct Writer {
     history: History,
-    image: Vec<u8>,
+    lent: Lent,
     /// The identifier last deleted, to be created again.
     deleted: Option<u16>,
 }
@@ -31,19 +33,22 @@ impl Writer {
             Theme::Rules => rules::well_formed(random, edition),
             _ => rules::mostly_open(random, edition),
         };
-        let history = History { edition, slots, total, rule, steps: Vec::new() };
-        let image = history.fresh_image();
-        Writer { history, image, deleted: None }
+        let pool = Vec::new();
+        let mut history = History { edition, slots, total, rule, pool, steps: Vec::new() };
+        history.pool = pools::right(random, &history.fresh_image());
+        let lent = history.fresh();
+        Writer { history, lent, deleted: None }
     }
 
     fn card(&self) -> Option<Card> {
-        sound_card(&self.image)
+        sound_card(&self.lent.image)
     }
 
     /// Appends a command and runs it.
     fn push(&mut self, random: &mut Random, bytes: Vec<u8>, state: State) {
-        let response = responses::lent(random, &self.image, &bytes);
-        let outcome = command(&mut self.image, &bytes, &mut response.clone(), &state);
+        let Lent { image, pool } = &mut self.lent;
+        let response = responses::lent(random, image, pool, &bytes);
+        let outcome = command(image, pool, &bytes, &mut response.clone(), &state);
         let deletes = bytes.get(1) == Some(&0xE4) && outcome.word == words::SUCCESS;
         if let (true, Some(&[high, low])) = (deletes, bytes.last_chunk::<2>()) {
             self.deleted = Some(u16::from_be_bytes([high, low]));
@@ -51,12 +56,32 @@ impl Writer {
         self.history.steps.push(Step { command: bytes, response, state });
     }
 
+    /// Runs the command of an action, if the card gives occasion for it; gives
+    /// the identifier of the EF that is current then.
+    fn act(&mut self, random: &mut Random, action: Action) -> Option<u16> {
+        let command = command_for(action, random, &self.card()?, self.deleted)?;
+        self.push(random, command, State::FULL);
+        let card = self.card()?;
+        Some(card.record(card.current_ef?).identifier)
+    }
+
+    /// A large file below a small one is deleted, so that the next may find no
+    /// gap.
+    fn leave_a_gap(&mut self, random: &mut Random) {
+        let large = self.act(random, Action::CreateLarge);
+        self.act(random, Action::CreateEf);
+        if let Some(large) = large {
+            self.push(random, delete(large), State::FULL);
+        }
+        self.act(random, Action::CreateByGaps);
+    }
+
     /// One more step of the theme.
     fn step(&mut self, random: &mut Random, theme: Theme) {
-        let Some(card) = self.card() else { return };
+        let card = self.card();
         let fitting = (0..TRIES).find_map(|_| {
             let action = theme.action(random);
-            command_for(action, random, &card, self.deleted)
+            command_for(action, random, card.as_ref()?, self.deleted)
         });
         let state = match theme {
             Theme::Rules if random.chance(40) => states::any(random),
@@ -69,7 +94,7 @@ impl Writer {
 
 /// A history of any theme.
 pub fn history(random: &mut Random) -> History {
-    let theme = random.pick(Theme::ALL);
+    let theme = if random.chance(15) { Theme::Bodies } else { random.pick(Theme::ALL) };
     let slots = slot_count(random);
     // Large cards make long lines, so they get few commands.
     let steps = if slots > 200 { 6 } else { random.range(5, 40) as usize };
@@ -78,7 +103,10 @@ pub fn history(random: &mut Random) -> History {
 
 /// A history of a theme on a card of so many slots, of any edition.
 pub fn history_of(random: &mut Random, theme: Theme, slots: usize, steps: usize) -> History {
-    let edition = editions::any(random);
+    let edition = match theme {
+        Theme::Bodies if random.chance(85) => editions::NEWEST,
+        _ => editions::any(random),
+    };
     history_on(random, edition, theme, slots, steps)
 }
 
@@ -92,7 +120,11 @@ pub fn history_on(
     steps: usize,
 ) -> History {
     let mut writer = Writer::new(random, edition, slots.max(2), theme);
-    for _ in 0..steps {
+    while writer.history.steps.len() < steps {
+        let left = steps - writer.history.steps.len();
+        if theme == Theme::Bodies && left > STEPS_OF_A_GAP && random.chance(15) {
+            writer.leave_a_gap(random);
+        }
         writer.step(random, theme);
     }
     if random.chance(12) {

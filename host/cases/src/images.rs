@@ -1,10 +1,12 @@
 //! Sound images at random: files in any slots, in any life cycle, with names
-//! and rules of all sorts, and any of them current (01, "Image").
+//! and rules of all sorts, bodies anywhere in the pool, and any of them current
+//! (01, "Image"; 02, Ticket 4).
 
 use model::edition::Edition;
 use model::{Card, Kind, Record};
 
 use crate::choices::free_identifier;
+use crate::layouts::{lay_out, Layout};
 use crate::random::Random;
 use crate::rules::{self, Rule};
 use crate::template::record_lengths;
@@ -54,14 +56,21 @@ fn fill(random: &mut Random, card: &mut Card, files: usize) {
     for _ in 0..files {
         add_file(random, card);
     }
-    choose_current(random, card);
+    let layout = Layout::any(random);
+    lay_out(random, card, layout);
+    choose_current(random, card, 50);
+}
+
+/// Only the root, on a card of any edition.
+fn empty_card(random: &mut Random, slots: usize) -> Card {
+    let edition = editions::any(random);
+    empty_card_of(random, edition, slots)
 }
 
 /// Only the root, in one of the ways that soundness leaves open.
-fn empty_card(random: &mut Random, slots: usize) -> Card {
+pub(crate) fn empty_card_of(random: &mut Random, edition: Edition, slots: usize) -> Card {
     let most = 64 * (slots as u32 - 1);
     let total = if random.chance(75) { most } else { random.range(1, most) };
-    let edition = editions::any(random);
     let mut card =
         Card { edition, current_df: 0, current_ef: None, records: vec![Record::FREE; slots] };
     let rule = rules::mostly_open(random, edition);
@@ -80,8 +89,9 @@ fn empty_card(random: &mut Random, slots: usize) -> Card {
     card
 }
 
-/// Adds a file in a free slot to a directory that has room, if there is one.
-pub fn add_file(random: &mut Random, card: &mut Card) -> Option<()> {
+/// Adds a file in a free slot to a directory that has room, if there is one. An
+/// EF's body has no place in the pool yet.
+fn add_file(random: &mut Random, card: &mut Card) -> Option<()> {
     let free: Vec<_> = (0..card.records.len()).filter(|&s| !card.record(s).is_used()).collect();
     let slot = *random.choose(&free)?;
     let directories: Vec<_> = card.used_slots().filter(|&s| card.record(s).is_df()).collect();
@@ -175,13 +185,13 @@ fn name(random: &mut Random, card: &Card, percent: usize) -> Vec<u8> {
     }
 }
 
-/// Any DF becomes current, and half of the time one of its EFs.
-fn choose_current(random: &mut Random, card: &mut Card) {
+/// Any DF becomes current, and so many times out of a hundred one of its EFs.
+pub(crate) fn choose_current(random: &mut Random, card: &mut Card, percent: usize) {
     let directories: Vec<_> = card.used_slots().filter(|&s| card.record(s).is_df()).collect();
     let df = random.choose(&directories).copied().unwrap_or(0);
     card.make_current(df);
     let files: Vec<_> = card.children(df).filter(|&s| card.record(s).is_ef()).collect();
-    if let (true, Some(&ef)) = (random.chance(50), random.choose(&files)) {
+    if let (true, Some(&ef)) = (random.chance(percent), random.choose(&files)) {
         card.make_current(ef);
     }
 }

@@ -22,7 +22,8 @@
 //! | kinds of cases and the mix | [`generator`] |
 //! | the cases themselves | [`case`] |
 //! | histories on fresh cards | [`history`], [`themes`], [`actions`], [`creations`], [`choices`] |
-//! | sound images at random | [`images`] |
+//! | sound images at random, and where their bodies lie | [`images`], [`layouts`] |
+//! | READ and UPDATE, cards made for them | [`bodies`], [`bodied`] |
 //! | images damaged in one field | [`damage`] |
 //! | raw commands and near-misses | [`raw`] |
 //! | every near-miss in turn | [`near`] |
@@ -30,7 +31,7 @@
 //! | versions, life-cycle bytes, states | [`editions`], [`life_cycles`], [`states`] |
 //! | rules of both forms, and what can be wrong with them | [`rules`], [`compact`], [`expanded`], [`flaws`] |
 //! | maker's calls, replay's streams | [`makers`], [`streams`] |
-//! | response buffers | [`responses`] |
+//! | pools, response buffers | [`pools`], [`responses`] |
 //! | files made again by their templates | [`again`], [`target`], [`elsewhere`], [`regrown`], [`sorts`] |
 //! | worst-case cards | [`worst`] |
 
@@ -39,6 +40,8 @@
 
 pub mod actions;
 pub mod again;
+pub mod bodied;
+pub mod bodies;
 pub mod breach;
 pub mod case;
 pub mod choices;
@@ -52,9 +55,11 @@ pub mod flaws;
 pub mod generator;
 pub mod history;
 pub mod images;
+pub mod layouts;
 pub mod life_cycles;
 pub mod makers;
 pub mod near;
+pub mod pools;
 pub mod random;
 pub mod raw;
 pub mod regrown;
@@ -69,7 +74,7 @@ pub mod themes;
 pub mod worst;
 
 pub use again::Again;
-pub use case::{Case, History, Step};
+pub use case::{Case, History, Lent, Step};
 pub use generator::{Generator, Kind, Made};
 pub use random::Random;
 pub use rules::Rule;

@@ -1,13 +1,14 @@
 //! Every near-miss, not at random: each instruction's good command with every
-//! other class, instruction, parameter, Lc, Le and length (01, steps A to G);
-//! and a CREATE with an expanded rule, with every other byte in it (02, Ticket
-//! 3).
+//! other class, instruction, parameter, Lc, Le and length (01, steps A to G; 02,
+//! Ticket 4); and a CREATE with an expanded rule, with every other byte in it
+//! (Ticket 3).
 
 use model::edition::{Edition, Version};
 use model::{Card, State};
 
 use crate::actions::{bare, delete, select, select_fcp};
-use crate::case::{Case, History, Step};
+use crate::case::{Case, History, Lent, Step};
+use crate::editions;
 use crate::rules::{self, Rule};
 use crate::template::FileData;
 
@@ -37,28 +38,48 @@ const EXPANDED: [u8; 28] = [
 /// The image on which they are tried: a DF in the root is current, with an
 /// EF in it.
 pub fn card() -> Vec<u8> {
-    card_of(Edition::BASE)
+    card_of(Edition::BASE, &FileData::plain(0x41, 0x6F07, 9)).image
 }
 
 /// The same of version 2.
 pub fn card_of_version_two() -> Vec<u8> {
-    card_of(Edition::of(Version::Two))
+    card_of(Edition::of(Version::Two), &FileData::plain(0x41, 0x6F07, 9)).image
 }
 
-fn card_of(edition: Edition) -> Vec<u8> {
-    let directory = FileData::plain(0x78, 0x7F10, 256);
-    let commands = [directory.command(), FileData::plain(0x41, 0x6F07, 9).command()];
+/// The same of version 3 with its pool; the EF is transparent, or has three
+/// records.
+pub fn card_with_body(records: bool) -> Lent {
+    let transparent = FileData::plain(0x41, 0x6F07, 9);
+    let file = match records {
+        true => FileData { descriptor: 0x42, record_length: Some(3), ..transparent },
+        false => transparent,
+    };
+    card_of(Edition::of(Version::Three), &file)
+}
+
+fn card_of(edition: Edition, file: &FileData) -> Lent {
+    let total = 448;
+    let commands = [FileData::plain(0x78, 0x7F10, 256).command(), file.command()];
     let history = History {
         edition,
         slots: 8,
-        total: 448,
+        total,
         rule: rules::open(),
+        pool: (0..total).map(|at| at as u8).collect(),
         steps: commands.map(step).into(),
     };
-    let mut image = history.fresh_image();
-    history.play(|_, _, _, after| image = after.to_vec());
-    debug_assert!(Card::decode(&image).is_some());
-    image
+    let mut lent = history.fresh();
+    history.play(|_, _, _, after| lent = after.clone());
+    debug_assert!(Card::decode(&lent.image).is_some());
+    lent
+}
+
+/// The good READ and UPDATE for [`card_with_body`].
+pub fn good_for_body(records: bool) -> [Vec<u8>; 2] {
+    match records {
+        true => [vec![0x00, 0xB2, 2, 4, 3], vec![0x00, 0xDC, 2, 4, 3, 1, 2, 3]],
+        false => [vec![0x00, 0xB0, 0, 2, 4], vec![0x00, 0xD6, 0, 2, 4, 1, 2, 3, 4]],
+    }
 }
 
 fn step(command: Vec<u8>) -> Step {
@@ -122,16 +143,25 @@ pub fn near_misses_of_the_rule() -> Vec<Vec<u8>> {
 
 /// All near-misses of all instructions, and of the expanded rule, as cases.
 pub fn every_near_miss() -> impl Iterator<Item = Case> {
-    let one_command = |image: &[u8], command| Case::OneCommand {
-        image: image.to_vec(),
+    let older = |image: Vec<u8>| Lent { image, pool: Vec::new() };
+    let commands = good_commands().into_iter().flat_map(|good| near_misses_of(&good));
+    let of_bodies = [false, true].into_iter().filter(|_| editions::NEWEST.has_bodies());
+    on(older(card()), commands)
+        .chain(on(older(card_of_version_two()), near_misses_of_the_rule()))
+        .chain(of_bodies.flat_map(|records| {
+            let commands = good_for_body(records).into_iter();
+            let misses = commands.flat_map(|good| near_misses_of(&good));
+            on(card_with_body(records), misses)
+        }))
+}
+
+/// Each command as a case.
+fn on(lent: Lent, commands: impl IntoIterator<Item = Vec<u8>>) -> impl Iterator<Item = Case> {
+    commands.into_iter().map(move |command| Case::OneCommand {
+        image: lent.image.clone(),
+        pool: lent.pool.clone(),
         command,
         response: RESPONSE.to_vec(),
         state: State::FULL,
-    };
-    let (image, image_two) = (card(), card_of_version_two());
-    let commands = good_commands().into_iter().flat_map(|good| near_misses_of(&good));
-    let of_the_rule = near_misses_of_the_rule().into_iter();
-    commands
-        .map(move |command| one_command(&image, command))
-        .chain(of_the_rule.map(move |command| one_command(&image_two, command)))
+    })
 }

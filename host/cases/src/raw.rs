@@ -4,11 +4,12 @@
 use model::Card;
 
 use crate::actions::{bare, delete, select, select_fcp};
+use crate::bodies::read_or_update;
 use crate::choices::some_identifier;
 use crate::random::Random;
 use crate::template::good;
 
-/// The eight instructions, and some that are not.
+/// The instructions of all versions, and some that are none.
 const INSTRUCTIONS: [u8; 16] = [
     0xA4, 0xE0, 0xE4, 0x44, 0x04, 0xE8, 0xE6, 0xFE, 0xB0, 0xD6, 0xB2, 0xDC, 0x00, 0xE2, 0x20, 0xFF,
 ];
@@ -39,14 +40,22 @@ pub fn raw(random: &mut Random) -> Vec<u8> {
 /// A good command of any instruction, with one thing wrong.
 pub fn near_miss(random: &mut Random, card: &Card) -> Vec<u8> {
     let identifier = some_identifier(random, card);
-    let mut command = match random.below(10) {
+    let mut command = match random.below(12) {
         0 => select(identifier),
         1 => select_fcp(identifier),
         2 => return near_miss_of_p2(random, identifier),
         3 => delete(identifier),
         4 | 5 => good(random, card.edition).command(),
+        6 | 7 => read_or_update(random, card),
         _ => bare(random.pick([0x44, 0x04, 0xE8, 0xE6, 0xFE])),
     };
+    spoil(random, &mut command);
+    command
+}
+
+/// A READ or UPDATE with one thing wrong.
+pub fn near_miss_of_bodies(random: &mut Random, card: &Card) -> Vec<u8> {
+    let mut command = read_or_update(random, card);
     spoil(random, &mut command);
     command
 }

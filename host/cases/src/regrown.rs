@@ -1,7 +1,7 @@
 //! A whole tree made again on a card of the same measures: each file by its
 //! template under its own parent, a directory before what lies in it.
 
-use model::{Card, State};
+use model::{bodies, Card, State};
 
 use crate::actions::{select, select_fcp};
 use crate::again::{record_of, takes_files, Again, Call, Played, Remade, Session};
@@ -23,8 +23,8 @@ pub(crate) fn play<E>(again: &Again, card: &Card, call: Call<E>) -> Result<Playe
     let image = call(&target.make())?.image;
     let mut tree = Tree {
         card,
-        own: Session { image: again.image.clone(), state: State::EMPTY },
-        other: Session { image, state: target.state },
+        own: Session::of(again.seed, again.image.clone(), State::EMPTY),
+        other: Session::of(again.seed, image, target.state),
         random: Random::new(again.seed),
         remade: Vec::new(),
     };
@@ -58,6 +58,7 @@ impl Tree<'_> {
                 template,
                 word,
                 directory: (made as u16, card.record(df).level),
+                with_body: bodies::has_body(card, file),
             });
             if file.is_df() {
                 self.below(call, (slot, self.remade.len()))?;

@@ -6,7 +6,7 @@ use std::collections::BTreeMap;
 use crate::again::{Played, Remade};
 
 /// Every sort of file that a template can tell of.
-pub const TOLD: [&str; 14] = [
+pub const TOLD: [&str; 15] = [
     "DF",
     "EF",
     "with a name",
@@ -15,6 +15,7 @@ pub const TOLD: [&str; 14] = [
     "with a compact rule of more bytes",
     "with an expanded rule",
     "with a rule of 30 bytes",
+    "with a rule of 28 bytes",
     "life cycle 01",
     "life cycle 03",
     "life cycle 04",
@@ -30,6 +31,8 @@ pub const LARGE: &str = "large";
 pub const LARGEST: &str = "largest";
 /// Those with another parent or level than before.
 pub const MOVED: &str = "moved";
+/// Those whose body starts elsewhere than before.
+pub const STARTED: &str = "with another start";
 /// Those left out because they are terminated.
 pub const TERMINATED: &str = "terminated, left out";
 /// Those left out for another reason.
@@ -81,9 +84,11 @@ fn sorts_of(file: &Remade) -> Vec<String> {
         (compact && rule_bytes > 16, "with a compact rule of more bytes"),
         (!compact, "with an expanded rule"),
         (rule_bytes == 30, "with a rule of 30 bytes"),
+        (rule_bytes == 28, "with a rule of 28 bytes"),
         (size >= 0x4000, LARGE),
         (size == 65_344, LARGEST),
         (file.new.get(6..10) != file.old.get(6..10), MOVED),
+        (file.new.get(62..) != file.old.get(62..), STARTED),
     ];
     let others = others.into_iter().filter(|(is_so, _)| *is_so);
     life_cycle.chain(others.map(|(_, sort)| sort.to_string())).collect()

@@ -22,11 +22,13 @@ pub enum Theme {
     LifeCycles,
     /// Terminated trees and what still works in them.
     Terminated,
+    /// Bodies read and written, deleted, and made in gaps.
+    Bodies,
 }
 
 impl Theme {
     /// All themes.
-    pub const ALL: [Theme; 8] = [
+    pub const ALL: [Theme; 9] = [
         Theme::Mixed,
         Theme::Sizes,
         Theme::Recreated,
@@ -35,6 +37,7 @@ impl Theme {
         Theme::Rules,
         Theme::LifeCycles,
         Theme::Terminated,
+        Theme::Bodies,
     ];
 
     /// The next action: mostly of the theme, else any.
@@ -57,6 +60,7 @@ impl Theme {
             Theme::Rules => &RULES,
             Theme::LifeCycles => &LIFE_CYCLES,
             Theme::Terminated => &TERMINATED,
+            Theme::Bodies => &BODIES,
         }
     }
 }
@@ -123,4 +127,16 @@ const TERMINATED: [(Action, usize); 8] = [
     (Action::SelectUp, 6),
     (Action::SelectChild, 3),
     (Action::DeleteChild, 2),
+];
+
+const BODIES: [(Action, usize); 9] = [
+    (Action::CreateEf, 4),
+    (Action::CreateLarge, 5),
+    (Action::CreateByGaps, 8),
+    (Action::CreateDf, 1),
+    (Action::ReadOrUpdate, 12),
+    (Action::DeleteChild, 7),
+    (Action::SelectChild, 4),
+    (Action::SelectUp, 2),
+    (Action::Activate, 1),
 ];

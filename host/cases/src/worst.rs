@@ -1,6 +1,7 @@
 //! The worst-case cards of 1,023 slots: deepest nesting, as many names as fit,
-//! one identifier in every directory; and an ordinary one, 900 files in 40
-//! directories. Each can be had with fewer slots too, for measurements.
+//! one identifier in every directory; an ordinary one, 900 files in 40
+//! directories; and others for what came later. Each can be had with fewer slots
+//! too, for measurements.
 
 use model::edition::{Edition, Version};
 use model::expanded::{tags, DEEPEST};
@@ -55,6 +56,27 @@ pub fn ruled_of(slots: usize) -> Vec<Worst> {
     vec![Worst { title: "900 files with the longest expanded rules", image: card.encode() }]
 }
 
+/// Cards of version 3 with so many slots, on which a CREATE has to move as many
+/// bodies as can be (02, Ticket 4).
+pub fn far_apart_of(slots: usize) -> Vec<Worst> {
+    vec![Worst { title: "bodies far apart", image: bodies_far_apart(slots).encode() }]
+}
+
+/// EFs in the root in half the slots, the last one's body the lowest, all with
+/// the same gap below; the room is larger than any gap.
+fn bodies_far_apart(slots: usize) -> Card {
+    let mut filling = Filling::new(slots);
+    filling.card.edition = Edition::of(Version::Three);
+    let files = slots / 2;
+    let gap = largest_total(slots) / (files as u32 + 1) - 4;
+    for number in 0..files as u32 {
+        let start = (files as u32 - number) * gap + 4 * (files as u32 - 1 - number);
+        let file = ef(0x6000 + number as u16, 1 + number % 4);
+        filling.add(0, Record { start: start as u16, ..file });
+    }
+    filling.card
+}
+
 /// Everything always in 30 bytes, by the last condition of the innermost of
 /// four templates.
 fn longest_rule() -> Vec<u8> {
@@ -99,7 +121,8 @@ fn largest_total(slots: usize) -> u32 {
     64 * (slots as u32 - 1)
 }
 
-fn df(identifier: u16, total: u32) -> Record {
+/// An activated directory that allows everything.
+pub fn df(identifier: u16, total: u32) -> Record {
     Record {
         kind: Kind::Df,
         descriptor: 0x38,

@@ -26,12 +26,13 @@ pub fn check_again(pair: Pair, again: &Again, tally: &mut Tally) -> Result<Playe
 
 /// What the next calls need of what one gave.
 fn left(given: Option<Outcome>) -> Left {
+    let nothing = Left { word: 0, image: Vec::new(), pool: Vec::new(), data: Vec::new() };
     match given {
-        Some(Outcome::Make { buffer, .. }) => Left { word: 0, image: buffer, data: Vec::new() },
-        Some(Outcome::Command { told, image, mut response, .. }) => {
+        Some(Outcome::Make { buffer, .. }) => Left { image: buffer, ..nothing },
+        Some(Outcome::Command { told, image, pool, mut response }) => {
             response.truncate(usize::try_from(told.numbers[0]).unwrap_or(0));
-            Left { word: told.word, image, data: response }
+            Left { word: told.word, image, pool, data: response }
         }
-        _ => Left { word: 0, image: Vec::new(), data: Vec::new() },
+        _ => nothing,
     }
 }

@@ -1,12 +1,13 @@
-//! A case run by the card and by the model, and demand 3's two ledgers beside
-//! every history.
+//! A case run by the card and by the model, and beside every history demand 3's
+//! two ledgers and what its files hold.
 
-use cases::{Case, History};
+use cases::{Case, History, Lent};
 use model::ledger::{current_df_slot, Ledger};
 use model::lines::Case as Line;
 use model::words::Word;
 
 use crate::again::check_again;
+use crate::contents::{self, Contents};
 use crate::demand1;
 use crate::demand3::{word_fits, Given, WATCHED};
 use crate::disagreement::Disagreement;
@@ -34,7 +35,7 @@ pub fn check_line(
         let (line, given) = (line.clone().into(), given.into());
         return Err(Disagreement::Demand1 { line, given, complaint });
     }
-    tally.count(&given);
+    tally.count(line, &given);
     Ok(Some(given))
 }
 
@@ -98,23 +99,30 @@ fn differ(model: &Ledger, stated: &Stated) -> Option<String> {
     })
 }
 
-/// Plays a history command by command; after each a report, and the ledgers.
+/// Plays a history command by command; after each a report, the ledgers and what
+/// the files hold.
 pub fn check_history(pair: Pair, history: &History, tally: &mut Tally) -> Result<(), Disagreement> {
     let made = check_line(pair, &history.make(), tally)?;
-    let Some(Outcome::Make { answer: 0, buffer: mut image }) = made else {
+    let Some(Outcome::Make { answer: 0, buffer: image }) = made else {
         return Ok(());
     };
-    let mut books = Books::open(history.total);
+    let mut lent = Lent { image, pool: history.pool.clone() };
+    let (mut books, mut contents) = (Books::open(history.total), Contents::default());
     for (number, step) in history.steps.iter().enumerate() {
-        let before = current_df_slot(&image);
-        let line = Line::command(&image, &step.command, &step.response, step.state);
+        let Lent { image, pool } = &lent;
+        let line = Line::command(image, pool, &step.command, &step.response, step.state);
         let outcome = check_line(pair, &line, tally)?;
-        let Some(Outcome::Command { told, image: left, .. }) = outcome else { continue };
-        image = left;
-        let report = check_line(pair, &Line::Report { image: image.clone() }, tally)?;
+        let Some(Outcome::Command { told, image, pool, response }) = outcome else { continue };
+        let before = std::mem::replace(&mut lent, Lent { image, pool });
+        let report = check_line(pair, &Line::Report { image: lent.image.clone() }, tally)?;
         tally.ledger_steps += 1;
-        let found = books.enter(&step.command, told.word, (before, &image), report.as_ref());
-        if let Some(complaint) = found {
+        let (command, word) = (step.command.as_slice(), told.word);
+        let slot = current_df_slot(&before.image);
+        let found = books.enter(command, word, (slot, &lent.image), report.as_ref());
+        let data = response.get(..told.numbers[0] as usize).unwrap_or_default();
+        let given = contents::Given { command, word, data, before: &before, after: &lent };
+        let written = contents.enter(&given);
+        if let Some(complaint) = found.or(written) {
             let steps = history.steps.iter().take(number + 1).cloned().collect();
             let history = History { steps, ..history.clone() };
             return Err(Disagreement::Ledger { history, complaint });

@@ -1,6 +1,7 @@
 //! What demand 1 says of one command, asked of what the card left: every call
 //! ends with an answer; any word but 9000, 6283 and 6285, and every answer but
-//! 0, leaves image and response buffer as they came.
+//! 0, leaves image, pool and response buffer as they came. With it, that a pool
+//! of any length stays where there are no bodies (02, Ticket 4).
 
 use model::lines::Case as Line;
 use model::words::is_success;
@@ -8,24 +9,29 @@ use model::words::is_success;
 use crate::outcome::Outcome;
 
 /// The answers that a command can give.
-const ANSWERS: [u32; 3] = [0, 1, 5];
+const ANSWERS: [u32; 4] = [0, 1, 5, 6];
 
 /// What is wrong with what a command gave, if anything.
 pub fn complaint(line: &Line, given: &Outcome) -> Option<String> {
-    let Line::Command { image: came, response: lent, .. } = line else { return None };
-    let Outcome::Command { told, image, response, .. } = given else { return None };
+    let Line::Command { image: came, pool: lent_pool, response: lent, .. } = line else {
+        return None;
+    };
+    let Outcome::Command { told, image, pool, response } = given else { return None };
     let [data, later @ ..] = told.numbers;
     let data = usize::try_from(data).unwrap_or(usize::MAX);
     if data > lent.len() {
         return Some(format!("{data} bytes of data are told in a buffer of {}", lent.len()));
     }
     let effect = told.answer == 0 && is_success(told.word);
+    let bodies = card::Kind::of_image(came).has_bodies();
     let checks = [
         (ANSWERS.contains(&told.answer), "the answer is none of a command's"),
         (told.answer != 0 || told.word != 0, "there is no word with answer 0"),
         (told.answer == 0 || told.word == 0, "there is a word with another answer than 0"),
         (later == [0; 2], "a number of a later ticket is not 0"),
         (effect || image == came, "the image was changed without an effect"),
+        (effect || pool == lent_pool, "the pool was changed without an effect"),
+        (bodies || pool == lent_pool, "the pool of a card without bodies was changed"),
         (effect || response == lent, "the response buffer was changed without an effect"),
         (effect || data == 0, "data came without an effect"),
         (response.get(data..) == lent.get(data..), "bytes past the data were changed"),

@@ -19,7 +19,8 @@ pub enum Disagreement {
         /// What the card gives.
         given: Box<Outcome>,
     },
-    /// The card agrees with the model and not with the ledger.
+    /// The card agrees with the model, and not with the ledger or with what its
+    /// files hold.
     Ledger {
         /// The history up to the step where it shows.
         history: History,
@@ -59,7 +60,7 @@ impl fmt::Display for Disagreement {
                 write!(f, "{}\n# model {wanted}\n# card  {given}", line.line())
             }
             Disagreement::Ledger { history, complaint } => {
-                writeln!(f, "# the ledger disagrees: {complaint}; the history:")?;
+                writeln!(f, "# what is kept beside it disagrees: {complaint}; the history:")?;
                 let lines = Case::History(history.clone()).lines();
                 lines.iter().try_for_each(|line| writeln!(f, "{}", line.line()))
             }

@@ -1,7 +1,8 @@
 //! The proved card against the model (01: "Other cases are run by program and
 //! compared with an independent one"): answer, word, numbers and every byte
-//! of image and response buffer, what demand 1 says of them, demand 3's two
-//! ledgers beside every history, and files made again by their templates.
+//! of image, pool and response buffer, what demand 1 says of them, demand 3's
+//! two ledgers and what the files hold beside every history, and files made
+//! again by their templates.
 //!
 //! A disagreement is shrunk to the smallest case that still shows it, and
 //! told as a line of the vectors, which the program `compare` runs again.
@@ -14,9 +15,10 @@
 //! | how much was compared, what disagrees | [`tally`], [`disagreement`] |
 //! | what demand 1 says of a command | [`demand1`] |
 //! | demand 3's ledger, and what is said of a command with it | [`ledger`], [`demand3`] |
+//! | what the files of a history hold | [`contents`] |
 //! | files made again by their templates | [`again`] |
 //! | whether a rule is fit, and its seven decisions, by other calls | [`rights`] |
-//! | making a case smaller | [`shrink`], [`pieces`], [`smaller`] |
+//! | making a case smaller | [`shrink`], [`pieces`], [`smaller`], [`laid`] |
 //! | stored and shared vectors | [`vectors`] |
 
 #![forbid(unsafe_code)]
@@ -24,9 +26,11 @@
 
 pub mod again;
 pub mod check;
+pub mod contents;
 pub mod demand1;
 pub mod demand3;
 pub mod disagreement;
+pub mod laid;
 pub mod ledger;
 pub mod outcome;
 pub mod pieces;

@@ -22,7 +22,7 @@ pub enum Outcome {
         told: Told,
         /// The image afterwards.
         image: Vec<u8>,
-        /// The pool, which stays as it came on a card without bodies.
+        /// The pool afterwards.
         pool: Vec<u8>,
         /// The response buffer afterwards.
         response: Vec<u8>,
@@ -53,9 +53,9 @@ pub fn run(subject: &dyn Subject, line: &Line) -> Option<Outcome> {
             Some(Outcome::Make { answer, buffer })
         }
         Line::Command { image, command, state, pool, response } => {
-            let (mut image, mut response) = (image.clone(), response.clone());
-            let told = subject.command(&mut image, command, &mut response, state);
-            Some(Outcome::Command { told, image, pool: pool.clone(), response })
+            let [mut image, mut pool, mut response] = [image, pool, response].map(Vec::clone);
+            let told = subject.command(&mut image, &mut pool, command, &mut response, state);
+            Some(Outcome::Command { told, image, pool, response })
         }
         Line::Report { image } => {
             let (answer, numbers) = subject.report(image);

@@ -4,12 +4,11 @@
 use model::lines::Case as Line;
 use model::State;
 
+use crate::laid::{laid, pool_for, Laying};
 use crate::smaller::{cut, freed, lifted, packed, short_records, slots_of, tightened};
 
-/// The free records that packing leaves, and the room that tightening does:
-/// none, or enough that a CREATE can still succeed. They are tried after each
-/// width, so that the narrower ones have a shorter image to work on.
-const SPARE: [usize; 2] = [0, 1];
+/// The room that tightening leaves: none, or enough that a CREATE can still
+/// succeed.
 const ROOMS: [u32; 4] = [0, 128, 512, 4096];
 
 /// What counts as smaller: fewer bytes, then more plain ones among them, then a
@@ -19,15 +18,16 @@ pub fn weight(line: &Line) -> (usize, usize, usize) {
     let bytes = bytes_of(line);
     let plain = |at: usize| u8::from(at == 9 || at == 10) * 0xFF;
     let marked = image.iter().enumerate().filter(|&(at, &byte)| byte != plain(at)).count();
-    let response = response_of(line);
-    let marked = marked + bytes.iter().chain(response).filter(|&&byte| byte != 0).count();
+    let (response, pool) = (response_of(line), pool_of(line));
+    let others = bytes.iter().chain(response).chain(pool);
+    let marked = marked + others.filter(|&&byte| byte != 0).count();
     let state = match line {
         Line::Command { state, .. } if *state == State::FULL => 0,
         Line::Command { state, .. } if *state == State::EMPTY => 1,
         Line::Command { state, .. } if state.channels == 0 => 2,
         _ => 3,
     };
-    (image.len() + bytes.len() + response.len(), marked, state)
+    (image.len() + bytes.len() + response.len() + pool.len(), marked, state)
 }
 
 /// A piece of a line that may be left out or made plain.
@@ -44,9 +44,9 @@ pub enum Piece {
     Pack(usize),
     /// Sizes no larger than they must be, with so much room left in the
     /// current directory, and the slots that the root's total then needs.
-    Tighten(u32),
+    Tighten(u32, Laying),
     /// The same, with records of one byte.
-    TightenRecords(u32),
+    TightenRecords(u32, Laying),
     /// One byte of the image zero.
     ImageByte(usize),
     /// Bytes of the command, rule or input from a place on left out.
@@ -59,6 +59,10 @@ pub enum Piece {
     Response(usize),
     /// One byte of it zero.
     ResponseByte(usize),
+    /// So many bytes at the end of the pool.
+    Pool(usize),
+    /// Bytes of it from a place on, so many, zero.
+    PoolBytes(usize, usize),
     /// Another state.
     State(State),
 }
@@ -70,12 +74,16 @@ pub fn pieces_of(line: &Line) -> Vec<Piece> {
     let bytes = bytes_of(line).len();
     let mut all = vec![Piece::State(State::FULL), Piece::State(State::EMPTY)];
     all.extend(halves(slots).map(|fewer| Piece::Slots((slots - fewer).max(2))));
+    // Packing and tightening are tried after each width, so that the narrower
+    // ones have a shorter image to work on.
     for width in halves(slots) {
         all.extend((1..slots).rev().step_by(width).map(|slot| Piece::Free(slot, width)));
         all.extend((1..slots).rev().step_by(width).map(|slot| Piece::Lift(slot, width)));
-        all.extend(SPARE.map(Piece::Pack));
-        all.extend(ROOMS.map(Piece::Tighten));
-        all.extend(ROOMS.map(Piece::TightenRecords));
+        all.extend([0, 1, width].map(Piece::Pack));
+        for laying in [Laying::High, Laying::Scaled] {
+            all.extend(ROOMS.map(|room| Piece::Tighten(room, laying)));
+            all.extend(ROOMS.map(|room| Piece::TightenRecords(room, laying)));
+        }
     }
     for width in halves(bytes) {
         all.extend((0..bytes).rev().step_by(width).map(|at| Piece::Remove(at, width)));
@@ -85,6 +93,12 @@ pub fn pieces_of(line: &Line) -> Vec<Piece> {
     all.extend([Piece::Data, Piece::Response(response)]);
     all.extend(halves(response).map(Piece::Response));
     all.extend((0..response).rev().map(Piece::ResponseByte));
+    let pool = pool_of(line).len();
+    all.push(Piece::Pool(pool));
+    all.extend(halves(pool).map(Piece::Pool));
+    for width in std::iter::once(pool.max(1)).chain(halves(pool)) {
+        all.extend((0..pool).step_by(width).map(|at| Piece::PoolBytes(at, width)));
+    }
     let marked = image.iter().enumerate().filter(|(_, &byte)| byte != 0);
     all.extend(marked.map(|(at, _)| Piece::ImageByte(at)));
     all
@@ -99,19 +113,24 @@ impl Piece {
             Piece::Free(slot, count) => with_image(line, freed(image_of(line)?, slot, count)?),
             Piece::Lift(slot, count) => with_image(line, lifted(image_of(line)?, slot, count)?),
             Piece::Pack(spare) => with_image(line, packed(image_of(line)?, spare)?),
-            Piece::Tighten(room) => with_image(line, tightened(image_of(line)?, room)?),
-            Piece::TightenRecords(room) => {
-                with_image(line, tightened(&short_records(image_of(line)?)?, room)?)
+            Piece::Tighten(room, laying) => {
+                with_bodies(line, tightened(image_of(line)?, room)?, laying)
             }
-            Piece::ImageByte(at) => with_image(line, zeroed(image_of(line)?, at)?),
+            Piece::TightenRecords(room, laying) => {
+                with_bodies(line, tightened(&short_records(image_of(line)?)?, room)?, laying)
+            }
+            Piece::ImageByte(at) => with_bytes_of_image(line, zeroed(image_of(line)?, at)?),
             Piece::Byte(at) => Some(with_bytes(line, zeroed(bytes_of(line), at)?)),
             Piece::Data => Some(with_bytes(line, without_data(bytes_of(line))?)),
-            Piece::Response(fewer) => {
-                let response = response_of(line);
-                let length = response.len().checked_sub(fewer)?;
-                with_response(line, response.get(..length)?.to_vec())
-            }
+            Piece::Response(fewer) => with_response(line, shorter(response_of(line), fewer)?),
             Piece::ResponseByte(at) => with_response(line, zeroed(response_of(line), at)?),
+            Piece::Pool(fewer) => with_pool(line, shorter(pool_of(line), fewer)?),
+            Piece::PoolBytes(at, count) => {
+                let mut pool = pool_of(line).to_vec();
+                let end = pool.len().min(at.saturating_add(count));
+                pool.get_mut(at..end)?.fill(0);
+                with_pool(line, pool)
+            }
             Piece::Remove(at, count) => {
                 let mut bytes = bytes_of(line).to_vec();
                 let end = bytes.len().min(at.saturating_add(count));
@@ -135,6 +154,10 @@ fn without_data(command: &[u8]) -> Option<Vec<u8>> {
         }
         _ => None,
     }
+}
+
+fn shorter(bytes: &[u8], fewer: usize) -> Option<Vec<u8>> {
+    Some(bytes.get(..bytes.len().checked_sub(fewer)?)?.to_vec())
 }
 
 fn zeroed(bytes: &[u8], at: usize) -> Option<Vec<u8>> {
@@ -169,7 +192,30 @@ fn response_of(line: &Line) -> &[u8] {
     }
 }
 
+/// The pool of a command.
+fn pool_of(line: &Line) -> &[u8] {
+    match line {
+        Line::Command { pool, .. } => pool,
+        _ => &[],
+    }
+}
+
+/// The line with a smaller image, and a pool for it.
 fn with_image(line: &Line, new: Vec<u8>) -> Option<Line> {
+    with_bodies(line, new, Laying::High)
+}
+
+/// The same, the bodies laid in another way where they no longer fit.
+fn with_bodies(line: &Line, new: Vec<u8>, laying: Laying) -> Option<Line> {
+    let old = image_of(line)?;
+    let new = laid(old, new, laying)?;
+    let pool = pool_for(old, pool_of(line), &new);
+    let smaller = with_bytes_of_image(line, new)?;
+    Some(with_pool(&smaller, pool).unwrap_or(smaller))
+}
+
+/// The line with other bytes for its image, and nothing else changed.
+fn with_bytes_of_image(line: &Line, new: Vec<u8>) -> Option<Line> {
     let mut line = line.clone();
     match &mut line {
         Line::Command { image, .. } | Line::Report { image } => *image = new,
@@ -194,6 +240,15 @@ fn with_response(line: &Line, new: Vec<u8>) -> Option<Line> {
     let mut line = line.clone();
     match &mut line {
         Line::Command { response, .. } => *response = new,
+        _ => return None,
+    }
+    Some(line)
+}
+
+fn with_pool(line: &Line, new: Vec<u8>) -> Option<Line> {
+    let mut line = line.clone();
+    match &mut line {
+        Line::Command { pool, .. } => *pool = new,
         _ => return None,
     }
     Some(line)

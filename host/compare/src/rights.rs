@@ -1,11 +1,12 @@
 //! A rule asked by calls of the card, which has none for rules alone: whether
 //! it is fit for a record by the maker, and its seven decisions by commands,
-//! for each right on a card on which this rule, and no other, decides.
+//! for each right on a card on which this rule, and no other, decides. Where
+//! files have bodies, also what it decides for READ and UPDATE.
 
 use model::edition::{Edition, Version};
 use model::lines::Case as Line;
 use model::rule::Right;
-use model::{rule, Card, Kind, Record, State};
+use model::{bodies, rule, Card, Kind, Record, State};
 
 use cases::actions::{bare, delete};
 use cases::template::FileData;
@@ -15,9 +16,12 @@ use crate::outcome::{run, Outcome};
 use crate::subject::Subject;
 
 const CHILD: u16 = 0x6F07;
+/// READ and UPDATE of the one byte of the child.
+const READ: &[u8] = &[0x00, 0xB0, 0x00, 0x00, 0x01];
+const UPDATE: &[u8] = &[0x00, 0xD6, 0x00, 0x00, 0x01, 0x5A];
 
 /// For each version the maker's call with the rule and, where the rule is fit
-/// for a record of it, one command for each right.
+/// for a record of it, one command for each right, and READ and UPDATE.
 pub fn lines_of_rule(rule: &Rule, state: State) -> Vec<Line> {
     let state = State { channels: 0, ..state };
     let of_version = |version: Version| {
@@ -25,6 +29,9 @@ pub fn lines_of_rule(rule: &Rule, state: State) -> Vec<Line> {
         let mut lines = vec![make(u32::from(version.number()), rule.form_number(), &rule.bytes)];
         if rule::fit(edition, rule.form, &rule.bytes) {
             lines.extend(Right::ALL.map(|right| line_of_right(edition, right, rule, state)));
+        }
+        if edition.has_bodies() && lines.len() > 1 {
+            lines.extend([READ, UPDATE].map(|command| line_of_body(edition, command, rule, state)));
         }
         lines
     };
@@ -84,7 +91,7 @@ fn make(version: u32, form: u32, rule: &[u8]) -> Line {
 }
 
 fn line_of_right(edition: Edition, right: Right, rule: &Rule, state: State) -> Line {
-    let denies = Rule::compact(vec![0x00]);
+    let denies = denying();
     let (root, child) = match right {
         Right::DeleteSelf => (&denies, rule),
         _ => (rule, &denies),
@@ -101,7 +108,23 @@ fn line_of_right(edition: Edition, right: Right, rule: &Rule, state: State) -> L
     if right == Right::Activate {
         card.set_life_cycle(0, 0x04);
     }
-    Line::command(&card.encode(), &command, &[], state)
+    Line::command(&card.encode(), &pool_of(&card), &command, &[], state)
+}
+
+/// READ or UPDATE of a file with the rule.
+fn line_of_body(edition: Edition, command: &[u8], rule: &Rule, state: State) -> Line {
+    let mut card = card_with(edition, &denying(), rule);
+    card.current_ef = Some(1);
+    Line::command(&card.encode(), &pool_of(&card), command, &[0x00], state)
+}
+
+fn denying() -> Rule {
+    Rule::compact(vec![0x00])
+}
+
+/// A pool of the right length.
+fn pool_of(card: &Card) -> Vec<u8> {
+    vec![0xC3; bodies::pool_length(card).unwrap_or(0)]
 }
 
 /// A root with one rule, in it an EF with another; the root is current.

@@ -3,7 +3,7 @@
 use model::replay::{MOST_BYTES, ROOT_RULE};
 use model::{fcp, State};
 
-/// What a command gives beside image and response buffer.
+/// What a command gives beside image, pool and response buffer.
 #[derive(Clone, Copy, PartialEq, Eq, Debug)]
 pub struct Told {
     /// The answer.
@@ -21,8 +21,14 @@ pub trait Subject {
     fn make(&self, buffer: &mut [u8], version: u32, total: u32, form: u32, rule: &[u8]) -> u32;
 
     /// A command's answer, word and numbers.
-    fn command(&self, image: &mut [u8], command: &[u8], response: &mut [u8], state: &State)
-        -> Told;
+    fn command(
+        &self,
+        image: &mut [u8],
+        pool: &mut [u8],
+        command: &[u8],
+        response: &mut [u8],
+        state: &State,
+    ) -> Told;
 
     /// The report's answer and numbers.
     fn report(&self, image: &[u8]) -> (u32, [u32; 4]);
@@ -55,7 +61,7 @@ pub trait Subject {
     }
 
     /// The words of a stream's commands, a line each. The response buffer is
-    /// long enough for every template.
+    /// long enough for every template; such a card needs no pool.
     fn play(&self, image: &mut [u8], mut stream: &[u8]) -> String {
         let mut response = [0; fcp::MOST_BYTES];
         let mut words = String::new();
@@ -66,7 +72,7 @@ pub trait Subject {
             let Some((command, left)) = cut else {
                 return words + "CUT\n";
             };
-            let told = self.command(image, command, &mut response, &State::FULL);
+            let told = self.command(image, &mut [], command, &mut response, &State::FULL);
             words += &format!("{:04X}\n", told.word);
             stream = left;
         }
@@ -85,12 +91,14 @@ impl Subject for Proved {
     fn command(
         &self,
         image: &mut [u8],
+        pool: &mut [u8],
         command: &[u8],
         response: &mut [u8],
         state: &State,
     ) -> Told {
         let sets = [state.messaging, state.external, state.user];
-        let (both, numbers) = card::ffi::command(image, command, response, sets, state.channels);
+        let channels = state.channels;
+        let (both, numbers) = card::ffi::command(image, pool, command, response, sets, channels);
         Told { answer: both >> 16, word: both as u16, numbers }
     }
 
@@ -114,11 +122,12 @@ impl Subject for Model {
     fn command(
         &self,
         image: &mut [u8],
+        pool: &mut [u8],
         command: &[u8],
         response: &mut [u8],
         state: &State,
     ) -> Told {
-        let outcome = model::command(image, command, response, state);
+        let outcome = model::command(image, pool, command, response, state);
         let data = u32::try_from(outcome.data).unwrap_or(u32::MAX);
         Told { answer: outcome.answer.into(), word: outcome.word, numbers: [data, 0, 0] }
     }

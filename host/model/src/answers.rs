@@ -1,5 +1,6 @@
 //! The answers of the public calls: the table of 01, "Making and reporting";
-//! 02, Ticket 2 (answer 5) and Ticket 3 (versions and forms).
+//! 02, Ticket 2 (answer 5), Ticket 3 (versions and forms) and Ticket 4
+//! (answer 6).
 
 /// The number that each public call answers with.
 pub type Answer = u8;
@@ -18,3 +19,6 @@ pub const BAD_RULE: Answer = 4;
 /// Command: the response buffer is shorter than the data that it should take;
 /// everything stays as it came.
 pub const SHORT_BUFFER: Answer = 5;
+/// Command on a card with bodies: the pool is not as long as the root's total;
+/// everything stays as it came.
+pub const WRONG_POOL: Answer = 6;

@@ -99,6 +99,13 @@ impl Card {
         }
     }
 
+    /// Writes where the body of a slot starts, if the slot exists.
+    pub fn set_start(&mut self, slot: usize, start: u16) {
+        if let Some(record) = self.records.get_mut(slot) {
+            record.start = start;
+        }
+    }
+
     /// The slots in use, in order.
     pub fn used_slots(&self) -> impl Iterator<Item = usize> + '_ {
         (0..self.records.len()).filter(|&slot| self.record(slot).is_used())

@@ -1,12 +1,15 @@
 //! One command on an image: 01, "The order in which a command is judged".
 //! Steps A to G are here and common to all; steps H to L stand, in their
 //! order, in the module of each command. The response buffer is looked at last
-//! of all (02, Ticket 2).
+//! of all (02, Ticket 2), the pool's length before the command (Ticket 4).
 
-use crate::answers::{Answer, DONE, SHORT_BUFFER, UNSOUND};
+use crate::answers::{Answer, DONE, SHORT_BUFFER, UNSOUND, WRONG_POOL};
+use crate::bodies;
 use crate::bytes::{byte, number16, rest};
 use crate::card::{Card, ROOT};
+use crate::commands::read_update::{self, Unit};
 use crate::commands::{change, create, delete, select};
+use crate::edition::Edition;
 use crate::security::State;
 use crate::soundness::sound_card;
 use crate::words::{
@@ -18,13 +21,17 @@ use crate::words::{
 const SELECT_WITHOUT_DATA: u16 = 0x000C;
 /// P1 and P2 of a SELECT that wants the file's template.
 const SELECT_WITH_FCP: u16 = 0x0004;
-/// The Le that asks for all data there are.
+/// The Le of such a SELECT, which asks for all data there are.
 const LE_ALL: u8 = 0x00;
+/// A start in P1 P2 lies below.
+const NO_START: u16 = 0x8000;
+/// P2 of a command that has a record number in P1.
+const RECORD_IN_P1: u8 = 0x04;
 
-/// What a command call gives back beside image and response buffer.
+/// What a command call gives back beside image, pool and response buffer.
 #[derive(Clone, Copy, PartialEq, Eq, Debug)]
 pub struct Outcome {
-    /// 0, 1 or 5.
+    /// 0, 1, 5 or 6.
     pub answer: Answer,
     /// The status word; 0000 with any answer but 0.
     pub word: Word,
@@ -55,7 +62,7 @@ impl Told {
     }
 }
 
-/// The eight instructions.
+/// The instructions.
 #[derive(Clone, Copy, PartialEq, Eq, Debug)]
 pub enum Instruction {
     /// SELECT by identifier.
@@ -74,11 +81,15 @@ pub enum Instruction {
     TerminateDf,
     /// TERMINATE CARD USAGE.
     TerminateCard,
+    /// READ BINARY or READ RECORD.
+    Read(Unit),
+    /// UPDATE BINARY or UPDATE RECORD.
+    Update(Unit),
 }
 
 impl Instruction {
-    /// All eight with their INS bytes.
-    pub const ALL: [(u8, Instruction); 8] = [
+    /// All with their INS bytes.
+    pub const ALL: [(u8, Instruction); 12] = [
         (0xA4, Instruction::Select),
         (0xE0, Instruction::Create),
         (0xE4, Instruction::Delete),
@@ -87,17 +98,41 @@ impl Instruction {
         (0xE8, Instruction::TerminateEf),
         (0xE6, Instruction::TerminateDf),
         (0xFE, Instruction::TerminateCard),
+        (0xB0, Instruction::Read(Unit::Bytes)),
+        (0xD6, Instruction::Update(Unit::Bytes)),
+        (0xB2, Instruction::Read(Unit::Record)),
+        (0xDC, Instruction::Update(Unit::Record)),
     ];
+
+    /// Whether cards of this edition know it: only those with bodies know the
+    /// ones that read and write them.
+    pub fn is_known(self, edition: Edition) -> bool {
+        match self {
+            Instruction::Read(_) | Instruction::Update(_) => edition.has_bodies(),
+            _ => true,
+        }
+    }
 }
 
 /// Runs one command. An unsound image is found before any look at the
-/// command; a refusal leaves image and response buffer as they came, and so
-/// does a buffer too short for the data, which is found last.
-pub fn command(image: &mut [u8], command: &[u8], response: &mut [u8], state: &State) -> Outcome {
+/// command, and after it a pool of a wrong length; a refusal leaves image, pool
+/// and response buffer as they came, and so does a buffer too short for the
+/// data, which is found last.
+pub fn command(
+    image: &mut [u8],
+    pool: &mut [u8],
+    command: &[u8],
+    response: &mut [u8],
+    state: &State,
+) -> Outcome {
     let Some(mut card) = sound_card(image) else {
         return Outcome::wordless(UNSOUND);
     };
-    let told = match judge(&mut card, command, state) {
+    if bodies::pool_length(&card).is_some_and(|length| length != pool.len()) {
+        return Outcome::wordless(WRONG_POOL);
+    }
+    let mut pool_after = pool.to_vec();
+    let told = match judge(&mut card, &mut pool_after, command, state) {
         Ok(told) => told,
         Err(refusal) => return Outcome { answer: DONE, word: refusal, data: 0 },
     };
@@ -106,15 +141,16 @@ pub fn command(image: &mut [u8], command: &[u8], response: &mut [u8], state: &St
     };
     place.copy_from_slice(&told.data);
     image.copy_from_slice(&card.encode());
+    pool.copy_from_slice(&pool_after);
     Outcome { answer: DONE, word: told.word, data: told.data.len() }
 }
 
-/// Steps A to L. `Ok` means that the card now has the command's effect;
-/// after `Err` the card is not looked at again.
-fn judge(card: &mut Card, command: &[u8], state: &State) -> Result<Told, Word> {
+/// Steps A to L. `Ok` means that card and pool now have the command's effect;
+/// after `Err` they are not looked at again.
+fn judge(card: &mut Card, pool: &mut [u8], command: &[u8], state: &State) -> Result<Told, Word> {
     step_a_four_bytes(command)?;
     step_b_class(byte(command, 0))?;
-    let instruction = step_c_instruction(byte(command, 1))?;
+    let instruction = step_c_instruction(card.edition, byte(command, 1))?;
     step_d_card_in_use(card)?;
     step_e_channels(instruction, state)?;
     step_f_parameters(instruction, number16(command, 2))?;
@@ -122,8 +158,10 @@ fn judge(card: &mut Card, command: &[u8], state: &State) -> Result<Told, Word> {
     let data = rest(command, 5);
     let word = match instruction {
         Instruction::Select => return select::run(card, number16(data, 0), wants_data(command)),
-        Instruction::Create => create::run(card, data, state),
-        Instruction::Delete => delete::run(card, number16(data, 0), state),
+        Instruction::Read(unit) => return read_update::read(card, pool, command, unit, state),
+        Instruction::Update(unit) => read_update::update(card, pool, command, unit, state),
+        Instruction::Create => create::run(card, pool, data, state),
+        Instruction::Delete => delete::run(card, pool, number16(data, 0), state),
         Instruction::Activate => change::activate(card, state),
         Instruction::Deactivate => change::deactivate(card, state),
         Instruction::TerminateEf => change::terminate_ef(card, state),
@@ -145,11 +183,11 @@ fn step_b_class(class: u8) -> Result<(), Word> {
     }
 }
 
-fn step_c_instruction(ins: u8) -> Result<Instruction, Word> {
+fn step_c_instruction(edition: Edition, ins: u8) -> Result<Instruction, Word> {
     Instruction::ALL
-        .iter()
-        .find(|(byte, _)| *byte == ins)
-        .map(|(_, instruction)| *instruction)
+        .into_iter()
+        .find(|(byte, instruction)| *byte == ins && instruction.is_known(edition))
+        .map(|(_, instruction)| instruction)
         .ok_or(UNKNOWN_INSTRUCTION)
 }
 
@@ -166,23 +204,30 @@ fn step_e_channels(instruction: Instruction, state: &State) -> Result<(), Word> 
         | Instruction::TerminateDf
         | Instruction::TerminateCard => true,
         Instruction::Select | Instruction::Activate | Instruction::Deactivate => false,
+        Instruction::Read(_) | Instruction::Update(_) => false,
     };
     refuse_if(alone && state.another_channel_open(), CONDITIONS_NOT_SATISFIED)
 }
 
 fn step_f_parameters(instruction: Instruction, parameters: u16) -> Result<(), Word> {
-    let wanted: &[u16] = match instruction {
-        Instruction::Select => &[SELECT_WITHOUT_DATA, SELECT_WITH_FCP],
-        _ => &[0x0000],
+    let [_, p2] = parameters.to_be_bytes();
+    let good = match instruction {
+        Instruction::Select => [SELECT_WITHOUT_DATA, SELECT_WITH_FCP].contains(&parameters),
+        Instruction::Read(Unit::Bytes) | Instruction::Update(Unit::Bytes) => parameters < NO_START,
+        Instruction::Read(Unit::Record) | Instruction::Update(Unit::Record) => p2 == RECORD_IN_P1,
+        _ => parameters == 0x0000,
     };
-    refuse_if(!wanted.contains(&parameters), WRONG_PARAMETERS)
+    refuse_if(!good, WRONG_PARAMETERS)
 }
 
 /// The length of SELECT goes by P2: where data are wanted, Le follows.
 fn step_g_length(instruction: Instruction, command: &[u8]) -> Result<(), Word> {
     let lc = byte(command, 4);
     let good = match instruction {
-        Instruction::Create => lc >= 1 && command.len() == 5 + usize::from(lc),
+        Instruction::Create | Instruction::Update(_) => {
+            lc >= 1 && command.len() == 5 + usize::from(lc)
+        }
+        Instruction::Read(_) => command.len() == 5,
         Instruction::Select if wants_data(command) => {
             lc == 2 && command.len() == 8 && byte(command, 7) == LE_ALL
         }

@@ -1,11 +1,12 @@
 //! The one place for what differs between cards: the level (how many tickets
 //! of document 02 have landed), the image version and the variant. 01, "Image"
-//! (version 1, header bytes 11 to 15 zero); 02, Ticket 3 (version 2).
+//! (version 1, header bytes 11 to 15 zero); 02, Ticket 3 (version 2) and Ticket
+//! 4 (version 3).
 
 use crate::rule::Form;
 
 /// How many tickets the model contains; names the vectors it is tested with.
-pub const LEVEL: u8 = 3;
+pub const LEVEL: u8 = 4;
 
 /// The image version, header bytes 3 and 4.
 #[derive(Clone, Copy, PartialEq, Eq, Debug)]
@@ -14,17 +15,20 @@ pub enum Version {
     One,
     /// Rules of either form, of up to 30 bytes, no bodies.
     Two,
+    /// Rules of either form, of up to 28 bytes, bodies in a pool.
+    Three,
 }
 
 impl Version {
     /// All versions.
-    pub const ALL: [Version; 2] = [Version::One, Version::Two];
+    pub const ALL: [Version; 3] = [Version::One, Version::Two, Version::Three];
 
     /// The number in the header, in the maker's call and in the vectors.
     pub fn number(self) -> u16 {
         match self {
             Version::One => 1,
             Version::Two => 2,
+            Version::Three => 3,
         }
     }
 
@@ -88,6 +92,7 @@ impl Edition {
         match self.version {
             Version::One => 16,
             Version::Two => 30,
+            Version::Three => 28,
         }
     }
 
@@ -95,7 +100,15 @@ impl Edition {
     pub fn takes(self, form: Form) -> bool {
         match self.version {
             Version::One => form == Form::Compact,
-            Version::Two => true,
+            Version::Two | Version::Three => true,
+        }
+    }
+
+    /// Whether its EFs have bodies, which lie in a pool.
+    pub fn has_bodies(self) -> bool {
+        match self.version {
+            Version::One | Version::Two => false,
+            Version::Three => true,
         }
     }
 }

@@ -1,6 +1,6 @@
-//! Expanded access rules: 02, Ticket 3, with 003 clause 5.2.2. Groups, one or
-//! more, each an AM_DO and one or more SC_DOs behind it; an SC_DO may be a
-//! template of further ones.
+//! Expanded access rules: 02, Ticket 3, with 003 clause 5.2.2. Groups, each an
+//! AM_DO and one or more SC_DOs behind it; an SC_DO may be a template of further
+//! ones. That a rule is not empty is asked of a record, as with compact rules.
 
 use crate::objects::{self, Object};
 use crate::rule::{Condition, Group};
@@ -36,8 +36,7 @@ pub fn groups(rule: &[u8]) -> Option<Vec<Group>> {
             groups.last_mut()?.conditions.push(condition(object, DEEPEST)?);
         }
     }
-    let whole = !groups.is_empty() && groups.iter().all(|group| !group.conditions.is_empty());
-    whole.then_some(groups)
+    groups.iter().all(|group| !group.conditions.is_empty()).then_some(groups)
 }
 
 /// One AM byte, b8 clear.

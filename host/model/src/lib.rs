@@ -1,5 +1,5 @@
 //! The card of document 01 ("What the build covers, and its rules") in plain
-//! Rust: maker, soundness, the eight commands, report and replay; with as many
+//! Rust: maker, soundness, the commands, report and replay; with as many
 //! tickets of document 02 as [`edition::LEVEL`] tells.
 //!
 //! The model exists to be compared with the proved card, so it shares nothing
@@ -13,6 +13,7 @@
 //! | status words, answers | [`words`], [`answers`] |
 //! | image layout | [`card`], [`record`], [`bytes`] |
 //! | data objects | [`objects`] |
+//! | bodies in the pool | [`bodies`] |
 //! | soundness | [`soundness`] |
 //! | descriptor, life cycle | [`descriptor`], [`life_cycle`] |
 //! | rules of each form | [`rule`], [`compact`], [`expanded`] |
@@ -37,6 +38,7 @@
 )]
 
 pub mod answers;
+pub mod bodies;
 pub mod bytes;
 pub mod card;
 pub mod command;

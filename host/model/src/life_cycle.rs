@@ -61,6 +61,11 @@ pub fn is_terminated(byte: u8) -> bool {
     class(byte) == Some(Class::Terminated)
 }
 
+/// Whether the file is activated.
+pub fn is_activated(byte: u8) -> bool {
+    class(byte) == Some(Class::Activated)
+}
+
 /// Whether the file is deactivated.
 pub fn is_deactivated(byte: u8) -> bool {
     class(byte) == Some(Class::Deactivated)

@@ -32,7 +32,7 @@ pub enum Case {
         command: Vec<u8>,
         /// The caller's state.
         state: State,
-        /// A pool, which stays as it came on a card without bodies.
+        /// The pool; on a card without bodies of any length.
         pool: Vec<u8>,
         /// The lent response buffer.
         response: Vec<u8>,
@@ -68,13 +68,19 @@ pub enum Case {
 }
 
 impl Case {
-    /// A command without a pool.
-    pub fn command(image: &[u8], command: &[u8], response: &[u8], state: State) -> Case {
+    /// A command.
+    pub fn command(
+        image: &[u8],
+        pool: &[u8],
+        command: &[u8],
+        response: &[u8],
+        state: State,
+    ) -> Case {
         Case::Command {
             image: image.to_vec(),
             command: command.to_vec(),
             state,
-            pool: Vec::new(),
+            pool: pool.to_vec(),
             response: response.to_vec(),
         }
     }
@@ -145,10 +151,10 @@ impl Case {
                 format!("M {answer} {}", hex(&buffer))
             }
             Case::Command { image, command: bytes, state, pool, response } => {
-                let (mut image, mut response) = (image.clone(), response.clone());
-                let outcome = command(&mut image, bytes, &mut response, state);
+                let [mut image, mut pool, mut response] = [image, pool, response].map(Vec::clone);
+                let outcome = command(&mut image, &mut pool, bytes, &mut response, state);
                 let Outcome { answer, word, data } = outcome;
-                let (image, pool, response) = (hex(&image), hex(pool), hex(&response));
+                let [image, pool, response] = [image, pool, response].map(|bytes| hex(&bytes));
                 format!("C {answer} {word:04X} {image} {pool} {response} {data} 0 0")
             }
             Case::Report { image } => {

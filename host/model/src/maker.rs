@@ -1,4 +1,5 @@
-//! The maker of fresh images: 01, "Making and reporting"; 02, Ticket 3.
+//! The maker of fresh images: 01, "Making and reporting"; 02, Ticket 3. It takes
+//! no pool: on a fresh card no byte of one belongs to a body.
 
 use crate::answers::{Answer, BAD_BUFFER, BAD_RULE, BAD_TOTAL, DONE};
 use crate::card::{largest_total, slots_of_length, Card, ROOT, ROOT_IDENTIFIER};

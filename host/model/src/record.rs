@@ -1,7 +1,7 @@
 //! One record of the image: the table of 01, "Image", with byte 3 as 02, Ticket
-//! 3, has it. Decoding checks what the layout alone says (lengths, padding, zero
-//! bytes); [`crate::soundness`] checks what the fields mean, and whether the
-//! version has the rule's form.
+//! 3, has it, and the last two bytes as Ticket 4 has them. Decoding checks what
+//! the layout alone says (lengths, padding, zero bytes); [`crate::soundness`]
+//! checks what the fields mean, and whether the version has the rule's form.
 
 use crate::bytes::{all_zero, byte, number16, number32, part, push_padded, rest};
 use crate::edition::Edition;
@@ -18,6 +18,8 @@ const NAME_LENGTH_AT: usize = 16;
 const NAME_AT: usize = 17;
 const RULE_LENGTH_AT: usize = 33;
 const RULE_AT: usize = 34;
+/// Where the start of a body stands, in a version with bodies.
+const START_AT: usize = 62;
 
 /// What a slot holds.
 #[derive(Clone, Copy, PartialEq, Eq, Debug)]
@@ -55,6 +57,9 @@ pub struct Record {
     pub form: Form,
     /// Access rule.
     pub rule: Vec<u8>,
+    /// Where an EF's body starts in the pool; 0 in a DF, and where there are no
+    /// bodies.
+    pub start: u16,
 }
 
 impl Record {
@@ -71,6 +76,7 @@ impl Record {
         name: Vec::new(),
         form: Form::Compact,
         rule: Vec::new(),
+        start: 0,
     };
 
     /// Whether the record holds a file.
@@ -113,7 +119,9 @@ impl Record {
         let (name, name_padding) = padded(bytes, NAME_AT, LONGEST_NAME, name_length)?;
         let (rule, rule_padding) = padded(bytes, RULE_AT, edition.longest_rule(), rule_length)?;
         let last = rest(bytes, RULE_AT + edition.longest_rule());
-        let zeros_are_zero = all_zero(name_padding) && all_zero(rule_padding) && all_zero(last);
+        let start = if edition.has_bodies() { number16(bytes, START_AT) } else { 0 };
+        let last_is_good = edition.has_bodies() || all_zero(last);
+        let zeros_are_zero = all_zero(name_padding) && all_zero(rule_padding) && last_is_good;
         if !zeros_are_zero {
             return None;
         }
@@ -129,6 +137,7 @@ impl Record {
             name: name.to_vec(),
             form,
             rule: rule.to_vec(),
+            start,
         })
     }
 
@@ -148,6 +157,9 @@ impl Record {
         push_padded(&mut bytes, &self.name, LONGEST_NAME);
         bytes.push(length_byte(&self.rule));
         push_padded(&mut bytes, &self.rule, edition.longest_rule());
+        if edition.has_bodies() {
+            bytes.extend(self.start.to_be_bytes());
+        }
         push_padded(out, &bytes, RECORD_BYTES);
     }
 }

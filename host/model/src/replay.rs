@@ -50,7 +50,7 @@ fn fresh_image(input: &[u8]) -> Option<Vec<u8>> {
 
 /// One line a command; `CUT` as the last line where a command or its length
 /// is cut short. The response buffer is long enough for every template, so
-/// that each line is a word.
+/// that each line is a word; a card of its version needs no pool.
 fn run_commands(image: &mut [u8], stream: &[u8]) -> Vec<u8> {
     let mut response = [0; fcp::MOST_BYTES];
     let mut out = Vec::new();
@@ -60,7 +60,7 @@ fn run_commands(image: &mut [u8], stream: &[u8]) -> Vec<u8> {
             out.extend(b"CUT\n");
             break;
         };
-        let outcome = command(image, bytes, &mut response, &State::FULL);
+        let outcome = command(image, &mut [], bytes, &mut response, &State::FULL);
         out.extend(format!("{:04X}\n", outcome.word).bytes());
         left = after;
     }

@@ -6,7 +6,9 @@ use crate::edition::Edition;
 use crate::security::{condition_holds, State};
 use crate::{compact, expanded};
 
-/// What a rule can allow, with the number of its AM bit (b7 to b1).
+/// What a rule can allow, with the number of its AM bit (b7 to b1). The last
+/// three are a directory's; an EF has [`Right::UPDATE`] and [`Right::READ`] in
+/// the last two bits.
 #[derive(Clone, Copy, PartialEq, Eq, Debug)]
 pub enum Right {
     /// Delete the file itself.
@@ -26,6 +28,11 @@ pub enum Right {
 }
 
 impl Right {
+    /// Update the body of an EF: b2.
+    pub const UPDATE: Right = Right::CreateEf;
+    /// Read the body of an EF: b1.
+    pub const READ: Right = Right::DeleteChild;
+
     /// All seven, highest bit first.
     pub const ALL: [Right; 7] = [
         Right::DeleteSelf,

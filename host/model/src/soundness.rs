@@ -1,12 +1,13 @@
-//! Soundness: 01, "Image", the paragraph after the table. The layout's part
-//! (mark, version, length, padding, zero bytes) is checked by decoding.
+//! Soundness: 01, "Image", the paragraph after the table; 02, Ticket 4 (bodies).
+//! The layout's part (mark, version, length, padding, zero bytes) is checked by
+//! decoding. No pool is asked for: where bodies lie, the records say.
 
 use std::collections::BTreeSet;
 
 use crate::card::{largest_total, Card, RESERVED_IDENTIFIERS, ROOT, ROOT_IDENTIFIER};
 use crate::descriptor::{class, measures_fit, Class};
 use crate::record::{Kind, Record};
-use crate::{life_cycle, rule};
+use crate::{bodies, life_cycle, rule};
 
 /// Whether an image is sound.
 pub fn sound(image: &[u8]) -> bool {
@@ -26,6 +27,7 @@ pub fn card_is_sound(card: &Card) -> bool {
         && siblings_differ(card)
         && names_differ(card)
         && card.used_slots().all(|slot| children_fit(card, slot))
+        && bodies::lie_apart(card)
         && current_files_are_good(card)
 }
 
@@ -41,7 +43,7 @@ fn root_is_good(card: &Card) -> bool {
 
 /// What holds for every used record by itself: kind agrees with descriptor;
 /// life cycle, rule, size and record length obey their sections; an EF has
-/// no name.
+/// no name, a DF no body.
 fn fields_are_good(card: &Card, record: &Record) -> bool {
     let descriptor_class = class(record.descriptor);
     let kind_agrees = match descriptor_class {
@@ -54,6 +56,7 @@ fn fields_are_good(card: &Card, record: &Record) -> bool {
         && rule::fit(card.edition, record.form, &record.rule)
         && measures_fit(descriptor_class, record.size, record.record_length)
         && (record.is_df() || record.name.is_empty())
+        && (record.is_ef() || record.start == 0)
 }
 
 /// What holds for every used record but the root: its parent is a DF with

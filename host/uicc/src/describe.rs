@@ -5,9 +5,15 @@ use card::Form;
 use model::descriptor::{class, Class, Structure};
 use model::ledger::announced;
 
+use crate::pieces::{READ_BINARY, READ_RECORD, UPDATE_BINARY, UPDATE_RECORD};
+
 /// The commands that the card knows.
-const NAMES: [(u8, &str); 8] = [
+const NAMES: [(u8, &str); 12] = [
     (0xA4, "SELECT"),
+    (READ_BINARY, "READ BINARY"),
+    (READ_RECORD, "READ RECORD"),
+    (UPDATE_BINARY, "UPDATE BINARY"),
+    (UPDATE_RECORD, "UPDATE RECORD"),
     (0xE0, "CREATE FILE"),
     (0xE4, "DELETE FILE"),
     (0x44, "ACTIVATE FILE"),
@@ -27,14 +33,38 @@ pub fn command(bytes: &[u8]) -> String {
     };
     let named = match (instruction, bytes) {
         (0xA4 | 0xE4, [_, _, _, _, 2, high, low]) | (0xA4, [_, _, _, _, 2, high, low, _]) => {
-            Some(u16::from_be_bytes([*high, *low]))
+            Some(identifier(u16::from_be_bytes([*high, *low])))
         }
-        (0xE0, _) => announced(bytes).map(|file| file.identifier),
+        (0xE0, _) => announced(bytes).map(|file| identifier(file.identifier)),
+        (READ_BINARY, [_, _, high @ 0..=0x7F, low, ..]) => Some(from(*high, *low)),
+        (UPDATE_BINARY, [_, _, high @ 0..=0x7F, low, lc, data @ ..]) => {
+            let whole = usize::from(*lc) == data.len() && !data.is_empty();
+            let data =
+                if whole { format!(" ({})", self::bytes(data.len())) } else { String::new() };
+            Some(from(*high, *low) + &data)
+        }
+        (READ_RECORD | UPDATE_RECORD, [_, _, number, 0x04, ..]) => Some(number.to_string()),
         _ => None,
     };
     match named {
-        Some(identifier) => format!("{name} {identifier:04X}"),
+        Some(named) => format!("{name} {named}"),
         None => name.to_string(),
+    }
+}
+
+fn identifier(identifier: u16) -> String {
+    format!("{identifier:04X}")
+}
+
+fn from(high: u8, low: u8) -> String {
+    format!("from {}", u16::from_be_bytes([high, low]))
+}
+
+/// Several words as people list them: one, two and three.
+pub fn list(words: &[String], last: &str) -> String {
+    match words {
+        [before @ .., end] if !before.is_empty() => format!("{} {last} {end}", before.join(", ")),
+        _ => words.concat(),
     }
 }
 
@@ -123,6 +153,17 @@ mod tests {
     }
 
     #[test]
+    fn lists_are_read_aloud() {
+        let list = |words: &[&str]| {
+            list(&words.iter().map(|word| word.to_string()).collect::<Vec<_>>(), "and")
+        };
+        assert_eq!(list(&[]), "");
+        assert_eq!(list(&["1"]), "1");
+        assert_eq!(list(&["1", "2"]), "1 and 2");
+        assert_eq!(list(&["1", "2", "3"]), "1, 2 and 3");
+    }
+
+    #[test]
     fn kinds_have_words() {
         for (descriptor, words, without_structure) in [
             (0x38, "directory", "directory"),
@@ -145,7 +186,17 @@ mod tests {
             (&[0x00, 0xA4, 0x00, 0x0C, 0x02, 0x6F], "SELECT"),
             (&[0x00, 0xE0, 0x00, 0x00], "CREATE FILE"),
             (&[0x00, 0xFE, 0x00, 0x00], "TERMINATE CARD USAGE"),
-            (&[0x00, 0xB0], "(unknown INS B0)"),
+            (&[0x00, 0xB0], "READ BINARY"),
+            (&[0x00, 0xB0, 0x01, 0x00, 0x00], "READ BINARY from 256"),
+            (&[0x00, 0xB0, 0x80, 0x00, 0x00], "READ BINARY"),
+            (&[0x00, 0xD6, 0x00, 0x03, 0x01, 0x41], "UPDATE BINARY from 3 (1 byte)"),
+            (&[0x00, 0xD6, 0x00, 0x03, 0x02, 0x41, 0x42], "UPDATE BINARY from 3 (2 bytes)"),
+            (&[0x00, 0xD6, 0x00, 0x03, 0x03, 0x41], "UPDATE BINARY from 3"),
+            (&[0x00, 0xD6, 0x00, 0x03], "UPDATE BINARY"),
+            (&[0x00, 0xB2, 0x02, 0x04, 0x09], "READ RECORD 2"),
+            (&[0x00, 0xB2, 0x02, 0x02, 0x09], "READ RECORD"),
+            (&[0x00, 0xDC, 0xFF, 0x04, 0x01, 0x41], "UPDATE RECORD 255"),
+            (&[0x00, 0xB1], "(unknown INS B1)"),
             (&[0x00], "(too short)"),
         ] {
             assert_eq!(command(bytes), name);

@@ -3,16 +3,19 @@
 //! Nothing is foretold: each command is played on a fresh card in memory before
 //! it is written down, with every condition satisfied, and what that card
 //! refuses is told as lost. A directory must not be deactivated or terminated
-//! while files are made in it, so it comes to that after them.
+//! while files are made in it, so it comes to that after them. A file is updated
+//! only while it is activated; what it then holds is compared.
 
+mod contents;
 mod source;
 mod target;
 
-use card::{Card, Word};
+use card::Card;
 use model::life_cycle::{is_deactivated, is_terminated, ACTIVATED, DEACTIVATED, TERMINATED};
 
 use crate::arguments::Fresh;
-use crate::{describe, hex};
+use crate::fcp::Template;
+use crate::{describe, hex, meaning};
 use source::{Source, ROOT};
 use target::Target;
 
@@ -31,8 +34,9 @@ pub struct Export {
 enum Work {
     /// A file is made, and what is in it.
     Make(usize),
-    /// All files of a directory are made.
-    Finish(usize),
+    /// All files of a directory are made, or an EF is filled; with the life
+    /// cycle that it was made with.
+    Finish(usize, u8),
 }
 
 /// The script of a card, which is only read.
@@ -77,55 +81,95 @@ impl Exporter<'_> {
         let mut left: Vec<Work> = make(self.source.children(ROOT));
         while let Some(work) = left.pop() {
             match work {
-                Work::Make(slot) if self.make(slot)? => {
-                    left.push(Work::Finish(slot));
-                    left.extend(make(self.source.children(slot)));
+                Work::Make(slot) => {
+                    if let Some(first) = self.make(slot)? {
+                        left.push(Work::Finish(slot, first));
+                        left.extend(make(self.source.children(slot)));
+                    }
                 }
-                Work::Make(_) => {}
-                Work::Finish(slot) => self.finish(slot)?,
+                Work::Finish(slot, first) => self.finish(slot, first)?,
             }
         }
         Ok(())
     }
 
-    /// Makes a file; tells whether it is there now.
-    fn make(&mut self, slot: usize) -> Result<bool, String> {
+    /// Makes a file and fills it; gives the life cycle that it has then, if it is
+    /// there.
+    fn make(&mut self, slot: usize) -> Result<Option<u8>, String> {
         let data = self.source.template(slot)?;
         let template = self.source.read(&data)?;
         let name = self.source.name(slot);
         self.target.reach(self.source.parent(slot))?;
         self.target.note(&format!("{name}: {}", template.in_short()));
-        let word = self.target.play(&template.create(self.first_life_cycle(slot)))?;
+        let contents = contents::updates(self.source.record(slot), self.source.body(slot));
+        let first = self.first_life_cycle(slot, &template, &contents)?;
+        let word = self.target.play(&template.create(first))?;
         if !word.is_success() {
             let beneath = match self.source.beneath(slot) {
                 0 => String::new(),
                 1 => ", nor the file beneath it".to_string(),
                 many => format!(", nor the {many} files beneath it"),
             };
-            let refused = refused("CREATE FILE", word);
-            self.lose(format!("{name} does not come back{beneath}: {refused}"));
-            return Ok(false);
+            let why = format!("CREATE FILE is answered {word}, {}", word.meaning());
+            self.lose(format!("{name} does not come back{beneath}: {why}"));
+            return Ok(None);
         }
         self.target.made(slot);
-        Ok(true)
+        self.fill(slot, &contents)?;
+        Ok(Some(first))
     }
 
     /// The life cycle that a file is made with: its own, unless CREATE takes
-    /// no such byte, or the directory would take no files then. The maker gives
-    /// the root no other.
-    fn first_life_cycle(&self, slot: usize) -> u8 {
+    /// no such byte, or the directory would take no files then. A deactivated
+    /// file that holds something is made activated, if it can be filled and
+    /// come to its own byte then.
+    fn first_life_cycle(
+        &self,
+        slot: usize,
+        template: &Template,
+        contents: &[Vec<u8>],
+    ) -> Result<u8, String> {
         let own = self.source.record(slot).life_cycle;
         let closed = is_deactivated(own) && !self.source.children(slot).is_empty();
-        if closed || is_terminated(own) || slot == ROOT {
-            ACTIVATED
-        } else {
-            own
+        if closed || is_terminated(own) {
+            return Ok(ACTIVATED);
         }
+        if own != DEACTIVATED || contents.is_empty() {
+            return Ok(own);
+        }
+        let before = [template.create(ACTIVATED)];
+        let after = [vec![0x00, DEACTIVATE, 0x00, 0x00]];
+        let filled = self.target.would_take(&[&before, contents, &after].concat())?;
+        Ok(if filled { ACTIVATED } else { own })
     }
 
-    /// Brings a file whose files are all made to the life cycle that it had.
-    fn finish(&mut self, slot: usize) -> Result<(), String> {
-        let (own, mut now) = (self.source.record(slot).life_cycle, self.first_life_cycle(slot));
+    /// Brings what a file held into the new one, which is current. Whatever was
+    /// played, the bodies are compared.
+    fn fill(&mut self, slot: usize, contents: &[Vec<u8>]) -> Result<(), String> {
+        let mut why = "no command reaches it".to_string();
+        for command in contents {
+            let word = self.target.play(command)?;
+            if !word.is_success() {
+                why = meaning::refused(command, word, self.source.kind());
+                break;
+            }
+        }
+        let body = self.source.body(slot);
+        if body.is_empty() {
+            return Ok(());
+        }
+        let differs = self.target.body()?.iter().zip(body).position(|(new, old)| new != old);
+        if let Some(place) = differs {
+            let name = self.source.name(slot);
+            self.lose(format!("what {name} holds does not come back from byte {place} on: {why}"));
+        }
+        Ok(())
+    }
+
+    /// Brings a file whose files are all made from the life cycle that it was
+    /// made with to the one that it had.
+    fn finish(&mut self, slot: usize, first: u8) -> Result<(), String> {
+        let (own, mut now) = (self.source.record(slot).life_cycle, first);
         if own == now {
             return Ok(());
         }
@@ -148,7 +192,7 @@ impl Exporter<'_> {
             }
             match self.target.play(&command)? {
                 word if word.is_success() => now = after,
-                word => why = refused(&describe::command(&command), word),
+                word => why = meaning::refused(&command, word, self.source.kind()),
             }
         }
         if own != now {
@@ -173,12 +217,13 @@ impl Exporter<'_> {
             self.lose(format!("the name {name} of 3F00 does not come back: uicc new gives none"));
         }
         let terminated = is_terminated(root.life_cycle);
+        // The maker gives the root no other life cycle.
         if !terminated {
-            self.finish(ROOT)?;
+            self.finish(ROOT, ACTIVATED)?;
         }
         self.current()?;
         if terminated {
-            self.finish(ROOT)?;
+            self.finish(ROOT, ACTIVATED)?;
         }
         Ok(())
     }
@@ -203,8 +248,4 @@ impl Exporter<'_> {
         self.target.note(&format!("LOST: {what}"));
         self.lost.push(what);
     }
-}
-
-fn refused(name: &str, word: Word) -> String {
-    format!("{name} is answered {word}, {}", word.meaning())
 }

@@ -5,11 +5,14 @@ use std::path::Path;
 use card::{Card, Reply, State, Word};
 
 use crate::arguments::Fresh;
+use crate::pieces::{READ_BINARY, READ_RECORD};
 use crate::script::Step;
-use crate::{describe, fcp, hint, store, Done};
+use crate::{describe, dump, fcp, hint, meaning, store, Done};
 
 /// What only a CREATE is answered.
 const WRONG_DATA: Word = Word(0x6A80);
+/// The column of the commands' names is at least so wide.
+const NARROWEST: usize = 20;
 
 /// Plays on a fresh card, which is not kept.
 pub fn on_fresh(card: &Card, fresh: &Fresh, steps: &[Step], state: &State) -> Result<Done, String> {
@@ -29,23 +32,23 @@ pub fn on_image(image: &Path, steps: &[Step], state: &State) -> Result<Done, Str
     if card == before {
         return Ok(Done::told(format!("{name}\n{told}{name} is as it was\n")));
     }
-    store::save(image, held, card.image())?;
+    store::save(image, held, &card)?;
     Ok(Done::saved(format!("{name}\n{told}{name} saved\n"), image))
 }
 
-/// A line for each command, below it what a template says or what is wrong with
-/// a rule, and at the end the current directory.
+/// A line for each command, below it what it answered or what is wrong with a
+/// rule, and at the end the current directory.
 fn play(card: &mut Card, steps: &[Step], state: &State) -> Result<String, String> {
+    let names: Vec<_> = steps.iter().map(|step| describe::command(&step.command)).collect();
+    let width = names.iter().map(String::len).max().unwrap_or(0).max(NARROWEST);
     let mut told = String::new();
-    for Step { line, command } in steps {
-        let name = describe::command(command);
+    for (Step { line, command }, name) in steps.iter().zip(names) {
         let reply = card.command(command, state);
         let Reply { word, data } =
             reply.map_err(|error| format!("line {line}, {name}: {error}"))?;
-        told += &format!("{line:>4}  {name:<20}  {word}  {}\n", word.meaning());
-        if !data.is_empty() {
-            told += &fcp::told(&data);
-        }
+        let meaning = meaning::of(command, word, card.kind());
+        told += &format!("{line:>4}  {name:<width$}  {word}  {meaning}\n");
+        told += &answered(command, &data);
         if word == WRONG_DATA {
             let hint = hint::of_rule(command, card.kind());
             told += &hint.map_or_else(String::new, |(title, why)| fcp::line(title, &why));
@@ -58,4 +61,17 @@ fn play(card: &mut Card, steps: &[Step], state: &State) -> Result<String, String
         report.total, report.room, report.children, report.beneath
     );
     Ok(told)
+}
+
+/// The data of a command, in lines below its own: what READ read, from its start
+/// in the file or in the record on, else a template.
+fn answered(command: &[u8], data: &[u8]) -> String {
+    match command {
+        _ if data.is_empty() => String::new(),
+        [_, READ_BINARY, high, low, ..] => {
+            dump::below(data, usize::from(u16::from_be_bytes([*high, *low])))
+        }
+        [_, READ_RECORD, ..] => dump::below(data, 0),
+        _ => fcp::told(data),
+    }
 }

@@ -2,7 +2,7 @@
 
 use std::path::Path;
 
-use crate::arguments::STANDARD_INPUT;
+use crate::arguments::STREAM;
 use crate::hex;
 
 /// One command of a script.
@@ -23,7 +23,7 @@ const BYTE_ORDER_MARK: char = '\u{FEFF}';
 /// with file, line and column.
 pub fn read(file: &Path) -> Result<Vec<Step>, String> {
     let (name, bytes) = match file.to_str() {
-        Some(STANDARD_INPUT) => ("standard input".to_string(), console::input()),
+        Some(STREAM) => ("standard input".to_string(), console::input()),
         _ => (file.display().to_string(), std::fs::read(file)),
     };
     let bytes = bytes.map_err(|error| format!("{name}: {error}"))?;

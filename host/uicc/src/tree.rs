@@ -6,7 +6,7 @@ use card::{Card, Rule};
 use model::{Card as Decoded, Record};
 
 use crate::rule::{self, Owner};
-use crate::{bar, describe, hex};
+use crate::{bar, describe, hex, pool};
 
 /// Deeper levels are no longer drawn further to the right; they are numbered.
 const DEEPEST_DRAWN: u16 = 16;
@@ -20,7 +20,8 @@ struct Row {
     slot: usize,
 }
 
-/// The whole tree with a line about the card above it, and its rules below.
+/// The whole tree with a line about the card above it; below it the pool, where
+/// there is one, and the rules.
 pub fn show(card: &Card) -> Result<String, String> {
     let decoded = Decoded::decode(card.image()).ok_or("the image cannot be read")?;
     let rows = rows(&decoded);
@@ -28,21 +29,29 @@ pub fn show(card: &Card) -> Result<String, String> {
     let width = rows.iter().map(|row| row.place.len()).max().unwrap_or(0).max(NARROWEST);
     let mut told =
         format!("card of version {version}, {slots} slots: {used} used, {} free\n\n", slots - used);
-    told += &line(width, ["file", "kind", "life cycle", "size", "rule", "room"]);
+    let bodies = card.kind().has_bodies();
+    let measures = |size: &str, start: &str| match bodies {
+        true => format!("{size:>8}  {start:>5}"),
+        false => format!("{size:>8}"),
+    };
+    let title = measures("size", "start");
+    told += &line(width, ["file", "kind", "life cycle", &title, "rule", "room"]);
     let mut rules = Rules::default();
     for Row { place, slot } in &rows {
         let record = decoded.record(*slot);
         let kind = describe::kind(record.descriptor);
         let life_cycle = describe::life_cycle(record.life_cycle);
-        let (size, notes) = (record.size.to_string(), notes(&decoded, *slot));
-        let rule = rules.number(record).to_string();
-        told += &line(width, [place, kind, &life_cycle, &size, &rule, &notes]);
+        let start = if record.is_ef() { record.start.to_string() } else { String::new() };
+        let measures = measures(&record.size.to_string(), &start);
+        let (rule, notes) = (rules.number(record).to_string(), notes(&decoded, *slot));
+        told += &line(width, [place, kind, &life_cycle, &measures, &rule, &notes]);
     }
-    Ok(told + &rules.told())
+    Ok(told + &pool::map(&decoded).unwrap_or_default() + &rules.told())
 }
 
-fn line(width: usize, [place, kind, life_cycle, size, rule, notes]: [&str; 6]) -> String {
-    let text = format!("{place:width$}  {kind:12}  {life_cycle:16}  {size:>8}  {rule:>4}  {notes}");
+fn line(width: usize, [place, kind, life_cycle, measures, rule, notes]: [&str; 6]) -> String {
+    let text =
+        format!("{place:width$}  {kind:12}  {life_cycle:16}  {measures}  {rule:>4}  {notes}");
     format!("{}\n", text.trim_end())
 }
 

@@ -1,8 +1,8 @@
--- `sound`: the header, each record, what holds between them, what is current; each test makes the next one safe.
+-- `sound`: the header, each record, what holds between them, what is current, where bodies lie; each test makes the next one safe.
 use mathlib.Core.Path.{refl}
 use Rattle.laws.proofs.Chains.{refused-and}
 use Rattle.sound.specs.Sound.{soundb}
-use Rattle.sound_test.proofs.Passed.{header-some, header-sized, sound-records, sound-kin, sound-last, passed}
+use Rattle.sound_test.proofs.Passed.{header-some, header-sized, sound-records, sound-kin, sound-current, sound-last, passed}
 use borrow.Author.Needs.{needs}
 use Rattle.sound_test.proofs.sound.Statement.{statement}
 use Rattle.sound_test.proofs.sound.Tie as tie
@@ -45,10 +45,28 @@ stands-requires c κs =
 
 returns-4 : tie.Need-returns-4
 returns-4 c =
-    sound-last _ _ (c .before .before .before .before .before .before .before .agrees .ensures)
-    (c .before .before .before .before .before .before .if1 .left) _ (c .before .before .before .before .before .count .ensures .0) _
-    (c .before .before .before .before .records .ensures) (c .before .before .before .if2 .left) _ (c .before .before .kin .ensures)
-    (c .before .if3 .left) _ (c .stands .ensures)
+    sound-current _ _ (c .before .before .before .before .before .before .before .before .agrees .ensures)
+    (c .before .before .before .before .before .before .before .if1 .left) _
+    (c .before .before .before .before .before .before .count .ensures .0) _
+    (c .before .before .before .before .before .records .ensures) (c .before .before .before .before .if2 .left) _ (c .before .before .before .kin .ensures)
+    (c .before .before .if3 .left) _ (c .before .stands .ensures) (c .if4 .taken)
+
+bodies-requires : tie.Need-bodies-requires
+bodies-requires c κs = (
+  header-sized _ _ (c .before .before .before .before .before .before .before .before .agrees .ensures)
+      (c .before .before .before .before .before .before .before .if1 .left) _
+      (c .before .before .before .before .before .before .count .ensures .0),
+  (c .before .before .before .before .before .before .count .ensures .0, passed _ _ (c .before .before .before .kin .ensures) (c .before .before .if3 .left)),
+)
+
+returns-5 : tie.Need-returns-5
+returns-5 c =
+    sound-last _ _ (c .before .before .before .before .before .before .before .before .before .agrees .ensures)
+    (c .before .before .before .before .before .before .before .before .if1 .left) _
+    (c .before .before .before .before .before .before .before .count .ensures .0) _
+    (c .before .before .before .before .before .before .records .ensures) (c .before .before .before .before .before .if2 .left) _ (c .before .before .before .before .kin .ensures)
+    (c .before .before .before .if3 .left) _ (c .before .before .stands .ensures)
+    (c .before .if4 .left) _ (c .bodies .ensures)
 
 pub sound-spec : {M : Type 1} → statement M
 sound-spec =
@@ -62,4 +80,6 @@ sound-spec =
     kin-requires
     returns-3
     stands-requires
-    returns-4)
+    returns-4
+    bodies-requires
+    returns-5)

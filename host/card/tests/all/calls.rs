@@ -4,7 +4,7 @@
 use card::{largest_total, lent};
 use card::{Card, CommandError, Damaged, Kind, MakeError, Rule, State, Word, LONGEST_RESPONSE};
 
-use crate::common::{fresh, noise, run, select, CREATE_DF, CREATE_EF};
+use crate::common::{fresh, fresh_of, noise, run, select, CREATE_DF, CREATE_EF};
 
 #[test]
 fn the_whole_case_of_the_scope() {
@@ -60,7 +60,12 @@ fn the_state_reaches_the_library_field_by_field() {
 fn a_command_that_fails_says_what_to_do() {
     for (error, answer, advice) in [
         (CommandError::Damaged, 1, "take an older copy"),
-        (CommandError::ShortResponse, 5, "67 bytes are enough"),
+        (CommandError::ShortResponse, 5, "256 bytes are enough"),
+        (
+            CommandError::WrongPool { wanted: 448, given: 9 },
+            6,
+            "has 9 bytes, and this card's has 448",
+        ),
         (CommandError::Unknown(9), 9, "build both anew"),
     ] {
         assert_eq!(error.answer(), answer);
@@ -74,12 +79,15 @@ fn a_damaged_image_is_found_and_given_back() {
     image[15] = 1;
     let refused = Card::from_image(image.clone()).expect_err("header byte 15 must be 0");
     assert!(refused.to_string().contains("damaged"), "{refused}");
-    assert_eq!(refused.into_image(), image);
+    assert_eq!(
+        (refused.reason(), refused.into_parts()),
+        (CommandError::Damaged, (image.clone(), vec![]))
+    );
     assert!(!lent::is_sound(&image));
     assert_eq!(lent::report(&image), Err(Damaged));
     let before = image.clone();
     let mut response = [0xA5; LONGEST_RESPONSE];
-    let refused = lent::command(&mut image, CREATE_EF, &mut response, &State::FULL);
+    let refused = lent::command(&mut image, &mut [], CREATE_EF, &mut response, &State::FULL);
     assert_eq!(refused, Err(CommandError::Damaged));
     assert_eq!((image, response), (before, [0xA5; LONGEST_RESPONSE]));
 }
@@ -127,19 +135,29 @@ fn no_bytes_make_a_call_panic() {
             assert!(lent::report(&image).is_err());
             let command: Vec<u8> = noise(seed + 99).take(length % 300).collect();
             let mut response = vec![0xA5; length % 60];
-            let refused = lent::command(&mut image, &command, &mut response, &State::FULL);
+            let mut pool = vec![0xB6; length % 70];
+            let refused =
+                lent::command(&mut image, &mut pool, &command, &mut response, &State::FULL);
             assert_eq!(refused, Err(CommandError::Damaged));
             assert_eq!((image, response), (before, vec![0xA5; length % 60]));
+            assert_eq!(pool, vec![0xB6; length % 70]);
         }
     }
-    let mut card = fresh();
-    for seed in 0..2000u64 {
-        let mut command: Vec<u8> = noise(seed).take((seed % 290) as usize).collect();
-        if let Some(class) = command.first_mut() {
-            *class = 0;
+}
+
+#[test]
+fn no_command_makes_a_call_panic() {
+    for kind in Kind::ALL {
+        let mut card = fresh_of(kind);
+        run(&mut card, CREATE_EF);
+        for seed in 0..2000u64 {
+            let mut command: Vec<u8> = noise(seed).take((seed % 290) as usize).collect();
+            if let Some(class) = command.first_mut() {
+                *class = 0;
+            }
+            let reply = card.command(&command, &State::FULL).expect("a card stays sound");
+            assert!(Word::all().any(|known| known == reply.word), "{}", reply.word);
         }
-        let reply = card.command(&command, &State::FULL).expect("a card stays sound");
-        assert!(Word::all().any(|known| known == reply.word), "{}", reply.word);
+        assert!(card.is_sound());
     }
-    assert!(card.is_sound());
 }

@@ -26,6 +26,42 @@ pub fn select_told(identifier: u16) -> Vec<u8> {
     vec![0x00, 0xA4, 0x00, 0x04, 0x02, high, low, 0x00]
 }
 
+/// READ BINARY of so many bytes from a start on.
+pub fn read(start: u16, length: u8) -> Vec<u8> {
+    let [high, low] = start.to_be_bytes();
+    vec![0x00, 0xB0, high, low, length]
+}
+
+/// UPDATE BINARY from a start on.
+pub fn update(start: u16, data: &[u8]) -> Vec<u8> {
+    let [high, low] = start.to_be_bytes();
+    [&[0x00, 0xD6, high, low, data.len() as u8], data].concat()
+}
+
+/// READ RECORD.
+pub fn read_record(number: u8, length: u8) -> Vec<u8> {
+    vec![0x00, 0xB2, number, 0x04, length]
+}
+
+/// UPDATE RECORD.
+pub fn update_record(number: u8, data: &[u8]) -> Vec<u8> {
+    [&[0x00, 0xDC, number, 0x04, data.len() as u8], data].concat()
+}
+
+/// CREATE of an EF with every right: transparent, or linear fixed where it has
+/// a record length.
+pub fn create_open(identifier: u16, record_length: u8, size: u16) -> Vec<u8> {
+    let ([i1, i0], [s1, s0]) = (identifier.to_be_bytes(), size.to_be_bytes());
+    let descriptor = match record_length {
+        0 => vec![0x82, 2, 0x41, 0x21],
+        _ => vec![0x82, 4, 0x42, 0x21, 0x00, record_length],
+    };
+    let rest =
+        [0x83, 2, i1, i0, 0x8A, 1, 0x05, 0x8C, 8, 0x7F, 0, 0, 0, 0, 0, 0, 0, 0x80, 2, s1, s0];
+    let objects = [&descriptor[..], &rest].concat();
+    create(&[&[0x62, objects.len() as u8], &objects[..]].concat())
+}
+
 /// An open card of a kind.
 pub fn fresh_of(kind: Kind) -> Card {
     Card::make(8, kind, 448, Rule::OPEN).expect("a card that the maker grants")

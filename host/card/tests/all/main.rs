@@ -1,9 +1,11 @@
 //! The wrapper: each call reaches the library and tells what it answers, and
 //! no input makes it panic.
 
+mod bodies;
 mod calls;
 mod common;
 mod making;
 mod numbers;
+mod pools;
 mod rules;
 mod templates;

@@ -14,13 +14,13 @@ fn refused(slots: usize, kind: Kind, total: u32, rule: Rule) -> Option<MakeError
 
 #[test]
 fn the_maker_refuses_in_its_order() {
-    let (one, two, none) = (Kind::VERSION_1, Kind::VERSION_2, Kind::of_version(3));
+    let (one, none) = (Kind::VERSION_1, Kind::of_version(4));
     let empty = Rule::compact(&[]);
     for slots in [0, 1, 1024, usize::MAX] {
         assert_eq!(refused(slots, none, 0, empty), Some(MakeError::Length), "{slots}");
         assert_eq!(refused(slots, one, 1, Rule::OPEN), Some(MakeError::Length), "{slots}");
     }
-    for version in [0, 3, 0x0101, 0x0200, u16::MAX] {
+    for version in [0, 4, 0x0101, 0x0300, u16::MAX] {
         let kind = Kind::of_version(version);
         assert_eq!(refused(2, kind, 0, empty), Some(MakeError::Version(version)));
         assert_eq!(refused(2, kind, 64, Rule::OPEN), Some(MakeError::Version(version)));
@@ -34,12 +34,15 @@ fn the_maker_refuses_in_its_order() {
         );
     }
     assert_eq!(refused(2, one, 64, OPEN), Some(MakeError::Form(1, Form::Expanded)));
-    assert_eq!(refused(2, two, 64, OPEN), None);
+    for kind in [Kind::VERSION_2, Kind::VERSION_3] {
+        assert_eq!(refused(2, kind, 64, OPEN), None);
+    }
 }
 
 #[test]
 fn a_rule_is_as_long_as_its_version_allows() {
-    for (kind, longest) in [(Kind::VERSION_1, 16), (Kind::VERSION_2, 30)] {
+    let kinds = Kind::ALL.into_iter().zip([16, 30, 28]);
+    for (kind, longest) in kinds {
         assert_eq!(kind.longest_rule(Form::Compact), Some(longest));
         for length in 0..=40 {
             let rule = vec![0; length];
@@ -51,16 +54,18 @@ fn a_rule_is_as_long_as_its_version_allows() {
         }
     }
     // A group of 5 bytes and conditions of 2 after it.
-    for conditions in 0..=20 {
-        let rule = [&[0x80, 0x01, 0x7F][..], &[0x90, 0x00].repeat(conditions)].concat();
-        let wanted = match conditions {
-            0 => Some(MakeError::Rule(Form::Expanded)),
-            1..=13 => None,
-            _ => Some(MakeError::RuleLength(30)),
-        };
-        assert_eq!(refused(2, Kind::VERSION_2, 64, Rule::expanded(&rule)), wanted, "{rule:02X?}");
+    for (kind, longest, most) in [(Kind::VERSION_2, 30, 13), (Kind::VERSION_3, 28, 12)] {
+        for conditions in 0..=20 {
+            let rule = [&[0x80, 0x01, 0x7F][..], &[0x90, 0x00].repeat(conditions)].concat();
+            let wanted = match conditions {
+                0 => Some(MakeError::Rule(Form::Expanded)),
+                _ if conditions <= most => None,
+                _ => Some(MakeError::RuleLength(longest)),
+            };
+            assert_eq!(refused(2, kind, 64, Rule::expanded(&rule)), wanted, "{rule:02X?}");
+        }
     }
-    assert_eq!(Kind::of_version(3).longest_rule(Form::Compact), None);
+    assert_eq!(Kind::of_version(4).longest_rule(Form::Compact), None);
     assert_eq!(Kind::VERSION_1.longest_rule(Form::Expanded), None);
 }
 
@@ -68,7 +73,7 @@ fn a_rule_is_as_long_as_its_version_allows() {
 fn every_error_says_what_to_do() {
     for (error, answer, advice) in [
         (MakeError::Length, 2, "2 to 1,023 slots"),
-        (MakeError::Version(3), 2, "no card of version 3: choose 1 or 2"),
+        (MakeError::Version(4), 2, "no card of version 4: choose 1, 2 or 3"),
         (MakeError::Total, 3, "64 bytes for each slot but the root"),
         (MakeError::Form(1, Form::Expanded), 4, "version 1 takes no rule of tag AB"),
         (MakeError::RuleLength(30), 4, "1 to 30 bytes"),
@@ -86,17 +91,20 @@ fn every_error_says_what_to_do() {
 #[test]
 fn unknown_numbers_are_refused() {
     let made = |kind, form, rule: &[u8]| ffi::make(&mut [0; 144], kind, 64, form, rule);
-    for kind in [0, 3, 255, 0x0001_0001, 0x0100_0002, u32::MAX] {
+    for kind in [0, 4, 255, 0x0001_0001, 0x0100_0003, u32::MAX] {
         assert_eq!(made(kind, 0, Rule::OPEN.bytes), 2, "{kind:X}");
     }
     for form in [2, 3, 0x0100, 0x0001_0000, u32::MAX] {
-        assert_eq!(made(2, form, Rule::OPEN.bytes), 4, "{form:X}");
-        assert_eq!(made(2, form, OPEN.bytes), 4, "{form:X}");
+        for kind in [2, 3] {
+            assert_eq!(made(kind, form, Rule::OPEN.bytes), 4, "{form:X}");
+            assert_eq!(made(kind, form, OPEN.bytes), 4, "{form:X}");
+        }
     }
-    assert_eq!([made(1, 0, Rule::OPEN.bytes), made(2, 0, Rule::OPEN.bytes)], [0, 0]);
-    assert_eq!([made(1, 1, OPEN.bytes), made(2, 1, OPEN.bytes)], [4, 0]);
+    assert_eq!([1, 2, 3].map(|kind| made(kind, 0, Rule::OPEN.bytes)), [0, 0, 0]);
+    assert_eq!([1, 2, 3].map(|kind| made(kind, 1, OPEN.bytes)), [4, 0, 0]);
     // Each form read as the other.
-    assert_eq!([made(2, 1, Rule::OPEN.bytes), made(2, 0, OPEN.bytes)], [4, 4]);
+    assert_eq!([2, 3].map(|kind| made(kind, 1, Rule::OPEN.bytes)), [4, 4]);
+    assert_eq!([2, 3].map(|kind| made(kind, 0, OPEN.bytes)), [4, 4]);
 }
 
 #[test]
@@ -111,6 +119,7 @@ fn a_refused_buffer_is_left_alone() {
         (Kind::VERSION_2, 65, Rule::OPEN),
         (Kind::VERSION_1, 64, OPEN),
         (Kind::VERSION_2, 64, Rule::expanded(&[0x90, 0x00])),
+        (Kind::VERSION_3, 64, Rule::compact(&[0; 29])),
     ] {
         assert!(lent::make(&mut whole, kind, total, rule).is_err(), "{kind:?} {rule:?}");
         assert!(whole.iter().all(|&byte| byte == 0xA5), "{kind:?} {rule:?}");
@@ -121,9 +130,13 @@ fn a_refused_buffer_is_left_alone() {
 /// a card of version 1.
 #[test]
 fn an_image_tells_its_kind() {
-    for (kind, rule) in
-        [(Kind::VERSION_1, Rule::OPEN), (Kind::VERSION_2, Rule::OPEN), (Kind::VERSION_2, OPEN)]
-    {
+    for (kind, rule) in [
+        (Kind::VERSION_1, Rule::OPEN),
+        (Kind::VERSION_2, Rule::OPEN),
+        (Kind::VERSION_2, OPEN),
+        (Kind::VERSION_3, Rule::OPEN),
+        (Kind::VERSION_3, OPEN),
+    ] {
         let card = Card::make(2, kind, 64, rule).expect("a card");
         assert_eq!(card.kind(), kind);
         let mut wanted = vec![0; image_length(2)];
@@ -136,9 +149,11 @@ fn an_image_tells_its_kind() {
         root[34..34 + rule.bytes.len()].copy_from_slice(rule.bytes);
         assert_eq!(card.image(), wanted, "{kind:?} {rule:?}");
     }
-    let mut card = fresh_of(Kind::VERSION_2);
-    run(&mut card, CREATE_DF);
-    assert_eq!(card.kind(), Kind::VERSION_2, "no command changes it");
+    for kind in Kind::ALL {
+        let mut card = fresh_of(kind);
+        run(&mut card, CREATE_DF);
+        assert_eq!(card.kind(), kind, "no command changes it");
+    }
     let short = Kind::of_version(0);
     assert_eq!([&[][..], b"UFT", b"UFT\x00"].map(Kind::of_image), [short; 3]);
     assert_eq!(Kind::of_image(b"UFT\x00\x02"), Kind::VERSION_2);
@@ -152,7 +167,7 @@ fn no_bytes_make_the_maker_panic() {
     for seed in 0..4000 {
         let mut noise = noise(seed);
         let mut byte = || noise.next().unwrap_or_default();
-        let (kind, form) = (u32::from(byte() % 4), u32::from(byte() % 3));
+        let (kind, form) = (u32::from(byte() % 5), u32::from(byte() % 3));
         let total = u32::from(byte());
         let rule: Vec<u8> = (0..byte() % 34).map(|_| byte() % 0x14).collect();
         let mut image = vec![0xA5; image_length(2 + usize::from(byte() % 4))];

@@ -34,13 +34,15 @@ fn nested(templates: usize) -> Vec<u8> {
 
 #[test]
 fn each_version_takes_its_rules() {
-    let (one, two) = (Kind::VERSION_1, Kind::VERSION_2);
+    let (one, two, three) = (Kind::VERSION_1, Kind::VERSION_2, Kind::VERSION_3);
     let always = [0x80, 0x01, 0x7F, 0x90, 0x00];
     assert_eq!([word(one, 0x8C, &[0x01, 0x00]), word(two, 0x8C, &[0x01, 0x00])], [0x9000; 2]);
     assert_eq!([word(one, 0xAB, &always), word(two, 0xAB, &always)], [0x6A80, 0x9000]);
     assert_eq!([word(one, 0x8C, &[0; 16]), word(one, 0x8C, &[0; 17])], [0x9000, 0x6A80]);
     assert_eq!([word(two, 0x8C, &[0; 30]), word(two, 0x8C, &[0; 31])], [0x9000, 0x6A80]);
+    assert_eq!([word(three, 0x8C, &[0; 28]), word(three, 0x8C, &[0; 29])], [0x9000, 0x6A80]);
     assert_eq!([word(two, 0xAB, &nested(4)), word(two, 0xAB, &nested(5))], [0x9000, 0x6A80]);
+    assert_eq!([word(three, 0xAB, &always), word(three, 0xAB, &nested(5))], [0x9000, 0x6A80]);
     for malformed in [
         &[][..],
         &[0x90, 0x00],

@@ -1,7 +1,7 @@
 //! SELECT that answers the template: which bytes, how long a response they
 //! need, and what stays.
 
-use card::{lent, Answer, CommandError, Kind, Rule, State, Word, LONGEST_RESPONSE};
+use card::{lent, Answer, CommandError, Kind, Rule, State, Word};
 
 use crate::common::{create, fresh, fresh_of, told, with_c6};
 use crate::common::{noise, run, select, select_told, CREATE_DF, CREATE_EF};
@@ -57,7 +57,7 @@ fn records_and_warnings_come_with_the_template() {
 
 #[test]
 fn the_longest_template_is_as_long_as_told() {
-    for (kind, length) in [(Kind::VERSION_1, 53), (Kind::VERSION_2, LONGEST_RESPONSE)] {
+    for (kind, length) in Kind::ALL.into_iter().zip([53, 67, 65]) {
         let template = longest_directory(kind);
         assert_eq!(template.len(), length);
         let mut card = fresh_of(kind);
@@ -88,7 +88,7 @@ fn a_response_that_is_too_short_leaves_everything() {
             let paint: Vec<u8> = noise(length as u64).take(length).collect();
             let mut response = paint.clone();
             let select = select_told(identifier);
-            let given = lent::command(&mut image, &select, &mut response, &State::EMPTY);
+            let given = lent::command(&mut image, &mut [], &select, &mut response, &State::EMPTY);
             if length < template.len() {
                 assert_eq!(given, Err(CommandError::ShortResponse), "{length} bytes");
                 assert_eq!((&image, response), (&before, paint), "{length} bytes");
@@ -124,10 +124,10 @@ fn what_has_no_data_leaves_the_response() {
         (with(|command| command[2] = 0x04), 0x6B00),
         (with(|command| command[0] = 0x80), 0x6E00),
     ] {
-        for length in [0, 1, LONGEST_RESPONSE] {
+        for length in [0, 1, 67] {
             let mut image = fresh().into_image();
             let mut response = vec![0xA5; length];
-            let given = lent::command(&mut image, &command, &mut response, &State::FULL);
+            let given = lent::command(&mut image, &mut [], &command, &mut response, &State::FULL);
             let answer = Answer { word: Word(word), data_length: 0 };
             assert_eq!(given, Ok(answer), "{command:02X?}");
             assert_eq!(response, vec![0xA5; length], "{command:02X?}");

@@ -42,20 +42,21 @@ fn all_sorts(kind: Kind, cases: usize) -> Sorts {
     say(&format!("made again, {}: {sorts:?}", kind.name()));
     assert_eq!(sorts.rarer(&sorts::TOLD, 20), [""; 0], "{sorts:?}");
     assert!(sorts.of(sorts::MOVED) >= 20, "{sorts:?}");
+    assert!(sorts.of(sorts::STARTED) >= 100, "{sorts:?}");
     assert_eq!(sorts.of("life cycle 0C"), 0, "{sorts:?}");
     sorts
 }
 
 #[test]
 fn files_of_all_sorts_are_made_again() {
-    let sorts = all_sorts(Kind::FilesAgain, 600);
+    let sorts = all_sorts(Kind::FilesAgain, 750);
     assert!(sorts.of(sorts::ALL) > 2000, "{sorts:?}");
     assert!(sorts.of(sorts::LARGE) >= 10 && sorts.of(sorts::LARGEST) >= 2, "{sorts:?}");
 }
 
 #[test]
 fn whole_trees_are_made_again() {
-    let sorts = all_sorts(Kind::TreeAgain, 300);
+    let sorts = all_sorts(Kind::TreeAgain, 450);
     assert!(sorts.of(sorts::ALL) > 1500, "{sorts:?}");
     assert_eq!((sorts.of(sorts::TERMINATED), sorts.of(sorts::PASSED)), (0, 0));
 }
@@ -110,7 +111,8 @@ fn every_file_is_counted() {
     assert!(whole_trees > 20 && none > 50, "{whole_trees} whole trees, {none} left out");
 }
 
-/// What is made wrongly is complained of: a byte of the record, another word.
+/// What is made wrongly is complained of: a byte of the record, but for the start
+/// of a body; another word.
 #[test]
 fn wrong_files_are_complained_of() {
     let mut random = Random::new(SEED);
@@ -118,7 +120,7 @@ fn wrong_files_are_complained_of() {
     for file in right {
         for _ in 0..10 {
             let mut wrong = file.clone();
-            let at = random.below(64);
+            let at = random.below(if file.with_body { 62 } else { 64 });
             wrong.new[at] ^= 1 << random.below(8);
             let told = wrong.complaint().expect("a byte is wrong");
             assert!(told.starts_with(&format!("byte {at} ")), "{told}");

@@ -25,8 +25,8 @@ fn every_word_and_every_answer_occurs() {
             Line::Make { mut buffer, version, total, form, rule } => {
                 answers_seen.insert(('M', make(&mut buffer, version, total, form, &rule)));
             }
-            Line::Command { mut image, command: bytes, state, mut response, .. } => {
-                let outcome = command(&mut image, &bytes, &mut response, &state);
+            Line::Command { mut image, mut pool, command: bytes, state, mut response } => {
+                let outcome = command(&mut image, &mut pool, &bytes, &mut response, &state);
                 answers_seen.insert(('C', outcome.answer));
                 if outcome.answer == 0 {
                     words_seen.insert(outcome.word);
@@ -41,8 +41,18 @@ fn every_word_and_every_answer_occurs() {
     let rate = f64::from(lines) / start.elapsed().as_secs_f64();
     say(&format!("generated: {COUNT} cases, {lines} lines, made and run {rate:.0} a second"));
     assert_eq!(words_seen, words::ALL.into_iter().collect());
-    let all =
-        [('C', 0), ('C', 1), ('C', 5), ('M', 0), ('M', 2), ('M', 3), ('M', 4), ('R', 0), ('R', 1)];
+    let all = [
+        ('C', 0),
+        ('C', 1),
+        ('C', 5),
+        ('C', 6),
+        ('M', 0),
+        ('M', 2),
+        ('M', 3),
+        ('M', 4),
+        ('R', 0),
+        ('R', 1),
+    ];
     assert_eq!(answers_seen, all.into_iter().collect());
 }
 
@@ -62,10 +72,12 @@ fn every_kind_occurs_in_the_mix() {
 fn every_instruction_succeeds_and_is_refused() {
     let mut seen = BTreeSet::new();
     for made in Generator::only(SEED, Kind::SoundCommand).take(3000) {
-        let Case::OneCommand { mut image, command: bytes, mut response, state } = made.case else {
+        let Case::OneCommand { mut image, mut pool, command: bytes, mut response, state } =
+            made.case
+        else {
             panic!("a sound command is one command");
         };
-        let outcome = command(&mut image, &bytes, &mut response, &state);
+        let outcome = command(&mut image, &mut pool, &bytes, &mut response, &state);
         assert_ne!(outcome.answer, 1);
         let ins = bytes.get(1).copied().unwrap_or(0);
         seen.insert((ins, words::is_success(outcome.word)));
@@ -80,10 +92,12 @@ fn every_instruction_succeeds_and_is_refused() {
 fn near_misses_are_mostly_refused_in_steps_a_to_h() {
     let mut counts = BTreeMap::new();
     for made in Generator::only(SEED, Kind::NearMiss).take(1500) {
-        let Case::OneCommand { mut image, command: bytes, mut response, state } = made.case else {
+        let Case::OneCommand { mut image, mut pool, command: bytes, mut response, state } =
+            made.case
+        else {
             panic!("a near-miss is one command");
         };
-        let word = command(&mut image, &bytes, &mut response, &state).word;
+        let word = command(&mut image, &mut pool, &bytes, &mut response, &state).word;
         *counts.entry(word).or_insert(0) += 1;
     }
     let early = [
@@ -162,14 +176,15 @@ fn rules_are_granted_denied_malformed_and_unfit() {
 #[test]
 fn no_generated_line_makes_the_model_contradict_itself() {
     for line in Generator::new(SEED + 1).take(2000).flat_map(|made| made.case.lines()) {
-        if let Line::Command { image, command: bytes, state, response: lent, .. } = line {
-            let (mut after, mut response) = (image.clone(), lent.clone());
-            let outcome = command(&mut after, &bytes, &mut response, &state);
+        if let Line::Command { image, pool, command: bytes, state, response: lent } = line {
+            let [mut after, mut pool_after, mut response] = [&image, &pool, &lent].map(Vec::clone);
+            let outcome = command(&mut after, &mut pool_after, &bytes, &mut response, &state);
             assert_eq!(model::sound(&image), model::sound(&after), "soundness is kept");
             assert_eq!(response[outcome.data..], lent[outcome.data..], "bytes past the data");
             if !words::is_success(outcome.word) {
                 assert_eq!(image, after, "a refusal leaves the image");
                 assert_eq!(lent, response, "a refusal leaves the response buffer");
+                assert_eq!(pool, pool_after, "a refusal leaves the pool");
             }
         }
     }

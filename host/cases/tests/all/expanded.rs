@@ -1,5 +1,5 @@
-//! Expanded rules and images of version 2 (02, Ticket 3): good rules are good,
-//! flawed ones are not, and both come in every kind of case.
+//! Expanded rules and images of version 2 and 3 (02, Tickets 3 and 4): good rules
+//! are good, flawed ones are not, and both come in every kind of case.
 
 use std::collections::{BTreeMap, BTreeSet};
 
@@ -18,8 +18,9 @@ use model::soundness::sound_card;
 use model::{command, make, sound, words, State};
 
 const SEED: u64 = 1206;
-const TWO: Edition = Edition::of(Version::Two);
-const LONGEST: usize = 30;
+
+/// The versions that take expanded rules.
+const NEWER: [Edition; 2] = [Edition::of(Version::Two), Edition::of(Version::Three)];
 
 /// How many templates stand inside one another; nothing if it is malformed.
 fn depth(rule: &[u8]) -> Option<usize> {
@@ -59,9 +60,10 @@ fn each_at_least(counts: &BTreeMap<String, usize>, fewest: usize, wanted: &[&str
 fn well_formed_rules_are_fit_and_of_every_depth() {
     let mut random = Random::new(SEED);
     let mut counts = BTreeMap::new();
-    for _ in 0..4000 {
-        let rule = expanded::well_formed(&mut random, LONGEST);
-        assert!(fit(TWO, Form::Expanded, &rule), "{rule:02X?}");
+    for number in 0..8000 {
+        let edition = NEWER[number % 2];
+        let rule = expanded::well_formed(&mut random, edition.longest_rule());
+        assert!(fit(edition, Form::Expanded, &rule), "{rule:02X?}");
         let mut seen = vec![format!("depth {}", depth(&rule).expect("it is well formed"))];
         seen.push(format!("{} bytes", rule.len()));
         let granted = |state| Right::ALL.iter().any(|&r| decide(Form::Expanded, &rule, r, state));
@@ -75,16 +77,21 @@ fn well_formed_rules_are_fit_and_of_every_depth() {
     }
     let wanted = ["depth 0", "depth 1", "depth 2", "depth 3", "depth 4"];
     each_at_least(&counts, 150, &wanted);
-    each_at_least(&counts, 40, &["30 bytes", "29 bytes", "closed", "open to some", "always open"]);
+    each_at_least(
+        &counts,
+        40,
+        &["30 bytes", "29 bytes", "28 bytes", "closed", "open to some", "always open"],
+    );
 }
 
 #[test]
 fn open_rules_grant_everything_to_everybody() {
     let mut random = Random::new(SEED + 1);
     let mut depths = BTreeSet::new();
-    for _ in 0..600 {
-        let rule = expanded::open(&mut random, LONGEST);
-        assert!(fit(TWO, Form::Expanded, &rule), "{rule:02X?}");
+    for number in 0..1200 {
+        let edition = NEWER[number % 2];
+        let rule = expanded::open(&mut random, edition.longest_rule());
+        assert!(fit(edition, Form::Expanded, &rule), "{rule:02X?}");
         depths.extend(depth(&rule));
         for right in Right::ALL {
             assert!(decide(Form::Expanded, &rule, right, &State::EMPTY), "{rule:02X?}");
@@ -94,22 +101,25 @@ fn open_rules_grant_everything_to_everybody() {
 }
 
 /// The flaw alone is the cause: every flawed rule has a length that fits, but
-/// for those that are only too long.
+/// for those that are only too long or empty.
 #[test]
 fn flawed_rules_are_refused_for_their_flaw() {
     let mut random = Random::new(SEED + 2);
-    for flaw in Flaw::ALL {
+    for (flaw, edition) in Flaw::ALL.into_iter().flat_map(|flaw| NEWER.map(|one| (flaw, one))) {
+        let longest = edition.longest_rule();
         let mut lengths = BTreeSet::new();
         for _ in 0..200 {
-            let rule = flawed(&mut random, flaw, LONGEST);
+            let rule = flawed(&mut random, flaw, longest);
             lengths.insert(rule.len());
+            assert!(!fit(edition, Form::Expanded, &rule), "{flaw:?} {rule:02X?}");
             let well_formed = groups(Form::Expanded, &rule).is_some();
             match flaw {
-                Flaw::TooLong => assert!(well_formed && rule.len() > LONGEST, "{rule:02X?}"),
-                _ => assert!(!well_formed && rule.len() <= LONGEST, "{flaw:?} {rule:02X?}"),
+                Flaw::TooLong => assert!(well_formed && rule.len() > longest, "{rule:02X?}"),
+                Flaw::Empty => assert!(rule.is_empty()),
+                _ => assert!(!well_formed && rule.len() <= longest, "{flaw:?} {rule:02X?}"),
             }
         }
-        assert!(flaw != Flaw::TooLong || lengths.contains(&(LONGEST + 1)), "{lengths:?}");
+        assert!(flaw != Flaw::TooLong || lengths.contains(&(longest + 1)), "{lengths:?}");
     }
 }
 
@@ -137,12 +147,13 @@ fn a_compact_rule_and_its_writing_decide_alike() {
 fn creations(kind: Kind, cases: usize) -> BTreeMap<String, usize> {
     let mut counts = BTreeMap::new();
     for line in Generator::only(SEED, kind).take(cases).flat_map(|made| made.case.lines()) {
-        let Line::Command { mut image, command: bytes, state, mut response, .. } = line else {
+        let Line::Command { mut image, mut pool, command: bytes, state, mut response } = line
+        else {
             continue;
         };
         let Some((tag, rule)) = rule_sent(&bytes).filter(|_| sound(&image)) else { continue };
         let version = image[4];
-        let word = command(&mut image, &bytes, &mut response, &state).word;
+        let word = command(&mut image, &mut pool, &bytes, &mut response, &state).word;
         let taken = match word {
             words::SUCCESS => "made",
             words::WRONG_DATA => "refused",
@@ -163,12 +174,16 @@ fn creations(kind: Kind, cases: usize) -> BTreeMap<String, usize> {
     counts
 }
 
-const MADE: [&str; 10] = [
+const MADE: [&str; 14] = [
     "v1 8C made",
     "v2 8C made",
     "v2 AB made",
     "v2 8C long made",
     "v2 AB long made",
+    "v3 8C made",
+    "v3 AB made",
+    "v3 8C long made",
+    "v3 AB long made",
     "depth 0 made",
     "depth 1 made",
     "depth 2 made",
@@ -180,9 +195,11 @@ const MADE: [&str; 10] = [
 fn templates_have_rules_of_both_forms() {
     let counts = creations(Kind::Template, 3000);
     each_at_least(&counts, 10, &MADE);
-    let refused = ["v1 AB refused", "v1 AB long refused", "v2 AB refused", "v2 AB long refused"];
-    each_at_least(&counts, 10, &refused);
-    each_at_least(&counts, 3, &["v1 8C long refused", "v2 8C long refused"]);
+    for version in 1..=3 {
+        let refused = ["AB refused", "AB long refused", "8C long refused"];
+        let refused = refused.map(|what| format!("v{version} {what}"));
+        each_at_least(&counts, 10, &refused.each_ref().map(String::as_str));
+    }
 }
 
 #[test]
@@ -206,19 +223,22 @@ fn makers_are_told_versions_and_forms_known_and_unknown() {
         let shown = format!("{} {} {answer}", known(version, 4), known(form, 3));
         *counts.entry(shown).or_insert(0) += 1;
     }
-    let good = ["1 0 0", "2 0 0", "2 1 0", "1 0 2", "1 0 3", "1 0 4", "2 0 4", "2 1 2", "2 1 3"];
+    let good = [
+        "1 0 0", "2 0 0", "2 1 0", "3 0 0", "3 1 0", "3 0 4", "3 1 2", "3 1 3", "1 0 2", "1 0 3",
+        "1 0 4", "2 0 4", "2 1 2", "2 1 3",
+    ];
     each_at_least(&counts, 10, &good);
-    let bad = ["1 1 4", "2 1 4", "2 2 4", "2 3 4", "2 other 4", "1 2 4", "0 0 2", "3 0 2", "4 1 2"];
+    let bad = ["1 1 4", "2 1 4", "3 1 4", "2 2 4", "3 3 4", "2 other 4", "1 2 4", "0 0 2", "4 1 2"];
     each_at_least(&counts, 3, &bad);
     each_at_least(&counts, 10, &["other 0 2", "other 1 2"]);
 }
 
-/// Byte 3 and the last bytes, on both versions and both forms.
+/// Byte 3 and the last bytes, on all versions and both forms.
 #[test]
 fn damage_at_the_bytes_of_the_ticket() {
     let mut random = Random::new(SEED + 5);
     let mut unsound = BTreeMap::new();
-    for number in 0..1200 {
+    for number in 0..1800 {
         let field = Field::OF_THE_RULE[number % 4];
         let card = some_card(&mut random);
         let image = damaged(&mut random, &card, field);
@@ -229,13 +249,14 @@ fn damage_at_the_bytes_of_the_ticket() {
         *unsound.entry(name).or_insert(0) += usize::from(!sound(&image));
     }
     for field in ["ByteThree", "Tail", "Rule", "RulePadding"] {
-        let cards = ["v1 form 0", "v2 form 0", "v2 form 1"].map(|card| format!("{field} {card}"));
+        let cards = ["v1 form 0", "v2 form 0", "v2 form 1", "v3 form 0", "v3 form 1"];
+        let cards = cards.map(|card| format!("{field} {card}"));
         each_at_least(&unsound, 20, &cards.each_ref().map(String::as_str));
     }
 }
 
 #[test]
-fn every_theme_is_played_on_both_versions() {
+fn every_theme_is_played_on_all_versions() {
     let mut random = Random::new(SEED + 6);
     for theme in Theme::ALL {
         for version in Version::ALL {
@@ -244,26 +265,26 @@ fn every_theme_is_played_on_both_versions() {
             let (mut all, mut done) = (0, 0);
             for _ in 0..25 {
                 history_on(&mut random, edition, theme, 12, 25).play(|_, _, outcome, after| {
-                    let card = sound_card(after).expect("it stays sound");
+                    let card = sound_card(&after.image).expect("it stays sound");
                     assert_eq!(card.edition, edition);
                     forms.extend(card.used_slots().map(|slot| card.record(slot).form.number()));
                     all += 1;
                     done += usize::from(words::is_success(outcome.word));
                 });
             }
-            assert_eq!(forms.contains(&1), version == Version::Two, "{theme:?} on {version:?}");
+            assert_eq!(forms.contains(&1), version != Version::One, "{theme:?} on {version:?}");
             assert!(done * 5 > all, "{theme:?} on {version:?}: {done} of {all}");
         }
     }
 }
 
 /// A file is made again on a card of its own version, and at times on one of
-/// the other, where its rule is fit as well.
+/// another, where its rule is fit as well.
 #[test]
-fn files_are_made_again_on_both_versions() {
+fn files_are_made_again_on_all_versions() {
     let mut counts = BTreeMap::new();
     for kind in [Kind::FilesAgain, Kind::TreeAgain] {
-        for made in Generator::only(SEED, kind).take(300) {
+        for made in Generator::only(SEED, kind).take(400) {
             let Case::Again(again) = made.case else { panic!("not made again: {kind:?}") };
             for line in again.lines() {
                 let Line::Make { version, .. } = line else { continue };
@@ -272,8 +293,11 @@ fn files_are_made_again_on_both_versions() {
             }
         }
     }
-    each_at_least(&counts, 100, &["filesagain of 1 on 1", "filesagain of 2 on 2"]);
-    each_at_least(&counts, 20, &["filesagain of 1 on 2", "filesagain of 2 on 1"]);
-    each_at_least(&counts, 100, &["treeagain of 1 on 1", "treeagain of 2 on 2"]);
-    assert_eq!(counts.len(), 6, "a tree keeps its version: {counts:?}");
+    for (one, other) in [1, 2, 3].into_iter().flat_map(|one| [1, 2, 3].map(|other| (one, other))) {
+        let fewest = if one == other { 100 } else { 5 };
+        each_at_least(&counts, fewest, &[&format!("filesagain of {one} on {other}")]);
+    }
+    let trees = ["treeagain of 1 on 1", "treeagain of 2 on 2", "treeagain of 3 on 3"];
+    each_at_least(&counts, 80, &trees);
+    assert_eq!(counts.len(), 12, "a tree keeps its version: {counts:?}");
 }

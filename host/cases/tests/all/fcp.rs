@@ -26,18 +26,20 @@ struct Shown {
 }
 
 impl Shown {
-    fn of(image: &[u8], bytes: &[u8], lent: &[u8], state: &State) -> Shown {
+    fn of(image: &[u8], pool: &[u8], bytes: &[u8], lent: &[u8], state: &State) -> Shown {
         let mut long = vec![0; fcp::MOST_BYTES];
         let mut after = image.to_vec();
-        let roomy = command(&mut after, bytes, &mut long, state);
+        let roomy = command(&mut after, &mut pool.to_vec(), bytes, &mut long, state);
         let selected = sound_card(&after)
             .map(|card| card.record(card.current_ef.unwrap_or(card.current_df)).clone());
         long.truncate(roomy.data);
+        let (mut same, mut pool) = (image.to_vec(), pool.to_vec());
+        let outcome = command(&mut same, &mut pool, bytes, &mut lent.to_vec(), state);
         Shown {
             image: image.to_vec(),
             command: bytes.to_vec(),
             lent: lent.to_vec(),
-            outcome: command(&mut image.to_vec(), bytes, &mut lent.to_vec(), state),
+            outcome,
             roomy,
             data: long,
             selected,
@@ -147,8 +149,8 @@ fn kind_of(file: &Record) -> &'static str {
 fn counts(kind: Kind, cases: usize) -> BTreeMap<String, usize> {
     let mut counts = BTreeMap::new();
     for line in Generator::only(SEED, kind).take(cases).flat_map(|made| made.case.lines()) {
-        let Line::Command { image, command: bytes, state, response, .. } = line else { continue };
-        let shown = Shown::of(&image, &bytes, &response, &state);
+        let Line::Command { image, pool, command: bytes, state, response } = line else { continue };
+        let shown = Shown::of(&image, &pool, &bytes, &response, &state);
         let mut found = shown.of_templates();
         found.extend(shown.of_misses().into_iter().map(str::to_string));
         for name in found {

@@ -6,7 +6,7 @@ use std::collections::BTreeSet;
 use crate::common::say;
 use cases::history::history_of;
 use cases::themes::Theme;
-use cases::{Case, Generator, History, Kind, Random, Step};
+use cases::{Case, Generator, History, Kind, Lent, Random, Step};
 use model::ledger::{announced, current_df_slot, Ledger};
 use model::record::charge;
 use model::soundness::sound_card;
@@ -41,13 +41,13 @@ fn more_than_half_of_all_commands_succeed() {
 /// succeeded, how many were refused for memory, how many met the exact room
 /// and how many asked for one more.
 fn audit(history: &History) -> [u64; 4] {
-    let mut image = history.fresh_image();
+    let Lent { mut image, mut pool } = history.fresh();
     let mut ledger = Ledger::open(history.total);
     let mut counts = [0; 4];
     for step in &history.steps {
         let before = current_df_slot(&image);
         let mut response = step.response.clone();
-        let word = command(&mut image, &step.command, &mut response, &step.state).word;
+        let word = command(&mut image, &mut pool, &step.command, &mut response, &step.state).word;
         assert!(ledger.agrees(&step.command, word, before), "{step:02X?} answered {word:04X}");
         if step.command.get(1) == Some(&0xE0) {
             let room = ledger.room(before).expect("the ledger knows the current directory");
@@ -124,8 +124,8 @@ fn the_wanted_situations_occur() {
     for history in histories() {
         let mut deleted = BTreeSet::new();
         history.play(|before, step, outcome, after| {
-            let card = sound_card(before).expect("sound before");
-            let result = sound_card(after).expect("sound after");
+            let card = sound_card(&before.image).expect("sound before");
+            let result = sound_card(&after.image).expect("sound after");
             seen.extend(situations(&card, step, outcome.word, &result, &mut deleted));
         });
     }
@@ -151,7 +151,8 @@ fn every_life_cycle_is_left_by_every_way() {
             if ![0x44, 0x04, 0xE8, 0xE6].contains(&ins) || outcome.word != words::SUCCESS {
                 return;
             }
-            let changed = before.iter().zip(after).find(|(old, new)| old != new);
+            let mut both = before.image.iter().zip(&after.image);
+            let changed = both.find(|(old, new)| old != new);
             changes.extend(changed.map(|(&old, &new)| (ins, old, new)));
         });
     }

@@ -71,7 +71,13 @@ fn asked(bytes: &[u8], before: &Card, after: &Card) -> Option<(&'static str, usi
 fn succeeds_with(card: &Card, slot: usize, byte: u8, bytes: &[u8], state: &State) -> bool {
     let mut other = card.clone();
     other.set_life_cycle(slot, byte);
-    command(&mut other.encode(), bytes, &mut [], state).word == words::SUCCESS
+    let (mut image, mut pool) = (other.encode(), pool_for(card));
+    command(&mut image, &mut pool, bytes, &mut [], state).word == words::SUCCESS
+}
+
+/// A pool of the right length.
+fn pool_for(card: &Card) -> Vec<u8> {
+    vec![0; card.record(0).size as usize]
 }
 
 /// The events of one command on a sound image. 6985 has many causes; it counts
@@ -79,7 +85,8 @@ fn succeeds_with(card: &Card, slot: usize, byte: u8, bytes: &[u8], state: &State
 fn events(image: &[u8], bytes: &[u8], state: &State) -> Vec<Event> {
     let before = sound_card(image).expect("sound before");
     let mut image = image.to_vec();
-    let word = command(&mut image, bytes, &mut [0; 72], state).word;
+    let mut pool = pool_for(&before);
+    let word = command(&mut image, &mut pool, bytes, &mut [0; 72], state).word;
     let after = sound_card(&image).expect("sound after");
     let Some((what, slot, harmless)) = asked(bytes, &before, &after) else { return Vec::new() };
     let told = words::is_success(word)
@@ -184,9 +191,10 @@ fn damaged_cases_hold_bad_life_cycles() {
     for kind in [Kind::DamagedCommand, Kind::DamagedReport] {
         for made in Generator::only(SEED, kind).take(4000) {
             let (image, answer) = match made.case {
-                Case::OneCommand { image, command: bytes, mut response, state } => {
-                    let outcome = command(&mut image.clone(), &bytes, &mut response, &state);
-                    (image, outcome.answer)
+                Case::OneCommand { image, mut pool, command: bytes, mut response, state } => {
+                    let mut after = image.clone();
+                    let told = command(&mut after, &mut pool, &bytes, &mut response, &state);
+                    (image, told.answer)
                 }
                 Case::Report { image } => (image.clone(), report(&image).0),
                 other => panic!("neither a command nor a report: {other:?}"),

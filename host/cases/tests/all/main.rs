@@ -4,6 +4,7 @@
 #![forbid(unsafe_code)]
 
 mod again;
+mod bodies;
 mod common;
 mod coverage;
 mod determinism;
@@ -14,4 +15,7 @@ mod histories;
 mod images;
 mod life_cycles;
 mod near;
+mod pools;
 mod program;
+mod shown;
+mod starts;

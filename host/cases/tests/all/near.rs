@@ -1,12 +1,15 @@
 //! Every near-miss in turn: the good commands work, and each near-miss is
 //! refused with the word of the step that it misses.
 
+use std::collections::BTreeMap;
+
 use cases::near::{
-    card, card_of_version_two, create_expanded, every_near_miss, good_commands, near_misses_of,
-    near_misses_of_the_rule, RESPONSE,
+    card, card_of_version_two, card_with_body, create_expanded, every_near_miss, good_commands,
+    good_for_body, near_misses_of, near_misses_of_the_rule, RESPONSE,
 };
-use cases::Case;
+use cases::{editions, Case, Lent};
 use model::command::Instruction;
+use model::edition::Edition;
 use model::{command, sound, words, State, Word};
 
 /// The word of a command on the card of the near-misses.
@@ -15,7 +18,7 @@ fn word(bytes: &[u8]) -> Word {
 }
 
 fn word_on(mut image: Vec<u8>, bytes: &[u8]) -> Word {
-    let outcome = command(&mut image, bytes, &mut RESPONSE.clone(), &State::FULL);
+    let outcome = command(&mut image, &mut [], bytes, &mut RESPONSE.clone(), &State::FULL);
     assert_eq!(outcome.answer, 0);
     outcome.word
 }
@@ -30,6 +33,12 @@ fn the_good_commands_pass_the_steps_a_to_j() {
     assert_eq!(given, wanted);
 }
 
+/// The INS bytes that cards of an edition know.
+fn known(edition: Edition) -> impl Iterator<Item = u8> {
+    let of_edition = move |(_, one): &(u8, Instruction)| one.is_known(edition);
+    Instruction::ALL.into_iter().filter(of_edition).map(|(ins, _)| ins)
+}
+
 fn tells(lc: u8, command: &[u8]) -> bool {
     lc > 0 && command.len() == 5 + usize::from(lc)
 }
@@ -42,7 +51,7 @@ fn expected(good: &[u8], miss: &[u8]) -> Option<Word> {
     match (0..good.len().min(miss.len())).find(|&place| good[place] != miss[place]) {
         Some(0) if miss[0] <= 3 => Some(words::CONDITIONS_NOT_SATISFIED),
         Some(0) => Some(words::UNKNOWN_CLASS),
-        Some(1) if Instruction::ALL.iter().all(|(ins, _)| *ins != miss[1]) => {
+        Some(1) if known(Edition::BASE).all(|ins| ins != miss[1]) => {
             Some(words::UNKNOWN_INSTRUCTION)
         }
         // Another instruction: it has its own parameters and lengths.
@@ -93,9 +102,65 @@ fn near_misses_of_the_rule_are_refused_as_data() {
     assert_eq!(refused.len(), 30 * 255 - done.len());
 }
 
+/// The word of a near-miss of a READ or an UPDATE, from the first thing in which
+/// it differs; the EF has 9 bytes or 3 records of 3.
+fn expected_of_body(good: &[u8], miss: &[u8], records: bool) -> Option<Word> {
+    let place = (0..good.len().min(miss.len())).find(|&place| good[place] != miss[place]);
+    let start = u16::from_be_bytes([*miss.get(2).unwrap_or(&0), *miss.get(3).unwrap_or(&0)]);
+    let reads = good.len() == 5;
+    Some(match (place, records) {
+        _ if miss.len() < 4 => words::WRONG_LENGTH,
+        (Some(0), _) if miss[0] <= 3 => words::CONDITIONS_NOT_SATISFIED,
+        (Some(0), _) => words::UNKNOWN_CLASS,
+        (Some(1), _) if known(editions::NEWEST).all(|ins| ins != miss[1]) => {
+            words::UNKNOWN_INSTRUCTION
+        }
+        (Some(1), _) => return None,
+        (Some(2), true) if (1..=3).contains(&miss[2]) => words::SUCCESS,
+        (Some(2), true) => words::RECORD_NOT_FOUND,
+        (Some(3), true) => words::WRONG_PARAMETERS,
+        (Some(2 | 3), false) if start >= 9 => words::WRONG_PARAMETERS,
+        (Some(2 | 3), false) if start + 4 > 9 => words::WRONG_LENGTH,
+        (Some(2 | 3), false) => words::SUCCESS,
+        // Le of a READ that the body has; an UPDATE of 5 to 7 bytes from 2 on.
+        (Some(4), false) if reads && miss.len() == 5 && (1..=7).contains(&miss[4]) => {
+            words::SUCCESS
+        }
+        (Some(4), false) if !reads && tells(miss[4], miss) && miss[4] <= 7 => words::SUCCESS,
+        _ => words::WRONG_LENGTH,
+    })
+}
+
+#[test]
+fn each_near_miss_of_read_and_update_gives_its_word() {
+    let mut counts = BTreeMap::new();
+    for records in [false, true] {
+        let lent = card_with_body(records);
+        assert!(sound(&lent.image));
+        for good in good_for_body(records) {
+            let word = |bytes: &[u8]| {
+                let (mut lent, mut response) = (lent.clone(), RESPONSE);
+                let Lent { image, pool } = &mut lent;
+                command(image, pool, bytes, &mut response, &State::FULL).word
+            };
+            assert_eq!(word(&good), words::SUCCESS);
+            for miss in near_misses_of(&good) {
+                let expected = expected_of_body(&good, &miss, records);
+                *counts.entry(expected).or_insert(0) += 1;
+                assert_eq!(word(&miss), expected.unwrap_or(word(&miss)), "{miss:02X?}");
+            }
+        }
+    }
+    assert_eq!(counts[&None], 4 * 11, "each turned into the eleven other instructions");
+    assert!(counts[&Some(words::SUCCESS)] > 20 && counts.len() == 8, "{counts:04X?}");
+}
+
 #[test]
 fn they_are_all_given_as_cases() {
-    let count = good_commands().iter().map(|good| near_misses_of(good).len()).sum::<usize>();
-    assert_eq!(every_near_miss().count(), count + near_misses_of_the_rule().len());
+    let misses = |good: &[Vec<u8>]| good.iter().map(|one| near_misses_of(one).len()).sum::<usize>();
+    let of_bodies: usize =
+        [false, true].map(|records| misses(&good_for_body(records))).iter().sum();
+    let all = misses(&good_commands()) + near_misses_of_the_rule().len() + of_bodies;
+    assert_eq!(every_near_miss().count(), all);
     assert!(every_near_miss().all(|case| matches!(case, Case::OneCommand { .. })));
 }

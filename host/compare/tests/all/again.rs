@@ -9,8 +9,8 @@ use compare::shrink::smallest;
 use compare::{Model, Pair, Proved, Subject, Tally};
 
 const SEED: u64 = 20_261_117;
-const CARDS: usize = 500;
-const TREES: usize = 300;
+const CARDS: usize = 800;
+const TREES: usize = 450;
 
 /// The cases of a kind.
 fn cases_of(kind: Kind, count: usize) -> impl Iterator<Item = Again> {

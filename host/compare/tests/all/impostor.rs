@@ -7,8 +7,10 @@ use model::lines::Case as Line;
 use model::vectors::case_lines;
 use model::State;
 
-/// How many cases are tried.
+/// How many cases are tried: of a card that may be right, and of one that is
+/// wrong, where most often the first few will do.
 const CASES: usize = 1500;
+const MOST_CASES: usize = 3000;
 
 /// Tag and value.
 pub type Object = (u8, Vec<u8>);
@@ -16,6 +18,7 @@ pub type Object = (u8, Vec<u8>);
 /// What a command came with.
 pub struct Came<'a> {
     pub image: &'a [u8],
+    pub pool: &'a [u8],
     pub command: &'a [u8],
     pub response: &'a [u8],
     pub state: &'a State,
@@ -24,7 +27,49 @@ pub struct Came<'a> {
 /// What the right card left, to be spoilt.
 pub struct Left<'a> {
     pub image: &'a mut [u8],
+    pub pool: &'a mut [u8],
     pub response: &'a mut [u8],
+}
+
+impl Came<'_> {
+    /// What the right card gives for another command, with everything that it
+    /// leaves.
+    pub fn given(&self, command: &[u8]) -> After {
+        self.given_on(self.image, command)
+    }
+
+    /// The same on another image.
+    pub fn given_on(&self, image: &[u8], command: &[u8]) -> After {
+        let [mut image, mut pool] = [image, self.pool].map(<[u8]>::to_vec);
+        let mut response = self.response.to_vec();
+        let told = Model.command(&mut image, &mut pool, command, &mut response, self.state);
+        After { told, image, pool, response }
+    }
+}
+
+/// What a command left, and what it told.
+pub struct After {
+    pub told: Told,
+    pub image: Vec<u8>,
+    pub pool: Vec<u8>,
+    pub response: Vec<u8>,
+}
+
+impl Left<'_> {
+    /// Everything as it came.
+    pub fn restore(&mut self, came: &Came) {
+        self.image.copy_from_slice(came.image);
+        self.pool.copy_from_slice(came.pool);
+        self.response.copy_from_slice(came.response);
+    }
+
+    /// What another command left; gives what it told.
+    pub fn replace(&mut self, other: &After) -> Told {
+        self.image.copy_from_slice(&other.image);
+        self.pool.copy_from_slice(&other.pool);
+        self.response.copy_from_slice(&other.response);
+        other.told
+    }
 }
 
 /// What a wrong card does after the right one has answered.
@@ -51,14 +96,15 @@ impl Subject for Impostor {
     fn command(
         &self,
         image: &mut [u8],
+        pool: &mut [u8],
         command: &[u8],
         response: &mut [u8],
         state: &State,
     ) -> Told {
-        let (before, lent) = (image.to_vec(), response.to_vec());
-        let told = Model.command(image, command, response, state);
-        let came = Came { image: &before, command, response: &lent, state };
-        (self.command)(&came, &mut Left { image, response }, told)
+        let [before, held, lent] = [&*image, &*pool, &*response].map(<[u8]>::to_vec);
+        let told = Model.command(image, pool, command, response, state);
+        let came = Came { image: &before, pool: &held, command, response: &lent, state };
+        (self.command)(&came, &mut Left { image, pool, response }, told)
     }
 
     fn report(&self, image: &[u8]) -> (u32, [u32; 4]) {
@@ -80,8 +126,15 @@ impl Subject for Maker {
         Model.make(buffer, version, total, form, rule)
     }
 
-    fn command(&self, image: &mut [u8], command: &[u8], lent: &mut [u8], state: &State) -> Told {
-        Model.command(image, command, lent, state)
+    fn command(
+        &self,
+        image: &mut [u8],
+        pool: &mut [u8],
+        command: &[u8],
+        response: &mut [u8],
+        state: &State,
+    ) -> Told {
+        Model.command(image, pool, command, response, state)
     }
 
     fn report(&self, image: &[u8]) -> (u32, [u32; 4]) {
@@ -100,9 +153,13 @@ pub fn word(word: u16) -> Told {
 
 /// The smallest disagreement that the first cases of a seed show.
 pub fn found(pair: Pair, kind: Option<Kind>) -> Option<Disagreement> {
+    found_among(CASES, pair, kind)
+}
+
+fn found_among(count: usize, pair: Pair, kind: Option<Kind>) -> Option<Disagreement> {
     let all = kind.map_or(Generator::new(9), |kind| Generator::only(9, kind));
     let mut tally = Tally::default();
-    let first = all.take(CASES).find_map(|made| check_case(pair, &made.case, &mut tally).err())?;
+    let first = all.take(count).find_map(|made| check_case(pair, &made.case, &mut tally).err())?;
     Some(smallest(pair, first))
 }
 
@@ -110,7 +167,8 @@ pub fn found(pair: Pair, kind: Option<Kind>) -> Option<Disagreement> {
 /// read again.
 pub fn found_line(title: &str, impostor: &Impostor, kind: Option<Kind>) -> Line {
     let pair = Pair { card: impostor, model: &Model };
-    let found = found(pair, kind).unwrap_or_else(|| panic!("not found: {title}"));
+    let found = found_among(MOST_CASES, pair, kind);
+    let found = found.unwrap_or_else(|| panic!("not found: {title}, {kind:?}"));
     let told = found.to_string();
     let again: Vec<_> = case_lines(&told).map(Line::parse).collect();
     match found {
@@ -133,10 +191,18 @@ pub fn found_small(title: &str, command: Spoil) {
     assert!(small, "{title}: {}", line.line());
 }
 
+/// It is found among cases of a kind, and told on a card of at most so many
+/// slots.
+pub fn found_small_in(title: &str, command: Spoil, kind: Kind, slots: usize) {
+    let line = found_line(title, &Impostor { command, ..HONEST }, Some(kind));
+    let Line::Command { image, pool, .. } = &line else { panic!("{title}: {}", line.line()) };
+    let small = image.len() <= 16 + 64 * slots && pool.len() <= 64 * slots;
+    assert!(small, "{title}: {} bytes: {}", image.len(), line.line());
+}
+
 /// Answer 5, with everything as it came.
 pub fn too_short(came: &Came, left: &mut Left) -> Told {
-    left.image.copy_from_slice(came.image);
-    left.response.copy_from_slice(came.response);
+    left.restore(came);
     Told { answer: 5, word: 0, numbers: [0; 3] }
 }
 
@@ -161,7 +227,7 @@ pub fn respelled(
     change: impl Fn(&mut Vec<Object>),
 ) -> Told {
     let data = told.numbers[0] as usize;
-    if data == 0 {
+    if data == 0 || came.command.get(1) != Some(&0xA4) {
         return told;
     }
     let mut objects = objects_of(&left.response[..data]);

@@ -15,8 +15,7 @@ fn the_honest_card_is_not_accused() {
 /// Wrong commands, each with what is wrong about it.
 const SPOILS: [(&str, Spoil); 6] = [
     ("refuses always", |came, left, _| {
-        left.image.copy_from_slice(came.image);
-        left.response.copy_from_slice(came.response);
+        left.restore(came);
         word(0x6985)
     }),
     ("answers 9000 always", |_, _, told| Told { word: 0x9000, ..told }),

@@ -6,12 +6,17 @@ mod again;
 mod generated;
 mod impostor;
 mod impostors;
+mod large;
 mod ledger;
+mod places;
 mod program;
 mod quirks;
 mod smaller;
 mod vectors;
 mod wrong_answers;
+mod wrong_bodies;
+mod wrong_places;
+mod wrong_pools;
 mod wrong_rules;
 mod wrong_templates;
 

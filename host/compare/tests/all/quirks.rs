@@ -3,8 +3,8 @@
 
 use crate::impostor::{Came, Left, Object};
 use cases::template::{create_command, template};
-use compare::{Model, Subject, Told};
-use model::edition::Version;
+use compare::Told;
+use model::edition::{Edition, Version};
 use model::rule::{Condition, Form, Group, Right};
 use model::soundness::sound_card;
 use model::{compact, objects, Card, Record, State};
@@ -18,8 +18,8 @@ pub struct Quirks {
     pub fewest: usize,
     /// Fewest SC_DOs behind an AM_DO.
     pub fewest_of_a_row: usize,
-    /// Most bytes of a rule.
-    pub longest: usize,
+    /// So many bytes more than the version allows may a rule have.
+    pub more_bytes: usize,
     /// Whether an object may end behind the template that it is in.
     pub past_the_end: bool,
     /// Whether 90 and 97 may have a value.
@@ -45,7 +45,7 @@ pub const RIGHT: Quirks = Quirks {
     deepest: 4,
     fewest: 2,
     fewest_of_a_row: 1,
-    longest: 30,
+    more_bytes: 0,
     past_the_end: false,
     any_value: false,
     b8: false,
@@ -60,8 +60,9 @@ pub const RIGHT: Quirks = Quirks {
 impl Quirks {
     /// Whether the rule is fit for a record.
     pub fn fits(&self, version: Version, rule: &[u8]) -> bool {
-        let known = self.on_version_1 || version == Version::Two;
-        known && (1..=self.longest).contains(&rule.len()) && self.groups(rule).is_some()
+        let known = self.on_version_1 || version != Version::One;
+        let longest = Edition::of(version).longest_rule() + self.more_bytes;
+        known && (1..=longest).contains(&rule.len()) && self.groups(rule).is_some()
     }
 
     /// The groups of a rule.
@@ -158,20 +159,16 @@ pub fn lenient(came: &Came, left: &mut Left, told: Told, quirks: &Quirks) -> Tol
         let rule = sent.iter_mut().find(|(tag, _)| *tag == 0xAB)?;
         let wrong = std::mem::replace(rule, (0x8C, cases::compact::open())).1;
         let slot = card.lowest_free_slot().filter(|_| quirks.fits(card.edition.version, &wrong))?;
-        let (mut image, mut lent) = (came.image.to_vec(), came.response.to_vec());
-        let command = create_command(&template(&sent));
-        let told = Model.command(&mut image, &command, &mut lent, came.state);
-        let record = image.get_mut(16 + 64 * slot..80 + 64 * slot)?;
-        if told.word == 0x9000 {
+        let mut given = came.given(&create_command(&template(&sent)));
+        let record = given.image.get_mut(16 + 64 * slot..80 + 64 * slot)?;
+        if given.told.word == 0x9000 {
             record[3] = 1;
             record[33] = wrong.len() as u8;
             record[34..].iter_mut().zip(wrong).for_each(|(place, byte)| *place = byte);
         }
-        Some((told, image)).filter(|(told, _)| told.word != 0x6A80)
+        Some(given).filter(|given| given.told.word != 0x6A80)
     };
-    let Some((told, image)) = taken() else { return told };
-    left.image.copy_from_slice(&image);
-    told
+    taken().map_or(told, |given| left.replace(&given))
 }
 
 /// A card on which the expanded rules decide by these quirks.
@@ -186,9 +183,9 @@ pub fn deciding(came: &Came, left: &mut Left, told: Told, quirks: &Quirks) -> To
         (record.form, record.rule) = (Form::Compact, [&[0x7F][..], &bytes].concat());
         assert!(compact::groups(&record.rule).is_some());
     });
-    let mut image = read.encode();
-    let told = Model.command(&mut image, came.command, &mut came.response.to_vec(), came.state);
-    let Some(mut after) = Card::decode(&image) else { return told };
+    let given = came.given_on(&read.encode(), came.command);
+    let told = left.replace(&given);
+    let Some(mut after) = Card::decode(&given.image) else { return told };
     for (slot, old) in card.records.iter().enumerate().filter(|(_, old)| is_expanded(old)) {
         if after.record(slot).is_used() {
             let (form, rule) = (old.form, old.rule.clone());

@@ -5,9 +5,12 @@ use cases::damage::{damaged, Field};
 use cases::images::sound_image;
 use cases::random::Random;
 use cases::worst;
+use compare::laid::{laid, pool_for, Laying};
 use compare::smaller::{cut, freed, lifted, packed, short_records, slots_of, tightened};
 use model::soundness::{sound, sound_card};
-use model::Card;
+use model::{bodies, Card};
+
+const LAYINGS: [Laying; 2] = [Laying::High, Laying::Scaled];
 
 /// Sound images of many shapes, the worst cards among them.
 fn images() -> impl Iterator<Item = Vec<u8>> {
@@ -30,6 +33,7 @@ fn packing_keeps_an_image_sound() {
         let charged = decoded(&image).charged(0);
         for smaller in [0, 1].into_iter().filter_map(|spare| packed(&image, spare)) {
             let fits = charged <= 64 * (slots_of(&smaller) as u64 - 1);
+            let smaller = laid(&image, smaller.clone(), Laying::High).unwrap_or(smaller);
             assert_eq!(sound(&smaller), fits, "{smaller:02X?}");
             assert!(smaller.len() < image.len());
             *(if fits { &mut kept } else { &mut cut }) += 1;
@@ -42,15 +46,48 @@ fn packing_keeps_an_image_sound() {
 fn tightening_keeps_an_image_sound() {
     let mut made = 0;
     for image in images() {
-        for room in [0, 1, 500] {
+        for (room, laying) in [0, 1, 500].into_iter().flat_map(|room| LAYINGS.map(|l| (room, l))) {
             let Some(smaller) = tightened(&image, room) else { continue };
+            let smaller = laid(&image, smaller, laying).expect("it has room for its bodies");
             let card = sound_card(&smaller).unwrap_or_else(|| panic!("{smaller:02X?}"));
             assert!(card.room(card.current_df) >= u64::from(room));
             assert_eq!(card.used_slots().count(), decoded(&image).used_slots().count());
             made += 1;
         }
     }
-    assert!(made > 200, "{made}");
+    assert!(made > 400, "{made}");
+}
+
+/// Each body holds what it held, as far as it is as long as it was; a pool that
+/// was wrong by some bytes is wrong by as many.
+#[test]
+fn a_smaller_card_keeps_what_its_bodies_hold() {
+    let (mut moved, mut random) = (0, Random::new(13));
+    for image in images().filter(|image| image.len() < 4000) {
+        let (before, length) = (decoded(&image), card::pool_length(&image));
+        for (room, laying) in [0, 200].into_iter().flat_map(|room| LAYINGS.map(|l| (room, l))) {
+            let Some(smaller) = tightened(&image, room) else { continue };
+            let smaller = laid(&image, smaller, laying).expect("it has room for its bodies");
+            let after = decoded(&smaller);
+            let pool = random.bytes(length.unwrap_or(9) + room as usize / 100);
+            let fitted = pool_for(&image, &pool, &smaller);
+            let Some((was, is)) = length.zip(card::pool_length(&smaller)) else {
+                assert_eq!(fitted, pool, "there are no bodies");
+                continue;
+            };
+            assert_eq!(fitted.len() + was, pool.len() + is);
+            let files = |card: &Card| -> Vec<_> {
+                card.used_slots().map(|slot| card.record(slot).clone()).collect()
+            };
+            for (old, new) in files(&before).iter().zip(files(&after)).filter(|(f, _)| f.is_ef()) {
+                let (old, new) = (bodies::body(old), bodies::body(&new));
+                moved += usize::from(old.start != new.start);
+                let held = &pool[old.start..old.start + new.len()];
+                assert_eq!(fitted[new], *held, "{smaller:02X?}");
+            }
+        }
+    }
+    assert!(moved > 50, "{moved}");
 }
 
 #[test]
@@ -134,7 +171,9 @@ fn any_bytes_give_an_image_or_nothing() {
         ];
         for image in all.into_iter().flatten() {
             assert!(image.len() <= bytes.len());
-            made += 1;
+            let pool = pool_for(&bytes, &[0xC3; 300], &image);
+            assert!(pool.len() < 300 + (1 << 16));
+            made += LAYINGS.map(|laying| laid(&bytes, image.clone(), laying)).len();
         }
     }
     assert!(made > 5_000, "{made}");

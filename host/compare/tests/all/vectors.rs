@@ -65,11 +65,12 @@ impl Subject for OneMore {
     fn command(
         &self,
         image: &mut [u8],
+        pool: &mut [u8],
         command: &[u8],
         response: &mut [u8],
         state: &State,
     ) -> Told {
-        Proved.command(image, command, response, state)
+        Proved.command(image, pool, command, response, state)
     }
 
     fn report(&self, image: &[u8]) -> (u32, [u32; 4]) {

@@ -2,18 +2,18 @@
 //! order, lengths, and templates that CREATE takes all the same.
 
 use crate::impostor::{
-    found, found_line, found_small, respelled, too_short, with_value, word, Came, Impostor, Spoil,
-    HONEST,
+    found, found_line, found_small, respelled, too_short, with_value, word, After, Came, Impostor,
+    Spoil, HONEST,
 };
 use cases::Kind;
-use compare::{Disagreement, Model, Pair, Subject, Told};
+use compare::{Disagreement, Pair, Told};
 use model::lines::Case as Line;
 
 /// What the right card would give if the buffer were long enough: the image,
 /// what it tells, and the data.
 fn with_room(came: &Came) -> (Vec<u8>, Told, Vec<u8>) {
-    let (mut image, mut response) = (came.image.to_vec(), vec![0; 129]);
-    let told = Model.command(&mut image, came.command, &mut response, came.state);
+    let After { told, image, mut response, .. } =
+        Came { response: &[0; 256], ..*came }.given(came.command);
     response.truncate(told.numbers[0] as usize);
     (image, told, response)
 }
@@ -106,8 +106,7 @@ const ANSWERS: [(&str, Spoil); 16] = [
     }),
     ("takes any Le", |came, left, told| match came.command {
         [0, 0xA4, 0, 0x04, 2, high, low, _] if told.word == 0x6700 => {
-            let good = [0, 0xA4, 0, 0x04, 2, *high, *low, 0];
-            Model.command(left.image, &good, left.response, came.state)
+            left.replace(&came.given(&[0, 0xA4, 0, 0x04, 2, *high, *low, 0]))
         }
         _ => told,
     }),

@@ -1,13 +1,14 @@
 //! Cards that get Ticket 3 of 02 wrong are found, and told in a small form: the
 //! grammar of expanded rules, how they decide, versions and forms.
 
-use crate::impostor::{found, found_line, respelled, Came, Impostor, Left, Maker, Spoil, HONEST};
+use crate::impostor::{
+    found, found_small_in, respelled, Came, Impostor, Left, Maker, Spoil, HONEST,
+};
 use crate::quirks::{deciding, lenient, objects_sent, Quirks, RIGHT};
 use cases::template::{create_command, template};
 use cases::{Kind, Random, Rule};
-use compare::{Model, Pair, Subject, Told};
+use compare::{Model, Pair, Told};
 use model::edition::{Edition, Version};
-use model::lines::Case as Line;
 use model::rule::{Form, Right};
 
 /// Cards that take rules that are none.
@@ -21,7 +22,7 @@ const LENIENT: [(&str, Spoil); 9] = [
     ("90 and 97 with a value", |c, l, t| lenient(c, l, t, &Quirks { any_value: true, ..RIGHT })),
     ("AM with b8", |c, l, t| lenient(c, l, t, &Quirks { b8: true, ..RIGHT })),
     ("an AM_DO without SC_DO", |c, l, t| lenient(c, l, t, &Quirks { fewest_of_a_row: 0, ..RIGHT })),
-    ("31 bytes", |c, l, t| lenient(c, l, t, &Quirks { longest: 31, ..RIGHT })),
+    ("one byte too many", |c, l, t| lenient(c, l, t, &Quirks { more_bytes: 1, ..RIGHT })),
     ("AB on version 1", |c, l, t| lenient(c, l, t, &Quirks { on_version_1: true, ..RIGHT })),
 ];
 
@@ -37,24 +38,22 @@ const DECIDING: [(&str, Spoil); 6] = [
 
 /// The card as it is with these bytes 3, and what the model makes of that.
 fn with_byte_3(came: &Came, left: &mut Left, byte: impl Fn(u8) -> u8) -> Told {
-    let (mut image, mut response) = (came.image.to_vec(), came.response.to_vec());
+    let mut image = came.image.to_vec();
     let places = || (19..came.image.len()).step_by(64);
     for at in places() {
         image[at] = byte(image[at]);
     }
-    let told = Model.command(&mut image, came.command, &mut response, came.state);
+    let mut given = came.given_on(&image, came.command);
     for at in places() {
         // A record that is neither new nor deleted.
-        if (image[at - 3] == 0) == (came.image[at - 3] == 0) {
-            image[at] = came.image[at];
+        if (given.image[at - 3] == 0) == (came.image[at - 3] == 0) {
+            given.image[at] = came.image[at];
         }
     }
-    if told.answer != 0 {
-        image.copy_from_slice(came.image);
+    if given.told.answer != 0 {
+        given.image.copy_from_slice(came.image);
     }
-    left.image.copy_from_slice(&image);
-    left.response.copy_from_slice(&response);
-    told
+    left.replace(&given)
 }
 
 /// Cards with versions, forms and templates that are wrong, and the kind of
@@ -66,8 +65,8 @@ const OTHERS: [(&str, Kind, Spoil); 7] = [
     }),
     ("version 1 is read as version 2", Kind::DamagedCommand, |came, left, told| {
         if told.answer == 1 && came.image.starts_with(b"UFT\x00\x01") {
-            left.image[4] = 2;
-            let told = Model.command(left.image, came.command, left.response, came.state);
+            let image = [&b"UFT\x00\x02"[..], &came.image[5..]].concat();
+            let told = left.replace(&came.given_on(&image, came.command));
             left.image[4] = 1;
             return told;
         }
@@ -99,22 +98,14 @@ const OTHERS: [(&str, Kind, Spoil); 7] = [
             Some(at) if told.word == 0x6A80 => drop(sent.remove(at)),
             _ => return told,
         }
-        let command = create_command(&template(&sent));
-        Model.command(left.image, &command, left.response, came.state)
+        left.replace(&came.given(&create_command(&template(&sent))))
     }),
 ];
-
-/// It is found among cases of a kind, and told on a small card.
-fn found_small_in(title: &str, command: Spoil, kind: Kind) {
-    let line = found_line(title, &Impostor { command, ..HONEST }, Some(kind));
-    let small = matches!(&line, Line::Command { image, .. } if image.len() <= 16 + 64 * 8);
-    assert!(small, "{title}: {}", line.line());
-}
 
 #[test]
 fn every_lenient_card_is_found() {
     for (title, command) in LENIENT {
-        found_small_in(title, command, Kind::Template);
+        found_small_in(title, command, Kind::Template, 8);
     }
 }
 
@@ -122,7 +113,7 @@ fn every_lenient_card_is_found() {
 fn every_wrong_decision_is_found() {
     for (title, command) in DECIDING {
         for kind in [Kind::Rule, Kind::SoundCommand, Kind::History] {
-            found_small_in(title, command, kind);
+            found_small_in(title, command, kind, 8);
         }
     }
 }
@@ -130,7 +121,7 @@ fn every_wrong_decision_is_found() {
 #[test]
 fn wrong_versions_forms_and_templates_are_found() {
     for (title, kind, command) in OTHERS {
-        found_small_in(title, command, kind);
+        found_small_in(title, command, kind, 8);
     }
 }
 
@@ -140,8 +131,8 @@ fn wrong_makers_are_found() {
         ("16 bits of the version", Maker(|version, form| (version & 0xFFFF, form))),
         ("8 bits of the form", Maker(|version, form| (version, form & 0xFF))),
         ("any form but 0 is 1", Maker(|version, form| (version, form.min(1)))),
-        ("version 3 is 2", Maker(|version, form| (if version == 3 { 2 } else { version }, form))),
-        ("form 1 on version 1", Maker(|version, form| (version.max(form + 1), form))),
+        ("version 4 is 3", Maker(|version, form| (if version == 4 { 3 } else { version }, form))),
+        ("form 1 on version 1", Maker(|v, form| (if form == 1 { v.max(2) } else { v }, form))),
     ];
     for (title, maker) in &makers {
         let pair = Pair { card: maker, model: &Model };
@@ -157,8 +148,10 @@ fn without_a_quirk_nothing_is_wrong() {
     for _ in 0..4000 {
         let Rule { form, bytes } = cases::rules::any(&mut random);
         let state = cases::states::any(&mut random);
-        let fit = model::rule::fit(Edition::of(Version::Two), Form::Expanded, &bytes);
-        assert_eq!(RIGHT.fits(Version::Two, &bytes), fit, "{form:?} {bytes:02X?}");
+        for version in Version::ALL {
+            let fit = model::rule::fit(Edition::of(version), Form::Expanded, &bytes);
+            assert_eq!(RIGHT.fits(version, &bytes), fit, "{version:?} {form:?} {bytes:02X?}");
+        }
         for right in Right::ALL {
             let decided = model::rule::decide(Form::Expanded, &bytes, right, &state);
             assert_eq!(RIGHT.decides(&bytes, right, &state), decided, "{bytes:02X?}");

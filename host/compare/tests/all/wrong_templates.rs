@@ -99,7 +99,7 @@ fn creation(came: &Came, told: Told) -> Option<(Card, NewFile)> {
 }
 
 fn refused(came: &Came, left: &mut Left, refusal: u16) -> Told {
-    left.image.copy_from_slice(came.image);
+    left.restore(came);
     word(refusal)
 }
 

@@ -1,5 +1,6 @@
-//! CREATE FILE in the current DF: 01, "CREATE".
+//! CREATE FILE in the current DF: 01, "CREATE"; 02, Ticket 4 (the new body).
 
+use crate::bodies;
 use crate::card::{slot_number, Card};
 use crate::command::refuse_if;
 use crate::descriptor::Class;
@@ -13,14 +14,17 @@ use crate::words::{
 };
 
 /// Steps H, J, K and L, then the effect.
-pub fn run(card: &mut Card, data: &[u8], state: &State) -> Result<Word, Word> {
+pub fn run(card: &mut Card, pool: &mut [u8], data: &[u8], state: &State) -> Result<Word, Word> {
     let new = template::read(data, card.edition).ok_or(WRONG_DATA)?;
     step_j_security(card, &new, state)?;
     step_k_life_cycle(card)?;
     step_l_identifier(card, &new)?;
     step_l_name(card, &new)?;
     let slot = step_l_memory(card, &new)?;
-    let record = record_of(card, new);
+    let mut record = record_of(card, new);
+    if bodies::has_body(card, &record) {
+        record.start = bodies::place(card, pool, record.size);
+    }
     card.put(slot, record);
     card.make_current(slot);
     Ok(SUCCESS)
@@ -69,7 +73,7 @@ fn step_l_memory(card: &Card, new: &NewFile) -> Result<usize, Word> {
     card.lowest_free_slot().ok_or(NOT_ENOUGH_MEMORY)
 }
 
-/// The record of the new file, a child of the current DF.
+/// The record of the new file, a child of the current DF; it has no body yet.
 fn record_of(card: &Card, new: NewFile) -> Record {
     let parent = card.current_df;
     Record {
@@ -84,5 +88,6 @@ fn record_of(card: &Card, new: NewFile) -> Record {
         name: new.name,
         form: new.form,
         rule: new.rule,
+        start: 0,
     }
 }

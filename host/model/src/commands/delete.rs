@@ -1,6 +1,7 @@
-//! DELETE FILE, a child of the current DF: 01, "DELETE". No life cycle is
-//! checked.
+//! DELETE FILE, a child of the current DF: 01, "DELETE"; 02, Ticket 4 (deleted
+//! bodies). No life cycle is checked.
 
+use crate::bodies;
 use crate::card::Card;
 use crate::command::refuse_if;
 use crate::record::Record;
@@ -9,13 +10,17 @@ use crate::security::State;
 use crate::words::{Word, FILE_NOT_FOUND, SECURITY_NOT_SATISFIED, SUCCESS};
 
 /// Steps I and J, then the effect.
-pub fn run(card: &mut Card, identifier: u16, state: &State) -> Result<Word, Word> {
+pub fn run(card: &mut Card, pool: &mut [u8], identifier: u16, state: &State) -> Result<Word, Word> {
     let child = step_i_child(card, identifier)?;
     step_j_security(card, child, state)?;
-    for slot in card.beneath(child) {
+    let mut deleted = card.beneath(child);
+    deleted.push(child);
+    for slot in deleted {
+        if bodies::has_body(card, card.record(slot)) {
+            bodies::wipe(card.record(slot), pool);
+        }
         card.put(slot, Record::FREE);
     }
-    card.put(child, Record::FREE);
     if card.current_ef == Some(child) {
         card.current_ef = None;
     }

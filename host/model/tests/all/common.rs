@@ -1,10 +1,10 @@
-//! What several test files share: building commands and cards by hand, and
-//! a line that stays visible when the test passes.
+//! What several test files share: building commands and cards by hand, chance,
+//! and a line that stays visible when the test passes.
 
 use std::io::Write;
 
 use model::lines::from_hex;
-use model::{command, make, State, Word};
+use model::{bytes as numbers, command, make, State, Word};
 
 /// Everything always: the rule of replay's root.
 pub const OPEN: &str = "7F00000000000000";
@@ -15,6 +15,39 @@ pub const MARK: u8 = 0xA5;
 /// Prints a line past the capture of the test harness.
 pub fn say(line: &str) {
     let _ = writeln!(std::io::stderr(), "{line}");
+}
+
+/// A small generator of its own (splitmix64), so that the test is the same
+/// everywhere.
+pub struct Random(pub u64);
+
+impl Random {
+    pub fn next(&mut self) -> u64 {
+        self.0 = self.0.wrapping_add(0x9E37_79B9_7F4A_7C15);
+        let mut z = self.0;
+        z = (z ^ (z >> 30)).wrapping_mul(0xBF58_476D_1CE4_E5B9);
+        z = (z ^ (z >> 27)).wrapping_mul(0x94D0_49BB_1331_11EB);
+        z ^ (z >> 31)
+    }
+
+    pub fn below(&mut self, limit: usize) -> usize {
+        (self.next() % limit as u64) as usize
+    }
+
+    pub fn bytes(&mut self, longest: usize) -> Vec<u8> {
+        let length = self.below(longest + 1);
+        (0..length).map(|_| self.next() as u8).collect()
+    }
+
+    pub fn state(&mut self) -> State {
+        let z = self.next();
+        State {
+            messaging: z as u16,
+            external: (z >> 16) as u16,
+            user: (z >> 32) as u16,
+            channels: (z >> 48) as u8,
+        }
+    }
 }
 
 /// The bytes of a hex string; blanks are for the reader only.
@@ -45,12 +78,19 @@ pub fn roomy_two(slots: usize) -> Vec<u8> {
     made(2, slots, 64 * (slots as u32 - 1), 0, OPEN)
 }
 
+/// A pool of the right length for an image, full of a mark. No sound image
+/// wants a longer one than 65,408 bytes.
+pub fn pool_for(image: &[u8]) -> Vec<u8> {
+    vec![MARK; numbers::number32(image, 16 + 12).min(65_408) as usize]
+}
+
 /// Runs one command under a state and gives its word and its data; the image
 /// is sound, and the response buffer long and full of a mark, which stays past
-/// the data.
+/// the data. The pool is forgotten; without bodies it stays.
 pub fn ask_under(image: &mut [u8], text: &str, state: &State) -> (Word, Vec<u8>) {
-    let mut response = [MARK; 256];
-    let outcome = command(image, &bytes(text), &mut response, state);
+    let (mut response, mut pool) = ([MARK; 256], pool_for(image));
+    let outcome = command(image, &mut pool, &bytes(text), &mut response, state);
+    assert!(image[4] == 3 || pool == pool_for(image), "{text} wrote into the pool");
     assert_eq!(outcome.answer, 0, "{text} on a sound image");
     let (data, past) = response.split_at(outcome.data);
     assert!(past.iter().all(|&b| b == MARK), "{text} wrote past its data");
@@ -98,6 +138,13 @@ pub fn create_named(identifier: &str, name: &str, total: u32) -> String {
 pub fn create_ef(identifier: &str, size: u32, rule: &str) -> String {
     let rule_length = bytes(rule).len();
     create(&format!("82024121 8302{identifier} 8A0105 8C{rule_length:02X}{rule} 8004{size:08X}"))
+}
+
+/// A CREATE of an EF with records, open to everything.
+pub fn create_records(identifier: &str, descriptor: u8, length: u16, size: u16) -> String {
+    create(&format!(
+        "8204{descriptor:02X}21{length:04X} 8302{identifier} 8A0105 8C08{OPEN} 8002{size:04X}"
+    ))
 }
 
 /// A CREATE of a small DF with this rule object.

@@ -62,7 +62,6 @@ fn the_am_do() {
         assert_eq!(well_formed(&format!("8001{am:02X}9000")), am < 0x80, "AM {am:02X}");
     }
     for (rule, wanted) in [
-        ("-", false),
         ("80", false),
         ("8001", false),
         ("80017F", false),
@@ -266,10 +265,21 @@ fn a_compact_rule_and_its_expanded_writing_decide_alike() {
     }
 }
 
-/// A48, A49, A50: lengths by version, for both forms.
+/// A50: an empty rule breaks nothing and grants nothing; it fits no record.
+#[test]
+fn an_empty_rule_denies() {
+    for form in Form::ALL {
+        assert_eq!(groups(form, &[]), Some(vec![]));
+        assert!(Right::ALL.iter().all(|&right| !decide(form, &[], right, &State::FULL)));
+        assert!(!fit(Edition::of(Version::Two), form, &[]));
+    }
+}
+
+/// A48, A49: lengths by version, for both forms.
 #[test]
 fn lengths_by_version() {
-    for (version, longest, takes_expanded) in [(Version::One, 16, false), (Version::Two, 30, true)]
+    for (version, longest, takes_expanded) in
+        [(Version::One, 16, false), (Version::Two, 30, true), (Version::Three, 28, true)]
     {
         let edition = Edition::of(version);
         for length in 0..=40 {

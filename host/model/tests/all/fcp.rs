@@ -128,7 +128,7 @@ fn the_longest_template() {
 /// and the buffer.
 fn ask_with(image: &[u8], text: &str, length: usize) -> (Outcome, Vec<u8>, Vec<u8>) {
     let (mut image, mut response) = (image.to_vec(), vec![MARK; length]);
-    let outcome = command(&mut image, &bytes(text), &mut response, &State::FULL);
+    let outcome = command(&mut image, &mut [], &bytes(text), &mut response, &State::FULL);
     (outcome, image, response)
 }
 

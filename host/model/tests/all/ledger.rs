@@ -9,10 +9,11 @@ use model::{command, report, State};
 /// Runs commands on a card with a ledger beside it; after each the ledger's
 /// total, room and children are the report's.
 fn follow(image: &mut [u8], ledger: &mut Ledger, commands: &[String]) {
+    let mut pool = pool_for(image);
     for text in commands {
         let bytes = bytes(text);
         let before = current_df_slot(image);
-        let word = command(image, &bytes, &mut [], &State::FULL).word;
+        let word = command(image, &mut pool, &bytes, &mut [], &State::FULL).word;
         assert!(ledger.agrees(&bytes, word, before), "{text} answered {word:04X}");
         let after = current_df_slot(image);
         ledger.enter(&bytes, word, before, after);
@@ -25,32 +26,30 @@ fn follow(image: &mut [u8], ledger: &mut Ledger, commands: &[String]) {
 
 #[test]
 fn the_ledger_follows_a_card() {
-    let mut image = roomy(20);
-    let mut ledger = Ledger::open(64 * 19);
-    follow(
-        &mut image,
-        &mut ledger,
-        &[
-            create_df("7F10", 400, OPEN),
-            create_df("7F20", 300, OPEN),
-            create_ef("6F01", 236, OPEN),
-            create_ef("6F02", 1, OPEN),
-            select("7F10"),
-            create_ef("6F03", 1, OPEN),
-            select("3F00"),
-            create_ef("6F04", 1216 - 464 - 64 + 1, OPEN),
-            create_ef("6F04", 1216 - 464 - 64, OPEN),
-            create_ef("6F05", u32::MAX, OPEN),
-            delete("7F10"),
-            create_df("7F20", 100, OPEN),
-            create_ef("6F01", 36, OPEN),
-            select("3F00"),
-            delete("6F04"),
-            create_df("7F10", 200, OPEN),
-            create_ef("6F01", 137, OPEN),
-            create_ef("6F01", 136, OPEN),
-        ],
-    );
+    let commands = [
+        create_df("7F10", 400, OPEN),
+        create_df("7F20", 300, OPEN),
+        create_ef("6F01", 236, OPEN),
+        create_ef("6F02", 1, OPEN),
+        select("7F10"),
+        create_ef("6F03", 1, OPEN),
+        select("3F00"),
+        create_ef("6F04", 1216 - 464 - 64 + 1, OPEN),
+        create_ef("6F04", 1216 - 464 - 64, OPEN),
+        create_ef("6F05", u32::MAX, OPEN),
+        delete("7F10"),
+        create_df("7F20", 100, OPEN),
+        create_ef("6F01", 36, OPEN),
+        select("3F00"),
+        delete("6F04"),
+        create_df("7F10", 200, OPEN),
+        create_ef("6F01", 137, OPEN),
+        create_ef("6F01", 136, OPEN),
+    ];
+    for version in 1..=3 {
+        let mut image = made(version, 20, 64 * 19, 0, OPEN);
+        follow(&mut image, &mut Ledger::open(64 * 19), &commands);
+    }
 }
 
 #[test]

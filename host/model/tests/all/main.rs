@@ -3,18 +3,24 @@
 
 #![forbid(unsafe_code)]
 
+mod bodies;
 mod common;
 mod create_data;
 mod expanded;
 mod fcp;
 mod ledger;
+mod lent;
 mod life_cycle;
 mod no_panic;
 mod order;
+mod pool;
+mod read_order;
+mod reading;
 mod readings;
 mod scope;
 mod sorts;
 mod soundness;
 mod stored;
 mod vectors;
+mod version_three;
 mod version_two;

@@ -8,50 +8,19 @@ use model::rule::{Form, Right};
 use model::security::condition_holds;
 use model::{bytes as numbers, *};
 
-/// A small generator of its own (splitmix64), so that the test is the same
-/// everywhere.
-struct Random(u64);
-
-impl Random {
-    fn next(&mut self) -> u64 {
-        self.0 = self.0.wrapping_add(0x9E37_79B9_7F4A_7C15);
-        let mut z = self.0;
-        z = (z ^ (z >> 30)).wrapping_mul(0xBF58_476D_1CE4_E5B9);
-        z = (z ^ (z >> 27)).wrapping_mul(0x94D0_49BB_1331_11EB);
-        z ^ (z >> 31)
-    }
-
-    fn below(&mut self, limit: usize) -> usize {
-        (self.next() % limit as u64) as usize
-    }
-
-    fn bytes(&mut self, longest: usize) -> Vec<u8> {
-        let length = self.below(longest + 1);
-        (0..length).map(|_| self.next() as u8).collect()
-    }
-
-    fn state(&mut self) -> State {
-        let z = self.next();
-        State {
-            messaging: z as u16,
-            external: (z >> 16) as u16,
-            user: (z >> 32) as u16,
-            channels: (z >> 48) as u8,
-        }
-    }
-}
-
 /// Calls everything that takes an image.
 fn call_with_image(image: &[u8], random: &mut Random) {
     let bytes = random.bytes(40);
     let state = random.state();
     let mut after = image.to_vec();
     let mut response = random.bytes(60);
-    let outcome = command(&mut after, &bytes, &mut response, &state);
-    assert!([0, 1, 5].contains(&outcome.answer));
+    let mut pool = random.bytes(60);
+    let outcome = command(&mut after, &mut pool, &bytes, &mut response, &state);
+    assert!([0, 1, 5, 6].contains(&outcome.answer));
     assert!(outcome.data <= response.len());
     assert_eq!(after.len(), image.len());
     select_with_templates(image, random);
+    read_and_update(image, random);
     assert_eq!(report(image).0 == 0, sound(image));
     let _ = ledger::current_df_slot(image);
     if let Some(card) = Card::decode(image) {
@@ -64,6 +33,13 @@ fn call_with_image(image: &[u8], random: &mut Random) {
             changed.put(slot, Record::FREE);
             changed.set_life_cycle(slot, 5);
             changed.make_current(slot);
+            changed.set_start(slot, random.next() as u16);
+            let mut pool = random.bytes(60);
+            bodies::wipe(changed.record(slot), &mut pool);
+            let _ = (
+                bodies::place(&mut changed, &mut pool, random.next() as u32),
+                bodies::lie_apart(&changed),
+            );
             let _ = changed.encode();
         }
     }
@@ -77,8 +53,26 @@ fn select_with_templates(image: &[u8], random: &mut Random) {
         bytes.extend(identifier.to_be_bytes());
         bytes.push(0);
         let mut response = random.bytes(60);
-        let outcome = command(&mut image.to_vec(), &bytes, &mut response, &State::FULL);
+        let (mut image, mut pool) = (image.to_vec(), pool_for(image));
+        let outcome = command(&mut image, &mut pool, &bytes, &mut response, &State::FULL);
         assert!(outcome.data <= response.len());
+    }
+}
+
+/// READ and UPDATE of any part of the current EF, with the right pool and with
+/// none.
+fn read_and_update(image: &[u8], random: &mut Random) {
+    for mut pool in [pool_for(image), Vec::new()] {
+        let mut bytes = vec![0x00, [0xB0, 0xD6, 0xB2, 0xDC][random.below(4)]];
+        bytes.extend([random.below(3) as u8, [0, 1, 4, 4][random.below(4)]]);
+        bytes.push(random.below(12) as u8);
+        bytes.extend(random.bytes(12));
+        bytes.truncate(5 + random.below(13));
+        let mut response = random.bytes(60);
+        let mut after = image.to_vec();
+        let outcome = command(&mut after, &mut pool, &bytes, &mut response, &State::FULL);
+        assert!(outcome.data <= response.len());
+        assert_eq!(after, image, "no record is changed");
     }
 }
 
@@ -139,15 +133,17 @@ fn random_bytes_everywhere() {
 #[test]
 fn one_byte_changed_in_a_sound_image() {
     let mut random = Random(2);
-    let mut image = roomy(8);
-    for text in [create_df("7F10", 200, OPEN), create_ef("6F07", 9, "02FF0200")] {
-        run(&mut image, &text);
-    }
-    for position in 0..image.len() {
-        for _ in 0..16 {
-            let mut changed = image.clone();
-            changed[position] = random.next() as u8;
-            call_with_image(&changed, &mut random);
+    for version in [1, 3] {
+        let mut image = made(version, 8, 448, 0, OPEN);
+        for text in [create_df("7F10", 200, OPEN), create_ef("6F07", 9, "02FF0200")] {
+            run(&mut image, &text);
+        }
+        for position in 0..image.len() {
+            for _ in 0..16 {
+                let mut changed = image.clone();
+                changed[position] = random.next() as u8;
+                call_with_image(&changed, &mut random);
+            }
         }
     }
 }
@@ -157,7 +153,8 @@ fn a_good_header_before_random_records() {
     let mut random = Random(3);
     for _ in 0..2000 {
         let slots = 2 + random.below(5);
-        let mut image = if random.below(2) == 0 { roomy(slots) } else { roomy_two(slots) };
+        let version = 1 + random.below(3) as u32;
+        let mut image = made(version, slots, 64 * (slots as u32 - 1), 0, OPEN);
         for slot in 1..slots {
             let record = &mut image[16 + 64 * slot..80 + 64 * slot];
             record[0] = 1 + random.below(2) as u8;
@@ -168,6 +165,9 @@ fn a_good_header_before_random_records() {
             }
             record[3] = random.below(2) as u8;
             record[33] = 1;
+            if version == 3 && record[0] == 2 {
+                record[63] = random.below(20) as u8;
+            }
         }
         image[8] = random.below(slots + 1) as u8;
         call_with_image(&image, &mut random);

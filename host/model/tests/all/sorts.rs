@@ -4,16 +4,18 @@
 use std::collections::BTreeMap;
 
 use model::lines::from_hex;
-use model::objects;
 use model::soundness::sound_card;
 use model::vectors::case_lines;
 use model::Card;
+use model::{bodies, objects};
 
 /// How many cases are stored, or a few more.
 pub const STORED_CASES: usize = 300;
 const LONGEST_STORED_LINE: usize = 2000;
-/// For the first case of a sort: every sort is stored but a BIG input.
+/// For the first case of a sort; those that show bodies have pools too. Few
+/// sorts of others are so long.
 const LONGEST_FIRST_LINE: usize = 12_000;
+const LONGEST_FIRST_LINE_WITH_BODIES: usize = 22_000;
 
 /// The bytes 06 and 07 that a command met: of the file that it selects or
 /// would change; for CREATE "in" a directory, and "of" a new file. Only where
@@ -108,10 +110,45 @@ fn met_with_rules(instruction: &str, case: &str, result: &str) -> String {
     }
 }
 
+/// What a command shows of Ticket 4: the version, where it reads or writes a
+/// body; how CREATE found a place for a new body; whether DELETE wiped any.
+fn met_with_bodies(instruction: &str, case: &str, result: &str) -> String {
+    let case: Vec<&str> = case.split(' ').collect();
+    let result: Vec<&str> = result.split(' ').collect();
+    let (&[_, image, .., pool, _], &[_, _, word, image_after, pool_after, ..]) =
+        (case.as_slice(), result.as_slice())
+    else {
+        return String::new();
+    };
+    let card = |image: &str| from_hex(image).and_then(|image| sound_card(&image));
+    let (Some(before), Some(after)) = (card(image), card(image_after)) else {
+        return String::new();
+    };
+    match (instruction, word, after.edition.has_bodies()) {
+        ("B0" | "D6" | "B2" | "DC", ..) => format!(" v{}", after.edition.version_number()),
+        ("E0", "9000", true) => place_of_the_new(&before, &after).to_string(),
+        ("E4", "9000", true) if pool != pool_after => " wiped".to_string(),
+        _ => String::new(),
+    }
+}
+
+/// Where a new EF's body is: above all others, in a gap below one, or above them
+/// after they were packed.
+fn place_of_the_new(before: &Card, after: &Card) -> &'static str {
+    let old = bodies::in_order(before);
+    let start = |card: &Card, slot: usize| card.record(slot).start;
+    match after.current_ef {
+        None => "",
+        Some(_) if old.iter().any(|&slot| start(before, slot) != start(after, slot)) => " packed",
+        Some(new) if old.iter().any(|&slot| start(after, slot) > start(after, new)) => " in a gap",
+        Some(_) => " above",
+    }
+}
+
 /// What a line shows, so that one of each sort is stored: the kind, the
 /// result's head, versions and forms, and of a command its instruction and
-/// what it met of 06 and 07 and of expanded or longer rules; of a SELECT also
-/// P2 and what it shows of templates.
+/// what it met of 06 and 07, of expanded or longer rules, and of bodies; of a
+/// SELECT also P2 and what it shows of templates.
 pub fn sort_of(line: &str) -> String {
     let (case, result) = line.split_once(" > ").unwrap_or((line, ""));
     let kind: String = case.chars().take(1).collect();
@@ -125,7 +162,8 @@ pub fn sort_of(line: &str) -> String {
             let fcp = if p2.is_empty() { String::new() } else { met_with_fcp(case, result) };
             let b2 = met_with_b2(instruction, case, result);
             let rules = met_with_rules(instruction, case, result);
-            format!("C {instruction}{p2} {}{fcp}{b2}{rules}", head.join(" "))
+            let bodies = met_with_bodies(instruction, case, result);
+            format!("C {instruction}{p2} {}{fcp}{bodies}{b2}{rules}", head.join(" "))
         }
         "Y" => format!("Y {:.8}", head.first().unwrap_or(&"")),
         "E" => format!("E {} {}", case.get(2..3).unwrap_or(""), decided(result)),
@@ -153,6 +191,16 @@ fn versions(case: &str) -> String {
     }
 }
 
+/// How long the first case of a sort may be.
+fn longest_first(sort: &str) -> usize {
+    let reads_or_writes = ["C B", "C D"].iter().any(|start| sort.starts_with(start));
+    if reads_or_writes || sort.contains("packed") || sort.contains("in a gap") {
+        LONGEST_FIRST_LINE_WITH_BODIES
+    } else {
+        LONGEST_FIRST_LINE
+    }
+}
+
 /// Chooses the shortest lines of each sort, sort by sort, until there are
 /// enough.
 pub fn choose(text: &str) -> Vec<&str> {
@@ -167,8 +215,8 @@ pub fn choose(text: &str) -> Vec<&str> {
     let mut chosen = Vec::new();
     for round in 0.. {
         let mut found = false;
-        for lines in sorts.values() {
-            let longest = if round == 0 { LONGEST_FIRST_LINE } else { LONGEST_STORED_LINE };
+        for (sort, lines) in &sorts {
+            let longest = if round == 0 { longest_first(sort) } else { LONGEST_STORED_LINE };
             let line = lines.get(round).filter(|line| line.len() <= longest);
             found |= line.is_some();
             chosen.extend(line);

@@ -42,7 +42,7 @@ fn unsound(position: usize, new: &str) {
     for text in [&select("3F00"), &select_fcp("3F00"), "-"] {
         for length in [0, 64] {
             let mut response = vec![MARK; length];
-            let outcome = command(&mut image, &bytes(text), &mut response, &State::FULL);
+            let outcome = command(&mut image, &mut [], &bytes(text), &mut response, &State::FULL);
             assert_eq!((outcome.answer, outcome.word, outcome.data), (1, 0, 0));
             assert_eq!(image, before, "an unsound image stays as it came");
             assert_eq!(response, vec![MARK; length], "and so does the response buffer");
@@ -63,7 +63,7 @@ fn stays_sound(position: usize, new: &str) {
 fn header() {
     unsound(0, "56");
     unsound(2, "53");
-    for version in ["0000", "0003", "0101", "0102", "0100", "FFFF"] {
+    for version in ["0000", "0004", "0101", "0102", "0100", "FFFF"] {
         unsound(3, version);
     }
     unsound(5, "000F");

@@ -72,7 +72,9 @@ fn the_stored_cases_hold_every_word_and_answer() {
         let sign = format!(" > C 0 {word:04X} ");
         assert!(text.contains(&sign), "no stored case with word {word:04X}");
     }
-    for sign in ["C 1 0000", "C 5 0000", "M 0", "M 2", "M 3", "M 4", "R 0", "R 1", "W 0", "W 1"] {
+    for sign in
+        ["C 1 0000", "C 5 0000", "C 6 0000", "M 0", "M 2", "M 3", "M 4", "R 0", "R 1", "W 0", "W 1"]
+    {
         assert!(text.contains(&format!(" > {sign}")), "no stored case with {sign}");
     }
     assert!(text.contains(" > E malformed"), "no stored malformed rule");
@@ -80,35 +82,33 @@ fn the_stored_cases_hold_every_word_and_answer() {
 
 /// Asserts that the stored cases have one of each sort, or of a finer one.
 #[track_caller]
-fn stored_show(sorts: &[&str]) {
+fn stored_show<T: AsRef<str>>(sorts: &[T]) {
     let text = stored_text().expect("the stored cases are there");
     let stored: BTreeSet<String> = case_lines(&text).map(sort_of).collect();
-    for sort in sorts {
+    for sort in sorts.iter().map(AsRef::as_ref) {
         let is_it = |one: &String| one == sort || one.starts_with(&format!("{sort} "));
         assert!(stored.iter().any(is_it), "no stored case of sort {sort}");
     }
 }
 
-/// The shared cases of this level have no TERMINATE EF of either byte; that is
-/// in life_cycle.rs.
+/// The shared cases of this level have no TERMINATE EF of either byte, and no
+/// CREATE in a directory with 06; that is in life_cycle.rs.
 #[test]
 fn the_stored_cases_show_06_and_07() {
     stored_show(&[
         "C A4 0C 0 6283 06",
         "C A4 0C 0 9000 07",
-        "C E0 0 6985 in 06",
-        "C E0 0 9000 in 07",
+        "C E0 0 9000 above of 06",
         "C E0 0 9000 of 06",
         "C E0 0 9000 of 07",
-        "C 44 0 9000 06",
         "C 44 0 6985 07",
-        "C E6 0 9000 06",
+        "C 04 0 9000 07",
+        "C E6 0 6985 06",
         "C E6 0 9000 07",
     ]);
 }
 
-/// The shared cases of this level have no template with 6285; that is in
-/// fcp.rs.
+/// The shared cases of this level have no P2 04 without Le; that is in fcp.rs.
 #[test]
 fn the_stored_cases_show_templates() {
     stored_show(&[
@@ -117,8 +117,8 @@ fn the_stored_cases_show_templates() {
         "C A4 04 0 9000 EF",
         "C A4 04 0 9000 records",
         "C A4 04 0 6283",
+        "C A4 04 0 6285",
         "C A4 04 0 6A82",
-        "C A4 04 0 6700 7 bytes",
         "C A4 04 0 6700 8 bytes",
         "C A4 0C 0 6700 8 bytes",
         "C A4 04 5 0000 none",
@@ -139,12 +139,21 @@ fn the_stored_cases_show_versions_and_forms() {
         "W 2 0 1",
         "W 2 1 0",
         "W 2 1 1",
+        "W 3 0 0",
+        "W 3 0 1",
+        "W 3 1 0",
+        "W 3 1 1",
         "M 1 1 4",
         "M 2 0 0",
         "M 2 1 4",
-        "M 3 0 2",
+        "M 3 0 0",
+        "M 3 1 4",
+        "M 256 0 2",
         "R 2 0",
         "R 2 1",
+        "R 3 0",
+        "R 3 1",
+        "R 4 1",
         "C E0 0 9000 v2 AB",
         "C E0 0 9000 v2 AB long",
         "C E0 0 6A80 v2 AB",
@@ -156,6 +165,31 @@ fn the_stored_cases_show_versions_and_forms() {
         "C A4 04 0 9000 DF AB",
         "C A4 04 0 9000 named DF AB",
         "C A4 04 0 9000 records AB",
+    ]);
+}
+
+/// Ticket 4. The shared cases of this level have no READ RECORD of a record that
+/// is not there, and no READ or UPDATE RECORD on a transparent EF; that is in
+/// reading.rs.
+#[test]
+fn the_stored_cases_show_bodies() {
+    for instruction in ["B0", "D6", "B2", "DC"] {
+        for word in ["6700", "6982", "6985", "6986", "6B00", "9000"] {
+            stored_show(&[&format!("C {instruction} 0 {word} v3")]);
+        }
+        stored_show(&["v1", "v2"].map(|version| format!("C {instruction} 0 6D00 {version}")));
+    }
+    stored_show(&[
+        "C B0 0 6981 v3",
+        "C D6 0 6981 v3",
+        "C DC 0 6A83 v3",
+        "C B0 5 0000 v3",
+        "C B2 5 0000 v3",
+        "C A4 0C 6 0000",
+        "C E0 0 9000 above",
+        "C E0 0 9000 in a gap",
+        "C E0 0 9000 packed",
+        "C E4 0 9000 wiped",
     ]);
 }
 

@@ -21,8 +21,8 @@ fn word(image: &[u8], text: &str) -> Word {
 fn the_maker_knows_versions_and_forms() {
     for (version, form, rule, wanted) in [
         (0, 0, OPEN, 2),
-        (3, 0, OPEN, 2),
         (4, 0, OPEN, 2),
+        (5, 0, OPEN, 2),
         (0x101, 0, OPEN, 2),
         (65_537, 0, OPEN, 2),
         (u32::MAX, 0, OPEN, 2),
@@ -51,7 +51,7 @@ fn the_maker_knows_versions_and_forms() {
 #[test]
 fn the_maker_checks_2_then_3_then_4() {
     for (length, version, total, form, rule, wanted) in [
-        (144, 3, 0, 5, "80", 2),
+        (144, 4, 0, 5, "80", 2),
         (145, 2, 0, 5, "80", 2),
         (144, 2, 0, 5, "80", 3),
         (144, 2, 65, 1, OPEN_EXPANDED, 3),
@@ -63,12 +63,13 @@ fn the_maker_checks_2_then_3_then_4() {
     }
 }
 
-#[test]
-fn a_fresh_card_to_the_byte() {
-    for (form, rule) in [(0, "0E000000".repeat(7)), (1, expanded_of(30)), (1, expanded_of(5))] {
+/// A fresh card of two slots, byte by byte, with a compact rule of 28 bytes, the
+/// version's longest expanded one and a short one.
+pub fn fresh_to_the_byte(version: u32, longest: usize) {
+    for (form, rule) in [(0, "0E000000".repeat(7)), (1, expanded_of(longest)), (1, expanded_of(5))] {
         let rule = bytes(&rule);
-        let image = made(2, 2, 64, form, &hex(&rule));
-        let head = "55465400020002 0000FFFF 0000000000";
+        let image = made(version, 2, 64, form, &hex(&rule));
+        let head = format!("55465400{version:02X}0002 0000FFFF 0000000000");
         let root = format!("013805{form:02X} 3F00000000000000 00000040 00{}", "00".repeat(16));
         let mut wanted = bytes(&format!("{head}{root}"));
         wanted.push(rule.len() as u8);
@@ -77,6 +78,11 @@ fn a_fresh_card_to_the_byte() {
         assert_eq!(hex(&image), hex(&wanted));
         assert!(sound(&image));
     }
+}
+
+#[test]
+fn a_fresh_card_to_the_byte() {
+    fresh_to_the_byte(2, 30);
 }
 
 #[test]

@@ -2,7 +2,7 @@
 
 use card::{lent, Card, Kind, State, LONGEST_RESPONSE};
 use model::life_cycle::ACTIVATED;
-use model::{Card as Decoded, Record};
+use model::{bodies, Card as Decoded, Record};
 
 use crate::arguments::Fresh;
 use crate::fcp::Template;
@@ -16,15 +16,16 @@ pub const ROOT: usize = 0;
 pub struct Source {
     kind: Kind,
     card: Decoded,
+    pool: Vec<u8>,
     children: Vec<Vec<usize>>,
 }
 
 impl Source {
     pub fn new(card: &Card) -> Result<Source, String> {
-        let kind = card.kind();
+        let (kind, pool) = (card.kind(), card.pool().to_vec());
         let card = Decoded::decode(card.image()).ok_or("the image cannot be read")?;
         let children = tree::children(&card);
-        Ok(Source { kind, card, children })
+        Ok(Source { kind, card, pool, children })
     }
 
     /// The fresh card on which the files can be made again.
@@ -33,6 +34,10 @@ impl Source {
         let rule = rule::of_record(root);
         let rule = Written::bare(rule.form, rule.bytes.to_vec());
         Fresh { kind: self.kind, slots: self.card.records.len(), total: root.size, rule }
+    }
+
+    pub fn kind(&self) -> Kind {
+        self.kind
     }
 
     pub fn record(&self, slot: usize) -> &Record {
@@ -50,6 +55,13 @@ impl Source {
     /// How many files stand beneath a directory.
     pub fn beneath(&self, slot: usize) -> usize {
         self.card.beneath(slot).len()
+    }
+
+    /// What a file holds; nothing where there are no bodies.
+    pub fn body(&self, slot: usize) -> &[u8] {
+        let record = self.record(slot);
+        let body = bodies::has_body(&self.card, record).then(|| bodies::body(record));
+        body.and_then(|body| self.pool.get(body)).unwrap_or_default()
     }
 
     /// The current EF, else the current directory.
@@ -82,8 +94,9 @@ impl Source {
         copy.set_life_cycle(ROOT, ACTIVATED);
         let [high, low] = self.record(slot).identifier.to_be_bytes();
         let select = [0x00, 0xA4, 0x00, 0x04, 0x02, high, low, 0x00];
+        let (mut image, mut pool) = (copy.encode(), self.pool.clone());
         let mut response = [0; LONGEST_RESPONSE];
-        let answer = lent::command(&mut copy.encode(), &select, &mut response, &State::FULL);
+        let answer = lent::command(&mut image, &mut pool, &select, &mut response, &State::FULL);
         let length = answer.map_err(|error| error.to_string())?.data_length;
         Ok(response.into_iter().take(length).collect())
     }

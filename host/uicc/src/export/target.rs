@@ -1,11 +1,13 @@
 //! The fresh card on which files are made, and the lines that make them.
 
 use card::{Card, State, Word};
-use model::Card as Decoded;
+use model::{bodies, Card as Decoded};
 
 use super::source::{Source, ROOT};
 use crate::arguments::Fresh;
 use crate::{describe, fcp, hex};
+
+const CREATE: u8 = 0xE0;
 
 /// A card in memory, with what was played on it. Slots are the source's.
 pub struct Target<'a> {
@@ -45,6 +47,26 @@ impl<'a> Target<'a> {
             self.lines += &format!("{}\n", written(command));
         }
         Ok(reply.word)
+    }
+
+    /// Whether commands would all succeed, one after the other.
+    pub fn would_take(&self, commands: &[Vec<u8>]) -> Result<bool, String> {
+        let mut card = self.card.clone();
+        for command in commands {
+            let reply = card.command(command, &State::FULL).map_err(|error| error.to_string())?;
+            if !reply.word.is_success() {
+                return Ok(false);
+            }
+        }
+        Ok(true)
+    }
+
+    /// What the current EF holds.
+    pub fn body(&self) -> Result<&[u8], String> {
+        let card = Decoded::decode(self.card.image()).ok_or("the image cannot be read")?;
+        let file = card.current_ef.ok_or("no file is current")?;
+        let body = self.card.pool().get(bodies::body(card.record(file)));
+        body.ok_or_else(|| "the pool cannot be read".to_string())
     }
 
     /// A file was made: it is there, and current.
@@ -134,7 +156,7 @@ fn written(command: &[u8]) -> String {
     let (head, data) = command.split_at(command.len().min(5));
     let mut parts = vec![head];
     match data {
-        [_, _, inside @ ..] if !inside.is_empty() => {
+        [_, _, inside @ ..] if !inside.is_empty() && head.get(1) == Some(&CREATE) => {
             parts.push(&data[..2]);
             let mut left = inside;
             for (_, value) in fcp::objects(inside).unwrap_or_default() {
@@ -164,6 +186,7 @@ mod tests {
                 "00E0000006 6204 82024121",
             ),
             (&[0x00, 0xE0, 0x00, 0x00, 0x04, 0x62, 0x04, 0x82, 0x02], "00E0000004 6204 8202"),
+            (&[0x00, 0xD6, 0x00, 0x00, 0x04, 0x62, 0x02, 0x82, 0x00], "00D6000004 62028200"),
         ] {
             assert_eq!(written(command), told);
         }

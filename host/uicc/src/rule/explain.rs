@@ -25,7 +25,7 @@ pub fn explain(bytes: &[u8]) -> Result<String, String> {
         return Err(format!("this {form} is malformed: {wrong}"));
     }
     let versions: Vec<_> = takers(rule).map(|kind| kind.version.to_string()).collect();
-    let versions = versions.join(" and ");
+    let versions = describe::list(&versions, "and");
     if versions.is_empty() {
         let most = Kind::ALL.iter().filter_map(|kind| kind.longest_rule(rule.form)).max();
         let most = most.unwrap_or_default();

@@ -6,12 +6,51 @@ use std::collections::BTreeMap;
 use model::life_cycle::{is_deactivated, is_terminated, ACTIVATED, DEACTIVATED, TERMINATED};
 use model::maker::ROOT_DESCRIPTOR;
 use model::rule::{decide, Right};
-use model::{Card, Record, State};
+use model::{bodies, Card, Record, State};
+
+/// Bytes from here on are reached by no UPDATE BINARY: it starts before 8000 and
+/// takes 255.
+const OUT_OF_REACH: usize = 0x7FFF + 255;
 
 /// The identifiers on the way from the root to a file.
 pub type Path = Vec<u16>;
-/// The 64 bytes of each file's record, but parent and level.
-pub type Tree = BTreeMap<Path, Vec<u8>>;
+/// The 64 bytes of each file's record, but parent, level and start; and what the
+/// file holds.
+pub type Tree = BTreeMap<Path, (Vec<u8>, Vec<u8>)>;
+
+/// A card as its file has it.
+pub struct Kept {
+    pub card: Card,
+    pub pool: Vec<u8>,
+}
+
+impl Kept {
+    /// Reads a file: the image, as long as its slot count tells, and the pool.
+    pub fn read(bytes: &[u8]) -> Kept {
+        let slots = usize::from(u16::from_be_bytes([bytes[5], bytes[6]]));
+        let (image, pool) = bytes.split_at(16 + 64 * slots);
+        Kept { card: Card::decode(image).expect("a card"), pool: pool.to_vec() }
+    }
+
+    /// A card, with a pool only where there are bodies.
+    pub fn new(card: Card, pool: Vec<u8>) -> Kept {
+        let pool = if card.edition.has_bodies() { pool } else { Vec::new() };
+        Kept { card, pool }
+    }
+
+    pub fn bytes(&self) -> Vec<u8> {
+        [self.card.encode(), self.pool.clone()].concat()
+    }
+
+    /// What a file holds.
+    pub fn body(&self, slot: usize) -> &[u8] {
+        let record = self.card.record(slot);
+        match bodies::has_body(&self.card, record) {
+            true => &self.pool[bodies::body(record)],
+            false => &[],
+        }
+    }
+}
 
 /// What is to be found on the new card.
 pub struct Foretold {
@@ -29,8 +68,10 @@ pub fn path(card: &Card, slot: usize) -> Path {
     path
 }
 
-pub fn tree(card: &Card) -> Tree {
-    card.used_slots().map(|slot| (path(card, slot), bytes(card, card.record(slot)))).collect()
+pub fn tree(kept: &Kept) -> Tree {
+    let card = &kept.card;
+    let file = |slot| (bytes(card, card.record(slot)), kept.body(slot).to_vec());
+    card.used_slots().map(|slot| (path(card, slot), file(slot))).collect()
 }
 
 /// The path of what is current.
@@ -40,7 +81,7 @@ pub fn current(card: &Card) -> Path {
 
 fn bytes(card: &Card, record: &Record) -> Vec<u8> {
     let mut bytes = Vec::new();
-    Record { parent: 0, level: 0, ..record.clone() }.encode(card.edition, &mut bytes);
+    Record { parent: 0, level: 0, start: 0, ..record.clone() }.encode(card.edition, &mut bytes);
     bytes
 }
 
@@ -75,7 +116,23 @@ fn life_cycle(card: &Card, slot: usize) -> u8 {
     }
 }
 
-pub fn foretold(card: &Card) -> Foretold {
+/// What a file can be brought to hold. It is updated while it is activated, and
+/// comes to 04 and 0C then; before it is activated, and with 06, it cannot be.
+fn body(kept: &Kept, slot: usize) -> Vec<u8> {
+    let (record, old) = (kept.card.record(slot), kept.body(slot));
+    let updated = grants(record, Right::UPDATE)
+        && match record.life_cycle {
+            0x05 | 0x07 | 0x0C => true,
+            0x04 => grants(record, Right::Deactivate),
+            _ => false,
+        };
+    let reached = if record.record_length > 0 { old.len() } else { OUT_OF_REACH };
+    let new = |(place, byte): (usize, &u8)| if updated && place < reached { *byte } else { 0xFF };
+    old.iter().enumerate().map(new).collect()
+}
+
+pub fn foretold(kept: &Kept) -> Foretold {
+    let card = &kept.card;
     let (mut tree, mut lost) = (Tree::new(), 0);
     for slot in card.used_slots() {
         if !is_made(card, slot) {
@@ -91,7 +148,9 @@ pub fn foretold(card: &Card) -> Foretold {
             record.name.clear();
             record.descriptor = ROOT_DESCRIPTOR;
         }
-        tree.insert(path(card, slot), bytes(card, &record));
+        let body = body(kept, slot);
+        lost += usize::from(body != kept.body(slot));
+        tree.insert(path(card, slot), (bytes(card, &record), body));
     }
     let file = card.current_ef.unwrap_or(card.current_df);
     let current = path(card, if is_made(card, file) { file } else { 0 });

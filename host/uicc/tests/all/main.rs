@@ -3,13 +3,17 @@
 
 #![forbid(unsafe_code)]
 
+mod bodies;
 mod cards;
 mod command_line;
+mod contents;
 mod exporting;
 mod folder;
 mod images;
 mod killed;
+mod lengths;
 mod making_again;
+mod reading;
 mod rules;
 mod saving;
 mod scripts;

@@ -4,15 +4,16 @@
 use cases::case::History;
 use cases::history::history_of;
 use cases::images::sound_card;
+use cases::pools;
 use cases::random::Random;
 use cases::themes::Theme;
 use cases::worst;
 use model::edition::Version;
 use model::life_cycle::{is_deactivated, is_terminated};
 use model::rule::Form;
-use model::Card;
+use model::{bodies, Card};
 
-use crate::cards::{current, foretold, tree};
+use crate::cards::{current, foretold, tree, Kept};
 use crate::folder::{Folder, Ran};
 
 const CARDS: u64 = 250;
@@ -22,7 +23,7 @@ const EXAMPLE: &str = include_str!("../../examples/first.apdu");
 
 /// Exports the card `old` and plays the script on the fresh card that its own
 /// lines ask for.
-fn again(folder: &Folder) -> (Ran, Card) {
+fn again(folder: &Folder) -> (Ran, Kept) {
     let before = folder.read("old");
     let export = folder.uicc(&["export", "old"]);
     assert_eq!(folder.read("old"), before, "export only reads");
@@ -34,23 +35,23 @@ fn again(folder: &Folder) -> (Ran, Card) {
     let out = folder.done(&lines[1]);
     let all = out.lines().count();
     for line in out.lines().skip(1).take(all - 3) {
-        let word = line.get(28..32).unwrap_or_default();
+        let word = line.split("  ").map(str::trim).filter(|part| !part.is_empty()).nth(2);
+        let word = word.unwrap_or_default();
         assert!(["9000", "6283", "6285"].contains(&word), "{line}\n{}", export.out);
     }
-    let new = Card::decode(&folder.read("NEW.card")).expect("a card");
-    (export, new)
+    (export, Kept::read(&folder.read("NEW.card")))
 }
 
 /// Compares a card that is made again with what is foretold; gives what is
 /// lost.
-fn compare(folder: &Folder, old: &Card, what: &str) -> usize {
-    folder.write("old", old.encode());
+fn compare(folder: &Folder, old: &Kept, what: &str) -> usize {
+    folder.write("old", old.bytes());
     let foretold = foretold(old);
     let (export, new) = again(folder);
     let lost = foretold.lost;
-    assert_eq!(new.edition, old.edition, "{what}: a card keeps its version");
+    assert_eq!(new.card.edition, old.card.edition, "{what}: a card keeps its version");
     assert_eq!(tree(&new), foretold.tree, "{what}:\n{}", export.out);
-    assert_eq!(current(&new), foretold.current, "{what}:\n{}", export.out);
+    assert_eq!(current(&new.card), foretold.current, "{what}:\n{}", export.out);
     assert_eq!(export.status, if lost > 0 { NOT_ALL } else { 0 }, "{what}");
     assert_eq!(export.err.lines().count(), lost, "{what}: {}", export.err);
     let told: Vec<_> =
@@ -59,7 +60,8 @@ fn compare(folder: &Folder, old: &Card, what: &str) -> usize {
         export.err.lines().filter_map(|line| line.strip_prefix("uicc: old: lost: ")).collect();
     assert_eq!(told, also, "{what}");
     if lost == 0 {
-        assert_eq!((tree(&new), current(&new)), (tree(old), current(old)), "{what}");
+        assert_eq!(tree(&new), tree(old), "{what}");
+        assert_eq!(current(&new.card), current(&old.card), "{what}");
         let once_more = folder.done(&["export", "NEW.card"]);
         assert_eq!(once_more, export.out, "{what}: the new card has the same script");
     }
@@ -78,20 +80,29 @@ fn the_examples_card_is_made_again_byte_by_byte() {
 }
 
 /// The card that a history leaves.
-fn played(history: &History) -> Card {
+fn played(history: &History) -> Kept {
     let History { edition, slots, total, rule, .. } = history;
     let kind = card::Kind::of_version(edition.version_number());
     let root_rule = match rule.form {
         Form::Compact => card::Rule::compact(&rule.bytes),
         Form::Expanded => card::Rule::expanded(&rule.bytes),
     };
-    let mut card = card::Card::make(*slots, kind, *total, root_rule).expect("a card");
+    let fresh = card::Card::make(*slots, kind, *total, root_rule).expect("a card");
+    let mut card =
+        card::Card::from_parts(fresh.into_image(), history.pool.clone()).expect("a card");
     for step in &history.steps {
         let model::State { messaging, external, user, channels } = step.state;
         let state = card::State { messaging, external, user, channels };
         card.command(&step.command, &state).expect("a sound card");
     }
-    Card::decode(card.image()).expect("a card")
+    let (image, pool) = card.into_parts();
+    Kept::new(Card::decode(&image).expect("a card"), pool)
+}
+
+/// The files that hold something.
+fn filled(kept: &Kept) -> Vec<usize> {
+    let holds = |slot: &usize| kept.body(*slot).iter().any(|byte| *byte != 0xFF);
+    kept.card.used_slots().filter(holds).collect()
 }
 
 /// What commands made of a fresh card, commands make again as a whole: rules
@@ -105,6 +116,7 @@ fn nothing_is_lost_of_what_commands_made() {
         let theme = random.pick(Theme::ALL);
         let old = played(&history_of(&mut random, theme, 24, 60));
         assert_eq!(compare(&folder, &old, &format!("history {number}")), 0, "history {number}");
+        let old = old.card;
         files += old.used_slots().count() - 1;
         let is_expanded = |slot: &usize| old.record(*slot).form == Form::Expanded;
         expanded += old.used_slots().filter(is_expanded).count();
@@ -120,21 +132,44 @@ fn nothing_is_lost_of_what_commands_made() {
     assert!(closed > 30, "{closed} directories with files were deactivated or terminated");
 }
 
+/// The same of histories that update bodies.
+#[test]
+fn what_files_held_they_hold_again() {
+    let folder = Folder::new("again-bodies");
+    let mut full = 0;
+    for number in 0..HISTORIES {
+        let mut random = Random::for_case(4, number);
+        let theme = random.pick([Theme::Bodies, Theme::Bodies, Theme::LifeCycles]);
+        let old = played(&history_of(&mut random, theme, 24, 60));
+        assert_eq!(compare(&folder, &old, &format!("history {number}")), 0, "history {number}");
+        full += filled(&old).len();
+    }
+    assert!(full > 50, "{full} files that hold something");
+}
+
 /// Cards at random: any tree, life cycles, names and rules, also such as no
 /// commands could have made.
 #[test]
 fn cards_at_random_are_made_again_as_foretold() {
     let folder = Folder::new("again-random");
-    let (mut whole, mut second) = (0, 0);
+    let (mut whole, mut second, mut third) = (0, 0, 0);
     for number in 0..CARDS {
-        let old = sound_card(&mut Random::for_case(2, number));
-        second += u64::from(old.edition.version == Version::Two);
+        let mut random = Random::for_case(2, number);
+        let card = sound_card(&mut random);
+        let mut pool = pools::right(&mut random, &card.encode());
+        // Some bodies are as new, some in part.
+        let (from, to) = (random.below(pool.len() + 1), random.below(pool.len() + 1));
+        pool[from.min(to)..from.max(to)].fill(0xFF);
+        let old = Kept::new(card, pool);
+        second += u64::from(old.card.edition.version == Version::Two);
+        third += u64::from(old.card.edition.version == Version::Three && !filled(&old).is_empty());
         let lost = compare(&folder, &old, &format!("card {number}"));
-        whole += u64::from(lost == 0 && old.used_slots().count() > 1);
+        whole += u64::from(lost == 0 && old.card.used_slots().count() > 1);
     }
     assert!(whole > CARDS / 20, "{whole} cards with files were made again as a whole");
     assert!(whole < CARDS, "nothing was lost");
     assert!(second > CARDS / 5 && second < CARDS, "{second} cards of version 2");
+    assert!(third > CARDS / 10, "{third} cards of version 3 that hold something");
 }
 
 /// Cards that are as full and as named as they can be, and the deepest card.
@@ -145,7 +180,9 @@ fn the_fullest_and_the_deepest_cards_are_made_again() {
     cards.extend(worst::cards().into_iter().find(|worst| worst.title.contains("deepest")));
     assert_eq!(cards.len(), 5);
     for worst in cards {
-        let old = Card::decode(&worst.image).expect("a card");
+        let card = Card::decode(&worst.image).expect("a card");
+        let pool = vec![0xFF; bodies::pool_length(&card).unwrap_or(0)];
+        let old = Kept::new(card, pool);
         assert_eq!(compare(&folder, &old, worst.title), 0, "{}", worst.title);
     }
 }

@@ -56,7 +56,7 @@ fn a_card_of_version_2_is_made_and_shown() {
          (external authentication 2 and secure messaging 2)\n"
     );
     assert!(out.ends_with(&rule), "{out}");
-    for kind in ["1", "2"] {
+    for kind in ["1", "2", "3"] {
         let arguments = ["new", "card", "--version", kind, "--force", "--rule", "8C020100"];
         assert!(folder.done(&arguments).ends_with("root rule 0100\n"));
     }
@@ -138,14 +138,19 @@ fn a_wrong_rule_is_told_below_its_line() {
     };
     let malformed = "(8C)   malformed: byte 1 of 2: the AM byte 03 asks for 2 SC bytes: 1 follow";
     let expanded = "(AB)   a card of version 1 takes no expanded rule";
-    let out = folder.done(&["run", "wrong"]);
+    let out = folder.done(&["run", "wrong", "--version", "1"]);
     let long = "(8C)   17 bytes, and a card of version 1 takes 1 to 16";
     assert_eq!(hints(&out), [expanded, long, expanded, malformed], "{out}");
     assert_eq!(out.matches("6A80").count(), 6, "{out}");
-    let out = folder.done(&["run", "wrong", "--version", "2"]);
     let begins = "(AB)   malformed: byte 1 of 2: a rule begins with object 80, not 90";
-    assert_eq!(hints(&out), [begins, malformed], "{out}");
-    assert_eq!(out.matches("6A80").count(), 4, "{out}");
+    for version in ["2", "3"] {
+        let out = folder.done(&["run", "wrong", "--version", version]);
+        assert_eq!(hints(&out), [begins, malformed], "{out}");
+        assert_eq!(out.matches("6A80").count(), 4, "{out}");
+    }
+    folder.write("long", create("6F07", LONGEST));
+    let out = folder.done(&["run", "long"]);
+    assert_eq!(hints(&out), ["(AB)   30 bytes, and a card of version 3 takes 1 to 28"], "{out}");
 }
 
 /// A rule elsewhere, twice or nowhere, whatever the card's version.
@@ -161,7 +166,7 @@ fn a_rule_that_is_not_found_is_told_below_its_line() {
         ("8C0201008B036F0601", "8B (a rule in a file) is not taken"),
     ] {
         folder.write("wrong", create("6F07", rule));
-        for version in ["1", "2"] {
+        for version in ["1", "2", "3"] {
             let out = folder.done(&["run", "wrong", "--version", version]);
             let lines: Vec<_> = out.lines().skip(1).collect();
             assert_eq!(lines.len(), 3, "{out}");
@@ -204,7 +209,7 @@ fn a_rule_is_explained() {
     let out = folder.done(&["rule", BANK]);
     assert_eq!(
         out,
-        "expanded rule (AB) of 19 bytes, for cards of version 2\n\
+        "expanded rule (AB) of 19 bytes, for cards of version 2 and 3\n\
          \x20  3  800106  CREATE DF, CREATE EF (file: WRITE, UPDATE)\n\
          \x20  6  9E0111    user authentication 1\n\
          \x20  9  AF06      or all of\n\

@@ -136,7 +136,7 @@ fn a_pipe_is_shown() {
     for line in ["cat card | $UICC show /dev/stdin", "$UICC show /dev/fd/0 <card"] {
         let ran = folder.shell(line);
         assert!(
-            ran.status == 0 && ran.out.starts_with("card of version 1, 64 slots"),
+            ran.status == 0 && ran.out.starts_with("card of version 3, 64 slots"),
             "{line}: {}",
             ran.err
         );

@@ -20,7 +20,7 @@ fn a_script_without_commands_is_played() {
     let folder = Folder::new("empty");
     folder.write("empty", "# nothing\n\n");
     let out = folder.done(&["run", "empty"]);
-    assert!(out.contains("fresh card of version 1, 64 slots, root total 4032"), "{out}");
+    assert!(out.contains("fresh card of version 3, 64 slots, root total 4032"), "{out}");
     assert!(out.contains("current directory: total 4032, room 4032, 0 files"), "{out}");
 }
 
@@ -29,7 +29,7 @@ fn every_command_has_its_name_word_and_meaning() {
     let folder = Folder::new("names");
     folder.write(
         "all",
-        "00\n00B00000\n00440000\n00E80000\n00E60000\n00040000\n00FE0000\n00A4000C023F00\n",
+        "00\n00B10000\n00440000\n00E80000\n00E60000\n00040000\n00FE0000\n00A4000C023F00\n",
     );
     let out = folder.done(&["run", "all"]);
     let told: Vec<Vec<&str>> = out
@@ -38,7 +38,7 @@ fn every_command_has_its_name_word_and_meaning() {
         .map(|line| line.split("  ").map(str::trim).filter(|part| !part.is_empty()).collect())
         .collect();
     assert_eq!(told[0], ["1", "(too short)", "6700", "wrong length"]);
-    assert_eq!(told[1], ["2", "(unknown INS B0)", "6D00", "unknown instruction"]);
+    assert_eq!(told[1], ["2", "(unknown INS B1)", "6D00", "unknown instruction"]);
     assert_eq!(told[2][..3], ["3", "ACTIVATE FILE", "6985"]);
     assert_eq!(told[3], ["4", "TERMINATE EF", "6986", "no current EF"]);
     assert_eq!(told[4][..3], ["5", "TERMINATE DF", "6985"]);

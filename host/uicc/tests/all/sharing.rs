@@ -81,7 +81,7 @@ fn readers_share_and_who_writes_waits_for_them() {
     folder.done(&["new", "card"]);
     folder.write("script", "00040000\n");
     let held = hold(&folder, Use::Read);
-    assert!(folder.done(&["show", "card"]).starts_with("card of version 1, 64 slots"));
+    assert!(folder.done(&["show", "card"]).starts_with("card of version 3, 64 slots"));
     assert!(folder.done(&["export", "card"]).contains("--slots 64"));
     let (mut child, said) = waiting(&folder, &["run", "script", "--image", "card"]);
     assert!(said.contains("waiting for process"), "{said}");
@@ -124,7 +124,9 @@ fn a_new_card_takes_no_name_that_was_taken_meanwhile() {
         let winners: Vec<_> =
             (2..).zip(&ended).filter(|(_, ended)| ended.status.success()).collect();
         assert_eq!(winners.len(), 1, "round {round}");
-        assert_eq!(folder.read(&name).len(), 16 + 64 * winners[0].0, "round {round}");
+        let slots = winners[0].0;
+        let wanted = 16 + 64 * slots + 64 * (slots - 1);
+        assert_eq!(folder.read(&name).len(), wanted, "round {round}: image and pool");
         for loser in ended.iter().filter(|ended| !ended.status.success()) {
             let err = String::from_utf8_lossy(&loser.stderr);
             assert!(err.contains("exists already"), "round {round}: {err}");

@@ -32,7 +32,7 @@ fn a_lost_output_does_not_hide_that_the_card_was_saved() {
     }
     let folder = folder("new-full");
     assert_eq!(folder.shell("$UICC new other >/dev/full").status, SAVED_UNTOLD);
-    assert_eq!(folder.read("other").len(), 16 + 64 * 64);
+    assert_eq!(folder.read("other").len(), 16 + 64 * 64 + 64 * 63);
 }
 
 #[test]

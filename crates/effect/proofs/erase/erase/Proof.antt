@@ -1,6 +1,6 @@
--- `erase::erase`: marked on the image as it came, cleared, then what is current.
+-- `erase::erase`: marked on the image as it came, bodies wiped and records cleared, then what is current.
 use Rattle.subtree.proofs.Marks.{settled-none}
-use Rattle.effect.proofs.Writes.{deleted-chosen}
+use Rattle.effect.proofs.Writes.{deleted-chosen, wiped-chosen}
 use borrow.Author.Needs.{needs}
 use Rattle.effect.proofs.erase.erase.Statement.{statement}
 use Rattle.effect.proofs.erase.erase.Tie as tie
@@ -17,6 +17,9 @@ ef-left-requires c κs = search needs
 settle-all-requires : tie.Need-settle-all-requires
 settle-all-requires c κs = (search needs, (search needs, search settled-none))
 
+wipe-requires : tie.Need-wipe-requires
+wipe-requires c κs = search needs
+
 clear-chosen-requires : tie.Need-clear-chosen-requires
 clear-chosen-requires c κs = search needs
 
@@ -29,8 +32,11 @@ set-current-requires c κs = search needs
 same-length : tie.Need-same-length
 same-length c = search needs
 
+same-length-2 : tie.Need-same-length-2
+same-length-2 c = search needs
+
 returns : tie.Need-returns
-returns c = search deleted-chosen
+returns c = (search deleted-chosen, search wiped-chosen)
 
 pub erase-spec : {M : Type 1} → statement M
 erase-spec =
@@ -40,8 +46,10 @@ erase-spec =
     current-ef-requires
     ef-left-requires
     settle-all-requires
+    wipe-requires
     clear-chosen-requires
     cast-set-current
     set-current-requires
     same-length
+    same-length-2
     returns)

@@ -16,5 +16,9 @@ returns-3 : tie.Need-returns-3
 unfolding formsOf
 returns-3 c = search branches depth 30
 
+returns-4 : tie.Need-returns-4
+unfolding formsOf
+returns-4 c = search branches depth 30
+
 pub forms-spec : {M : Type 1} → statement M
-forms-spec = tie.close (tie.spec returns returns-2 returns-3)
+forms-spec = tie.close (tie.spec returns returns-2 returns-3 returns-4)

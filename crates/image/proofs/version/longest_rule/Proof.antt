@@ -17,5 +17,9 @@ returns-3 : tie.Need-returns-3
 unfolding longestRule
 returns-3 c = (search branches depth 30, omega arith)
 
+returns-4 : tie.Need-returns-4
+unfolding longestRule
+returns-4 c = (search branches depth 30, omega arith)
+
 pub longest-rule-spec : {M : Type 1} → statement M
-longest-rule-spec = tie.close (tie.spec returns returns-2 returns-3)
+longest-rule-spec = tie.close (tie.spec returns returns-2 returns-3 returns-4)

@@ -1,6 +1,6 @@
 -- `order::by_instruction`: by the instruction.
 use Rattle.judge.proofs.Plans.{selects, deletes, creates}
-use Rattle.judge.proofs.Plans.{plan-eq, plan-ne, select-long, delete-long, create-long}
+use Rattle.judge.proofs.Plans.{plan-eq, plan-ne, plan-yes, plan-no, select-long, delete-long, create-long, body-long}
 use mathlib.Core.Path.{refl}
 use Rattle.judge.specs.Judge.{planFor}
 use borrow.Author.Needs.{needs}
@@ -41,12 +41,26 @@ returns-3 : tie.Need-returns-3
 unfolding planFor
 returns-3 c = search (plan-ne, plan-eq, deletes) depth 30
 
-on-current-requires : tie.Need-on-current-requires
-on-current-requires c κs = search needs
+is-body-requires : tie.Need-is-body-requires
+is-body-requires c κs = search needs
+
+on-body-requires : tie.Need-on-body-requires
+on-body-requires c κs = (
+  search needs,
+  body-long _ (c .before .before .before .before .before .before .before .before .before .pre .1 .1 .1) refl (c .before .is-body .ensures)
+      (c .if4 .taken),
+)
 
 returns-4 : tie.Need-returns-4
 unfolding planFor
-returns-4 c = search (plan-ne, refl) depth 30
+returns-4 c = search (plan-ne, plan-yes) depth 30
+
+on-current-requires : tie.Need-on-current-requires
+on-current-requires c κs = search needs
+
+returns-5 : tie.Need-returns-5
+unfolding planFor
+returns-5 c = search (plan-ne, plan-no) depth 30
 
 pub by-instruction-spec : {M : Type 1} → statement M
 by-instruction-spec =
@@ -62,5 +76,8 @@ by-instruction-spec =
     sent-identifier-requires-2
     delete-file-requires
     returns-3
+    is-body-requires
+    on-body-requires
+    returns-4
     on-current-requires
-    returns-4)
+    returns-5)

@@ -1,5 +1,4 @@
 -- `order::judge`: with the slot count and the current DF that the image gives.
-use mathlib.Core.Path.{sym, _∙_}
 use Rattle.judge.specs.Judge.{judgeOf}
 use Rattle.judge_target.proofs.FromSound.{judgeable}
 use borrow.Author.Needs.{needs}

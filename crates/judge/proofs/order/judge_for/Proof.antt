@@ -1,6 +1,5 @@
 -- `order::judge_for`: its early returns are the steps A to D.
 use Rattle.laws.proofs.Branches.{answers, unlesses, tests}
-use mathlib.Core.Path.{refl}
 use Rattle.judge.specs.Judge.{judgeFor}
 use borrow.Author.Needs.{needs}
 use Rattle.judge.proofs.order.judge_for.Statement.{statement}

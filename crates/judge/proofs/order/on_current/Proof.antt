@@ -1,6 +1,5 @@
 -- `order::on_current`: by the instruction, about what is current.
-use mathlib.Core.Path.{_∙_}
-use Rattle.judge.proofs.Plans.{plans, current-stands}
+use Rattle.judge.proofs.Plans.{plans, current-stands, ef-stands}
 use Rattle.judge.specs.Judge.{lifePlan}
 use borrow.Author.Needs.{needs}
 use Rattle.judge.proofs.order.on_current.Statement.{statement}
@@ -40,8 +39,7 @@ current-ef-requires c κs = search needs
 terminate-ef-requires : tie.Need-terminate-ef-requires
 terminate-ef-requires c κs = (
   search needs,
-  λ z. rw (c .current-ef .ensures .0)
-      (c .before .before .before .before .before .pre .0 .ef (λ e. z (c .current-ef .ensures .0 ∙ e))),
+  ef-stands _ _ _ _ (c .before .before .before .before .before .pre .0) (c .current-ef .ensures .0),
 )
 
 returns-3 : tie.Need-returns-3

@@ -7,6 +7,9 @@ use Rattle.sound_records.proofs.blank.after_long_rule.Tie as tie
 add-zeros : tie.Need-add-zeros
 add-zeros c = search needs
 
+add-zeros-2 : tie.Need-add-zeros-2
+add-zeros-2 c = search needs
+
 sub-zeros : tie.Need-sub-zeros
 sub-zeros c = search needs
 
@@ -25,6 +28,9 @@ eight-requires c κs = search needs
 returns-2 : tie.Need-returns-2
 returns-2 c = search long-first
 
+sub-eight : tie.Need-sub-eight
+sub-eight c = search needs
+
 eight-requires-2 : tie.Need-eight-requires-2
 eight-requires-2 c κs = search needs
 
@@ -36,11 +42,13 @@ after-long-rule-spec =
     tie.close
     (tie.spec
     add-zeros
+    add-zeros-2
     sub-zeros
     zeros-requires
     returns
     add-eight
     eight-requires
     returns-2
+    sub-eight
     eight-requires-2
     returns-3)

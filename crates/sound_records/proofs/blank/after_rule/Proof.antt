@@ -1,4 +1,4 @@
--- `blank::after_rule`: four words, from the end of the rule to the end of the record.
+-- `blank::after_rule`: four words, from the end of the rule to where the zeros end.
 use Rattle.sound_records.proofs.Zeros.{rule-first, rule-second, rule-third, rule-last}
 use borrow.Author.Needs.{needs}
 use Rattle.sound_records.proofs.blank.after_rule.Statement.{statement}
@@ -31,6 +31,9 @@ eight-requires-3 c κs = search needs
 returns-3 : tie.Need-returns-3
 returns-3 c = search rule-third
 
+sub-eight : tie.Need-sub-eight
+sub-eight c = search needs
+
 eight-requires-4 : tie.Need-eight-requires-4
 eight-requires-4 c κs = search needs
 
@@ -50,5 +53,6 @@ after-rule-spec =
     add-eight-3
     eight-requires-3
     returns-3
+    sub-eight
     eight-requires-4
     returns-4)

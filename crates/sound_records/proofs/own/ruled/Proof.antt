@@ -25,10 +25,13 @@ shared-slice-read-if2 c = search needs
 returns-2 : tie.Need-returns-2
 returns-2 c = search ruling
 
+zeros-end-requires : tie.Need-zeros-end-requires
+zeros-end-requires c κs = search needs
+
 ruled-long-requires : tie.Need-ruled-long-requires
 ruled-long-requires c κs = (
   (search needs, (search needs, search needs)),
-  (search needs, form-known _ _ (c .before .before .before .forms .ensures) (c .before .if2 .left)),
+  ((search needs, form-known _ _ (c .before .before .before .before .forms .ensures) (c .before .before .if2 .left)), search needs),
 )
 
 returns-3 : tie.Need-returns-3
@@ -72,6 +75,7 @@ ruled-spec =
     forms-requires
     shared-slice-read-if2
     returns-2
+    zeros-end-requires
     ruled-long-requires
     returns-3
     after-rule-requires

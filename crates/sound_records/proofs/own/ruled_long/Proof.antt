@@ -1,4 +1,5 @@
 -- `own::ruled_long`: how long the rule is, zeros from its end on, then the rule itself.
+use Rattle.sound_records.proofs.Tails.{long-room}
 use Rattle.sound_records.proofs.Bytes.{ruled-tail, long-past, long-is}
 use borrow.Author.Needs.{needs}
 use Rattle.sound_records.proofs.own.ruled_long.Statement.{statement}
@@ -11,7 +12,10 @@ returns : tie.Need-returns
 returns c = search long-past
 
 after-long-rule-requires : tie.Need-after-long-rule-requires
-after-long-rule-requires c κs = search needs
+after-long-rule-requires c κs = (
+  (search needs, (search needs, search long-room)),
+  search needs,
+)
 
 returns-2 : tie.Need-returns-2
 returns-2 c = search ruled-tail

@@ -108,10 +108,12 @@ fn the_versions_that_take_a_rule_are_told() {
     let zeros = |many| "00".repeat(many);
     let always = |many| format!("80017F{}", "9000".repeat(many));
     for (row, told) in [
-        (zeros(1), "compact rule (8C) of 1 byte, for cards of version 1 and 2\n"),
-        (zeros(16), "compact rule (8C) of 16 bytes, for cards of version 1 and 2\n"),
-        (zeros(17), "compact rule (8C) of 17 bytes, for cards of version 2\n"),
-        (always(1), "expanded rule (AB) of 5 bytes, for cards of version 2\n"),
+        (zeros(1), "compact rule (8C) of 1 byte, for cards of version 1, 2 and 3\n"),
+        (zeros(16), "compact rule (8C) of 16 bytes, for cards of version 1, 2 and 3\n"),
+        (zeros(17), "compact rule (8C) of 17 bytes, for cards of version 2 and 3\n"),
+        (always(1), "expanded rule (AB) of 5 bytes, for cards of version 2 and 3\n"),
+        (zeros(28), "compact rule (8C) of 28 bytes, for cards of version 2 and 3\n"),
+        (zeros(29), "compact rule (8C) of 29 bytes, for cards of version 2\n"),
         (always(13), "expanded rule (AB) of 29 bytes, for cards of version 2\n"),
     ] {
         let given = explain(&hex::bytes(&row).expect("hex")).expect("a good rule");
