@@ -69,9 +69,9 @@ need_cargo() {
     give_up "no package has cargo $rust_wanted or newer: install Rust by hand, so that its cargo is on PATH"
 }
 
-# The library of the proved code, as an archive and as a shared object.
+# The library of the proved code, as an archive and as a shared object; and the searches alone, which bench measures.
 make_library() {
-    rt staticlib abi &&
+    rt staticlib abi && rt staticlib searches &&
         "$HULL_GCC" -shared -o target/libhullplaiter.so -Wl,--whole-archive target/staticlib/libabi.a -Wl,--no-whole-archive
 }
 

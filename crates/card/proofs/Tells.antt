@@ -26,7 +26,7 @@ use Rattle.sound.proofs.Made.{sound-made}
 use Rattle.sound.proofs.Deleted.{sound-deleted}
 use Rattle.sound.proofs.Lived.{sound-lived}
 use Rattle.kinship.specs.Climb.{Stands}
-use Rattle.kinship.proofs.Sound.{rooted}
+use Rattle.kinship.proofs.Sound.{rooted, housed}
 use Rattle.verdict.specs.declared.Verdict.{Verdict}
 use Rattle.verdict.specs.declared.Verdict.the-variants.{Refuse, Select, Create, Delete, SetLife, Read, Update}
 use Rattle.verdict.specs.Applied.{sentData, appliedOf}
@@ -105,7 +105,7 @@ module _ (img pool : List ℕ) (sound : Sound img) (k : PoolFits img pool) where
   fit c (Update at) t = (t .0, omega (arith, touched c at (length (sentData c)) (t .1), length-drop 5 c))
 
   pub applies : (c : List ℕ) (v : Verdict) → Tells img c v → Applies img (countOf img) pool c v
-  applies c v t = record { rooted = rooted img sound; count = refl; laid = lies; fit = fit c v t }
+  applies c v t = record { rooted = rooted img sound; housed = housed img sound; count = refl; laid = lies; fit = fit c v t }
 
 -- and leaves a sound image
 pub sound-applied : (img c : List ℕ) (v : Verdict) → Sound img → Tells img c v → Sound (appliedOf img c v)

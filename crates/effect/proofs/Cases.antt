@@ -14,7 +14,7 @@ use Rattle.verdict.specs.declared.Verdict.{Verdict}
 use Rattle.verdict.specs.declared.Verdict.the-variants.{Create, Delete, SetLife, Update}
 use Rattle.verdict.specs.Words.{done}
 use Rattle.verdict.specs.Applied.{wordOf, sentData, appliedOf, pooledOf}
-use Rattle.kinship.specs.Climb.{Rooted}
+use Rattle.kinship.specs.Climb.{Rooted, Housed}
 use Rattle.effect.specs.Fit.{FileSent, Roomy, Applies}
 use Rattle.effect.proofs.Sent.{length-sent}
 
@@ -42,8 +42,8 @@ module _ (img : List ℕ) (n : ℕ) (pool c : List ℕ) (v : Verdict) (applies :
     )
 
   pub delete-fits : (s : ℕ) → v ≡ Delete s
-      → Rooted img n × (((n ≡ countOf img) × (s < n)) × Laid n (startAt img) (bodyAt img) (length pool))
-  delete-fits s e = (applies .rooted, ((applies .count, rw e at (applies .fit)), applies .laid))
+      → (Rooted img n × Housed img n) × (((n ≡ countOf img) × (s < n)) × Laid n (startAt img) (bodyAt img) (length pool))
+  delete-fits s e = ((applies .rooted, applies .housed), ((applies .count, rw e at (applies .fit)), applies .laid))
 
   pub set-life-fits : (s life : ℕ) → v ≡ SetLife s life → Within img s
   set-life-fits s life e = within-sized img n s (applies .rooted .sized) (rw e at (applies .fit))

@@ -1,6 +1,6 @@
 -- The writes of CREATE and of DELETE, one after the other: v is the version that was read, x the image after the records
 -- were written, y the image after what is current was set; and what DELETE leaves of the pool.
-use mathlib.Core.Path.{_≡_, refl}
+use mathlib.Core.Path.{_≡_, refl, _∙_}
 use mathlib.Core.List.{List}
 use mathlib.Core.Bool.{Bool, cond}
 use Prim.Native.Nat.{ℕ, zero, suc, _<_, _≤_}
@@ -34,37 +34,34 @@ module _ (img x y : List ℕ) (v s : ℕ) (h : Head) (name rule : List ℕ) (kno
   created-ef d i f g = rw (ne-eqb (h .kind) 1 f, ← known, ← e, ← i) g
 
 -- bodies that are wiped by two tests that agree
-wipe-cong : (n : ℕ) (p q : ℕ → Bool) (a z : ℕ → ℕ) (pool : List ℕ) → ((i : ℕ) → i < n → p i ≡ q i)
+pub wipe-cong : (n : ℕ) (p q : ℕ → Bool) (a z : ℕ → ℕ) (pool : List ℕ) → ((i : ℕ) → i < n → p i ≡ q i)
     → wipeBelow n p a z pool ≡ wipeBelow n q a z pool
 unfolding wipeBelow
 wipe-cong zero p q a z pool h = refl
 wipe-cong (suc n) p q a z pool h = rw (wipe-cong n p q a z pool (λ i l. h i (omega arith)), h n (omega arith))
 
--- DELETE: the slots below n that are marked; df, old and ef are the current DF, and the current EF before and after
-pub deleted-chosen : (img x y marks : List ℕ) (n d df old ef : ℕ) → n ≡ countOf img → df ≡ currentDfOf img → old ≡ currentEfOf img
-    → ef ≡ cond (eqb old d) none old → Settled (viewAt img) n d n marks
-    → x ≡ clearBelow n (λ k. eqb (getD marks k 0) 1) img → y ≡ setCurrent x df ef → y ≡ deleted img d
-unfolding deleted
-deleted-chosen img x y marks n d df old ef e f g h m i k =
-    rw (
-      ← e,
-      ← f,
-      ← g,
-      ← h,
-      ← clear-cong n (λ k. eqb (getD marks k 0) 1) (atOrBeneath (viewAt img) d) img
-          (λ s l. chosen-beneath (viewAt img) n d s marks m l),
-      ← i,
-    )
-    k
+-- what is cleared and wiped by marks is d and all beneath it: x afterwards, and q of the pool
+module _ (img marks : List ℕ) (n d : ℕ) (m : Settled (viewAt img) n d n marks) where
+  pub cleared-chosen : (x : List ℕ) → x ≡ clearBelow n (λ k. eqb (getD marks k 0) 1) img → x ≡ clearBelow n (atOrBeneath (viewAt img) d) img
+  cleared-chosen x i =
+      i
+      ∙ clear-cong n (λ k. eqb (getD marks k 0) 1) (atOrBeneath (viewAt img) d) img
+      (λ s l. chosen-beneath (viewAt img) n d s marks m l)
 
--- .. and their bytes of the pool, q afterwards
-pub wiped-chosen : (img pool q marks : List ℕ) (n d : ℕ) → n ≡ countOf img → Settled (viewAt img) n d n marks
-    → q ≡ wipeBelow n (λ k. eqb (getD marks k 0) 1) (startAt img) (bodyAt img) pool → q ≡ wiped img pool d
+  pub wiped-chosen : (pool q : List ℕ) → q ≡ wipeBelow n (λ k. eqb (getD marks k 0) 1) (startAt img) (bodyAt img) pool
+      → q ≡ wipeBelow n (atOrBeneath (viewAt img) d) (startAt img) (bodyAt img) pool
+  wiped-chosen pool q i =
+      i
+      ∙ wipe-cong n (λ k. eqb (getD marks k 0) 1) (atOrBeneath (viewAt img) d) (startAt img) (bodyAt img) pool
+      (λ s l. chosen-beneath (viewAt img) n d s marks m l)
+
+-- DELETE: df, old and ef are the current DF, and the current EF before and after
+pub deleted-is : (img x y : List ℕ) (n d df old ef : ℕ) → n ≡ countOf img → df ≡ currentDfOf img → old ≡ currentEfOf img
+    → ef ≡ cond (eqb old d) none old → x ≡ clearBelow n (atOrBeneath (viewAt img) d) img → y ≡ setCurrent x df ef → y ≡ deleted img d
+unfolding deleted
+deleted-is img x y n d df old ef e f g h i k = rw (← e, ← f, ← g, ← h, ← i) k
+
+pub wiped-is : (img pool q : List ℕ) (n d : ℕ) → n ≡ countOf img
+    → q ≡ wipeBelow n (atOrBeneath (viewAt img) d) (startAt img) (bodyAt img) pool → q ≡ wiped img pool d
 unfolding wiped
-wiped-chosen img pool q marks n d e m i =
-    rw (
-      ← e,
-      ← wipe-cong n (λ k. eqb (getD marks k 0) 1) (atOrBeneath (viewAt img) d) (startAt img) (bodyAt img) pool
-          (λ s l. chosen-beneath (viewAt img) n d s marks m l),
-    )
-    i
+wiped-is img pool q n d e i = rw (← e) i

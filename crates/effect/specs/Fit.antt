@@ -11,7 +11,7 @@ use Rattle.pool.specs.Bodies.{startAt, bodyAt}
 use Rattle.pool.specs.Laid.{Laid}
 use Rattle.sound.specs.Sound.{poolLength}
 use Rattle.sound.specs.Effects.{newBody}
-use Rattle.kinship.specs.Climb.{Rooted}
+use Rattle.kinship.specs.Climb.{Rooted, Housed}
 use Rattle.template.specs.declared.Span.{Span}
 use Rattle.verdict.specs.declared.NewRecord.{NewRecord}
 use Rattle.verdict.specs.declared.Verdict.{Verdict}
@@ -48,6 +48,7 @@ Fit img pool n c (Update at) = (5 ≤ length c) × (at + (length c - 5) ≤ leng
 -- the verdict v on the command c can be applied to the image of n slots and its pool
 pub record Applies (img : List ℕ) (n : ℕ) (pool c : List ℕ) (v : Verdict) : Type 0 where
   pub rooted : Rooted img n
+  pub housed : Housed img n
   pub count : n ≡ countOf img
   -- bodies lie in the pool, apart
   pub laid : Laid n (startAt img) (bodyAt img) (length pool)

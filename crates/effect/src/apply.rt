@@ -9,7 +9,7 @@ ghost use Rattle.image.specs.Layout.{Within, Sized, setCurrent, setLife, longes
 ghost use Rattle.pool.specs.Bodies.{startAt, bodyAt};
 ghost use Rattle.pool.specs.Laid.{Laid};
 ghost use Rattle.sound.specs.Effects.{created, newBody, made, filled, deleted, wiped};
-ghost use Rattle.kinship.specs.Climb.{Rooted};
+ghost use Rattle.kinship.specs.Climb.{Rooted, Housed};
 ghost use Rattle.verdict.specs.Words.{done};
 ghost use Rattle.verdict.specs.Applied.{wordOf, sentData, appliedOf, pooledOf};
 ghost use Rattle.effect.specs.Fit.{Roomy, Applies};
@@ -100,7 +100,7 @@ fn create(
 
 // DELETE, with its word.
 fn delete(image: &mut [u8], n: usize, pool: &mut [u8], slot: usize) -> u16
-    requires { ⌜ Rooted (now image) n ⌝ }
+    requires { ⌜ Rooted (now image) n × Housed (now image) n ⌝ }
     requires { ⌜ (n ≡ countOf (now image)) × (slot < n) ⌝ }
     requires { ⌜ Laid n (startAt (now image)) (bodyAt (now image)) (length (now pool)) ⌝ }
     ensures { λ r. ⌜ (r ≡ done) × (now (image .exit) ≡ deleted (now (image .entry)) slot)

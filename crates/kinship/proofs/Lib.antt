@@ -1,4 +1,5 @@
 pub mod Files
+pub mod Foreign
 pub mod Sameness
 pub mod Costs
 pub mod Counts

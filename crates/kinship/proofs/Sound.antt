@@ -10,7 +10,7 @@ use Rattle.image.specs.Layout.{Sized, countOf}
 use Rattle.sound.specs.Table.{viewAt, File}
 use Rattle.sound.specs.Kin.{Placed}
 use Rattle.sound.specs.Sound.{Sound, Header}
-use Rattle.kinship.specs.Climb.{Rooted, Stands, Paid}
+use Rattle.kinship.specs.Climb.{Rooted, Stands, Housed, Paid}
 
 -- parents that stand where they must make the way up safe
 pub rooted-by : (img : List ℕ) (n : ℕ) → Sized img n → viewAt img 0 .parent ≡ 0 → viewAt img 0 .level ≡ 0
@@ -41,6 +41,13 @@ module _ (img : List ℕ) (sound : Sound img) where
 
   pub rooted : Rooted img (countOf img)
   rooted = rooted-by img (countOf img) sized (sound .kin .root-parent) (sound .kin .root-level) (sound .kin .placed)
+
+  pub housed : Housed img (countOf img)
+  housed = record { dir = λ s h. ⊎-elim (root s) (λ z. sound .kin .placed s (h .low) (h .used, z) .dir) (same-or s 0) }
+    where
+      root : (s : ℕ) → s ≡ 0 → viewAt img (viewAt img s .parent) .kind ≡ df
+      root s z = ap (λ (x : ℕ). viewAt img (viewAt img x .parent) .kind) z ∙ ap (λ (x : ℕ). viewAt img x .kind) (sound .kin .root-parent)
+          ∙ sound .kin .root-kind
 
   pub paid : (d : ℕ) → d < countOf img → viewAt img d .kind ≡ df → Paid img (countOf img) d
   paid d l k = record { within = sound .kin .charges d l k }

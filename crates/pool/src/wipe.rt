@@ -10,7 +10,7 @@ ghost use Rattle.pool.specs.Wiped.{EndsIn, wipeIf, wiped};
 use crate::body;
 
 // Zeroes the body of slot s, if it goes and has one.
-fn wipe_if(image: &[u8], pool: &mut [u8], s: usize, goes: bool)
+pub fn wipe_if(image: &[u8], pool: &mut [u8], s: usize, goes: bool)
     requires { ⌜ Within (now image) s ⌝ }
     requires { ⌜ EndsIn (startAt (now image)) (bodyAt (now image)) (length (now pool)) s ⌝ }
     ensures { λ _. ⌜ now (pool .exit) ≡ wipeIf goes (startAt (now (image .entry))) (bodyAt (now (image .entry))) (now (pool .entry)) s ⌝ }

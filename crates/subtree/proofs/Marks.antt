@@ -13,9 +13,9 @@ use Rattle.laws.proofs.Chains.{and-on, and-off}
 use Rattle.laws.proofs.Says.{same-or}
 use Rattle.sound.specs.Table.{View, viewAt}
 use Rattle.sound.specs.Kinship.{atOrBeneath, beneath}
-use Rattle.kinship.specs.Climb.{Rooted}
-use Rattle.subtree.specs.Known.{markOf, isOpen, Known, Keeps, Settled}
-use Rattle.subtree.proofs.Way.{Passed, beneath-free, beneath-same, beneath-other, shut-high}
+use Rattle.kinship.specs.Climb.{Rooted, Stands}
+use Rattle.subtree.specs.Known.{markOf, isOpen, Known, MarkOrNone, Keeps, Settled}
+use Rattle.subtree.proofs.Way.{Passed, beneath-free, beneath-same, beneath-other, beneath-parent, shut-high}
 
 -- a mark is never 0, and tells the test
 pub mark-some : (b : Bool) → markOf b ≡ 0 → ⊥
@@ -72,6 +72,25 @@ module _ (img : List ℕ) (n d s t : ℕ) (h : Passed img n d s t) (marks : List
         (sym (beneath-other (viewAt img) d t (h .stands .used) (omega (arith, shut-high (viewAt img) high marks t r e o (sym f ∙ z))) q)
         ∙ h .same)
 
+pub parent-fits : (img : List ℕ) (n s p : ℕ) → Rooted img n → Stands img n s → p ≡ viewAt img s .parent → p < 1023
+parent-fits img n s p rooted h q = omega (arith, rooted .parent s h .low, rooted .sized .most)
+
+-- without a climb: l and high are the levels of s and d, p the parent of s
+module _ (img : List ℕ) (n d s : ℕ) (h : Stands img n s) (high l : ℕ) (f : high ≡ viewAt img d .level) (e : l ≡ viewAt img s .level) where
+  pub once-parent : Rooted img n → (marks : List ℕ) → Known (viewAt img) n d marks → high < l → (p : ℕ) → p ≡ viewAt img s .parent
+      → MarkOrNone (viewAt img) d s (getD marks p 0)
+  once-parent rooted marks k deep p q =
+      let up = rooted .parent s h in
+      let step : viewAt img s .level ≡ viewAt img (viewAt img s .parent) .level + 1 = rooted .level s h (omega arith) in
+      let same = beneath-parent (viewAt img) d s (viewAt img s .parent) (h .used) (up .used) refl step (omega arith) in
+      record { right = rw q (λ z. k .right (viewAt img s .parent) (up .low) z ∙ ap markOf same) }
+
+  pub once-here : s ≡ d → MarkOrNone (viewAt img) d s 1
+  once-here z = record { right = λ y. ap markOf (sym (beneath-same (viewAt img) d s (h .used) z)) }
+
+  pub once-other : l ≤ high → (s ≡ d → ⊥) → MarkOrNone (viewAt img) d s 2
+  once-other m z = record { right = λ y. ap markOf (sym (beneath-other (viewAt img) d s (h .used) (omega arith) z)) }
+
 -- t, which the way up from s passed, gets the mark m of s
 module _ (img : List ℕ) (n d s t : ℕ) (rooted : Rooted img n) (h : Passed img n d s t) (marks : List ℕ)
     (k : Known (viewAt img) n d marks) (m : ℕ) (e : m ≡ markOf (atOrBeneath (viewAt img) d s)) where
@@ -95,6 +114,9 @@ module _ (v : ℕ → View) (n d s : ℕ) (marks : List ℕ) (h : Settled v n d 
             (λ i a. keeps-set v n d l k most s m low e marks g .kept i (h .done i a))
             (set-known v n d l k most s m low e);
       }
+
+  pub settled-once : n ≤ 1023 → s < n → (m : ℕ) → MarkOrNone v d s m → (m ≡ 0 → ⊥) → Settled v n d (s + 1) (set marks s m)
+  settled-once most low m k z = settled-new most low marks m (h .known) (keeps-all marks) (k .right z)
 
   pub settled-free : n ≤ 1023 → s < n → (k : ℕ) → k ≡ v s .kind → k ≡ 0 → Settled v n d (s + 1) (set marks s 2)
   settled-free most low k e z = settled-new most low marks 2 (h .known) (keeps-all marks) (ap markOf (sym (beneath-free v d s (sym e ∙ z))))

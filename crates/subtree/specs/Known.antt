@@ -21,6 +21,10 @@ pub record Known (v : ℕ → View) (n d : ℕ) (marks : List ℕ) : Type 0 wher
   pub long : length marks ≡ 1023
   pub right : (k : ℕ) → k < n → (getD marks k 0 ≡ 0 → ⊥) → getD marks k 0 ≡ markOf (atOrBeneath v d k)
 
+-- r is the mark of s, or 0
+pub record MarkOrNone (v : ℕ → View) (d s r : ℕ) : Type 0 where
+  pub right : (r ≡ 0 → ⊥) → r ≡ markOf (atOrBeneath v d s)
+
 -- what was known still is
 pub record Keeps (old new : List ℕ) : Type 0 where
   pub kept : (k : ℕ) → (getD old k 0 ≡ 0 → ⊥) → getD new k 0 ≡ 0 → ⊥

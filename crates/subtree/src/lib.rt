@@ -2,14 +2,14 @@
 // reporting": all files beneath).
 //
 // A walk over the slots: each climbs to a record that is known, or that stands no deeper than the directory; then all
-// that it passed are known too. So no record is passed by two climbs.
+// that it passed are known too. So no record is passed by two climbs, and one whose parent is known climbs nowhere.
 ghost use mathlib.Core.Path.{_≡_};
 ghost use Prim.Native.Nat.{_+_, _<_};
 ghost use Rattle.image.specs.Layout.{Within};
 ghost use Rattle.sound.specs.Table.{viewAt};
 ghost use Rattle.sound.specs.Kinship.{atOrBeneath, beneath as isBeneath, filesBeneath};
 ghost use Rattle.kinship.specs.Climb.{Rooted, Stands};
-ghost use Rattle.subtree.specs.Known.{markOf, isOpen, Known, Keeps, Settled};
+ghost use Rattle.subtree.specs.Known.{markOf, isOpen, Known, MarkOrNone, Keeps, Settled};
 use image::fields;
 
 // Whether s is not known yet, and deeper than level `high`.
@@ -61,6 +61,23 @@ fn spread(marks: &mut [u8; 1023], image: &[u8], n: usize, d: usize, s: usize, ma
     }
 }
 
+// The mark of s where that takes no climb: s is no deeper than d, or its parent's mark is its own, which is 0 as long as it is not
+// known. Parents mostly stand in lower slots, so most records are settled here.
+fn at_once(marks: &[u8; 1023], image: &[u8], n: usize, d: usize, s: usize) -> u8
+    requires { ⌜ Rooted (now image) n ⌝ }
+    requires { ⌜ (d < n) × Stands (now image) n s ⌝ }
+    requires { ⌜ Known (viewAt (now image)) n d (now marks) ⌝ }
+    ensures { λ r. ⌜ MarkOrNone (viewAt (now (image .entry))) d s r ⌝ }
+{
+    if fields::level(image, d) < fields::level(image, s) {
+        return marks[fields::parent(image, s)];
+    }
+    if s == d {
+        return 1;
+    }
+    2
+}
+
 // Makes s known.
 fn settle(marks: &mut [u8; 1023], image: &[u8], n: usize, d: usize, s: usize)
     requires { ⌜ Rooted (now image) n ⌝ }
@@ -73,6 +90,11 @@ fn settle(marks: &mut [u8; 1023], image: &[u8], n: usize, d: usize, s: usize)
     }
     if fields::kind(image, s) == image::FREE {
         marks[s] = 2;
+        return;
+    }
+    let known = at_once(marks, image, n, d, s);
+    if known != 0 {
+        marks[s] = known;
         return;
     }
     let mark = find(marks, image, n, d, s);

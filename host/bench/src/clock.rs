@@ -11,7 +11,7 @@ const MOST_RUNS: usize = 2000;
 /// One copy of a small image is too short for the clock; so many are timed.
 const COPIES_AT_ONCE: u32 = 64;
 
-/// What many runs took, in microseconds.
+/// What many runs took; in microseconds, unless another unit is told.
 #[derive(Clone, Copy, Debug, PartialEq)]
 pub struct Times {
     pub median: f64,
@@ -19,11 +19,11 @@ pub struct Times {
 }
 
 impl Times {
-    /// Of at least one run.
-    fn of(mut seconds: Vec<f64>) -> Times {
-        seconds.sort_by(f64::total_cmp);
-        let at = |place: usize| seconds.get(place).copied().unwrap_or(f64::NAN) * 1e6;
-        Times { median: at(seconds.len() / 2), lowest: at(0) }
+    /// Of at least one run, in the same unit.
+    pub fn of(mut runs: Vec<f64>) -> Times {
+        runs.sort_by(f64::total_cmp);
+        let at = |place: usize| runs.get(place).copied().unwrap_or(f64::NAN);
+        Times { median: at(runs.len() / 2), lowest: at(0) }
     }
 }
 
@@ -45,32 +45,35 @@ pub fn measure<T, U>(
     (Times::of(first), Times::of(second))
 }
 
-/// One run on a fresh copy of the start, in the same place in memory, in
-/// seconds.
+/// One run on a fresh copy of the start, in the same place in memory.
 fn time<T>(lent: &mut Lent, start: &Lent, work: &mut impl FnMut(&mut Lent) -> T) -> f64 {
     lent.image.clone_from(&start.image);
     lent.pool.clone_from(&start.pool);
     let before = Instant::now();
     black_box(work(black_box(lent)));
-    before.elapsed().as_secs_f64()
+    microseconds_since(before)
 }
 
 /// One copy of an image, or of a pool, of so many bytes.
 pub fn measure_copy(length: usize, budget: Duration) -> Times {
     let start = vec![0xA5_u8; length];
     let mut image = vec![0_u8; length];
-    let seconds = repeat(budget, || {
+    let runs = repeat(budget, || {
         let before = Instant::now();
         for _ in 0..COPIES_AT_ONCE {
             black_box(&mut image).copy_from_slice(black_box(&start));
         }
-        before.elapsed().as_secs_f64() / f64::from(COPIES_AT_ONCE)
+        microseconds_since(before) / f64::from(COPIES_AT_ONCE)
     });
-    Times::of(seconds)
+    Times::of(runs)
+}
+
+fn microseconds_since(before: Instant) -> f64 {
+    before.elapsed().as_secs_f64() * 1e6
 }
 
 /// What each run gives, as often as the budget allows.
-fn repeat<T>(budget: Duration, mut run: impl FnMut() -> T) -> Vec<T> {
+pub fn repeat<T>(budget: Duration, mut run: impl FnMut() -> T) -> Vec<T> {
     let begun = Instant::now();
     let mut given = Vec::new();
     // The first run fills the caches and is not counted.
@@ -87,8 +90,8 @@ mod tests {
 
     #[test]
     fn median_and_lowest() {
-        let times = Times::of(vec![3e-6, 1e-6, 2e-6, 9e-6, 2.5e-6]);
-        assert!((times.median - 2.5).abs() < 1e-9 && (times.lowest - 1.0).abs() < 1e-9);
+        let times = Times::of(vec![3.0, 1.0, 2.0, 9.0, 2.5]);
+        assert_eq!(times, Times { median: 2.5, lowest: 1.0 });
     }
 
     #[test]

@@ -11,12 +11,19 @@
 //!
 //! Each figure is the median of as many runs as M milliseconds allow (100), all
 //! in one process. It is no part of the tests: a loaded machine is slower.
+//!
+//!     cargo run --release -p bench -- --searches [--milliseconds M]
+//!
+//! measures instead only the searches by identifier, on the largest cards: as
+//! they are now, beside the plain walk that they were before and the floor, a loop
+//! that compares one word of each record.
 
-#![forbid(unsafe_code)]
+#![deny(unsafe_code)]
 
 mod bodied;
 mod clock;
 mod measured;
+mod searches;
 mod shapes;
 mod slowest;
 mod table;
@@ -32,7 +39,7 @@ use measured::Measured;
 use shapes::shapes;
 
 const SIZES: [usize; 4] = [16, 128, 256, 1023];
-const USAGE: &str = "usage: bench [--milliseconds M] [--shape WORD]";
+const USAGE: &str = "usage: bench [--milliseconds M] [--shape WORD | --searches]";
 
 /// What was measured for one task on one card.
 pub struct Cell {
@@ -41,18 +48,30 @@ pub struct Cell {
     pub word: u16,
 }
 
+/// What is measured: the shapes whose title has a word, or the searches alone.
+enum Asked {
+    Shapes(String),
+    Searches,
+}
+
 fn main() -> ExitCode {
     let arguments: Vec<_> = std::env::args_os().skip(1).collect();
-    let Some((budget, shape)) = read(&arguments) else {
+    let Some((budget, asked)) = read(&arguments) else {
         console::complain(USAGE);
         return ExitCode::from(2);
     };
-    if !titles().iter().any(|title| title.contains(&shape)) {
-        console::complain(&format!("bench: no shape has {shape:?}; there are:"));
-        titles().iter().for_each(|title| console::complain(&format!("  {title}")));
-        return ExitCode::from(2);
-    }
-    match console::unless_reader_left(measure_all(budget, &shape)) {
+    let measured = match asked {
+        Asked::Searches => searches::measure_all(budget),
+        Asked::Shapes(shape) if titles().iter().any(|title| title.contains(&shape)) => {
+            measure_all(budget, &shape)
+        }
+        Asked::Shapes(shape) => {
+            console::complain(&format!("bench: no shape has {shape:?}; there are:"));
+            titles().iter().for_each(|title| console::complain(&format!("  {title}")));
+            return ExitCode::from(2);
+        }
+    };
+    match console::unless_reader_left(measured) {
         Ok(()) => ExitCode::SUCCESS,
         Err(error) => {
             console::complain(&format!("bench: {error}"));
@@ -77,17 +96,23 @@ fn measure_all(budget: Duration, shape: &str) -> io::Result<()> {
     out.flush()
 }
 
-fn read(arguments: &[OsString]) -> Option<(Duration, String)> {
-    let (mut milliseconds, mut shape) = (100, String::new());
+fn read(arguments: &[OsString]) -> Option<(Duration, Asked)> {
+    let (mut milliseconds, mut shape, mut searches) = (100, None, false);
     let mut words = arguments.iter();
     while let Some(word) = words.next() {
         match word.to_str()? {
             "--milliseconds" => milliseconds = words.next()?.to_str()?.parse().ok()?,
-            "--shape" => shape = words.next()?.to_str()?.to_string(),
+            "--shape" => shape = Some(words.next()?.to_str()?.to_string()),
+            "--searches" => searches = true,
             _ => return None,
         }
     }
-    Some((Duration::from_millis(milliseconds), shape))
+    let asked = match (searches, shape) {
+        (true, None) => Asked::Searches,
+        (true, Some(_)) => return None,
+        (false, shape) => Asked::Shapes(shape.unwrap_or_default()),
+    };
+    Some((Duration::from_millis(milliseconds), asked))
 }
 
 fn titles() -> Vec<&'static str> {

@@ -10,7 +10,7 @@ use model::Card;
 use crate::bodied;
 
 /// The files that cards of version 2 have.
-const FILES: &str = "900 files in 40 directories";
+pub const FILES: &str = "900 files in 40 directories";
 
 /// A card that is measured.
 pub struct Shape {

@@ -35,7 +35,7 @@ pub fn cards_of(slots: usize) -> Vec<Worst> {
         worst("deepest nesting", deepest(slots)),
         worst("all names", all_names(slots)),
         worst("one identifier in every directory", one_identifier(slots)),
-        worst("900 files in 40 directories", nine_hundred_files(slots)),
+        worst("900 files in 40 directories", nine_hundred_files(slots, 40)),
     ]
 }
 
@@ -45,10 +45,17 @@ pub fn slow_of(slots: usize) -> Vec<Worst> {
     vec![Worst { title: "all names of one key", image: names_of_one_key(slots).encode() }]
 }
 
+/// Cards with so many slots on which a search by identifier meets hardly anything
+/// but children of its directory (02, Ticket 5); they are only measured.
+pub fn one_directory_of(slots: usize) -> Vec<Worst> {
+    let card = nine_hundred_files(slots, 1);
+    vec![Worst { title: "one directory of 900 files", image: card.encode() }]
+}
+
 /// Cards of version 2 with so many slots, all of whose rules are as long and as
 /// deep as can be (02, Ticket 3).
 pub fn ruled_of(slots: usize) -> Vec<Worst> {
-    let mut card = nine_hundred_files(slots);
+    let mut card = nine_hundred_files(slots, 40);
     card.edition = Edition::of(Version::Two);
     for record in card.records.iter_mut().filter(|record| record.is_used()) {
         (record.form, record.rule) = (Form::Expanded, longest_rule());
@@ -197,13 +204,13 @@ fn one_identifier(slots: usize) -> Card {
     filling.card
 }
 
-/// Of 1,023 slots 40 directories, first all of them, then 900 EFs in turn, so
-/// that the children of one directory lie far apart; of fewer slots as many in
-/// proportion. The last directory is current.
-fn nine_hundred_files(slots: usize) -> Card {
+/// Of 1,023 slots so many directories, first all of them, then 900 EFs in turn,
+/// so that the children of one of several directories lie far apart; of fewer
+/// slots as many in proportion. The last directory is current.
+fn nine_hundred_files(slots: usize, many: usize) -> Card {
     let mut filling = Filling::new(slots);
     let share = |of_the_largest: usize| (of_the_largest * slots / MOST_SLOTS).max(1);
-    let many = share(40);
+    let many = share(many);
     let total = largest_total(slots) / many as u32 - 64;
     // A file here takes at most 64 + 4.
     let files = share(900).min(many * (total / 68) as usize);

@@ -1,6 +1,6 @@
 //! Where the vectors of the model's level lie: the whole file in the shared
-//! folder beside the repository, some 300 of its cases in the repository, so
-//! that a clone alone is tested too.
+//! folder beside the repository, some 400 cases of this and earlier levels in
+//! the repository, so that a clone alone is tested too.
 
 use std::io;
 use std::path::{Path, PathBuf};

@@ -79,6 +79,16 @@ fn the_worst_cards_are_sound_and_as_announced() {
 }
 
 #[test]
+fn one_directory_holds_nine_hundred_files() {
+    let [worst] = worst::one_directory_of(1023).try_into().expect("one card");
+    let card = decoded(&worst.image).expect("a sound card");
+    assert_eq!(card.children(0).collect::<Vec<_>>(), [1], "one directory in the root");
+    let files: Vec<_> = card.children(1).collect();
+    assert_eq!(files, (2..902).collect::<Vec<_>>(), "{}", worst.title);
+    assert!(files.into_iter().all(|slot| card.record(slot).is_ef()), "{}", worst.title);
+}
+
+#[test]
 fn reports_on_the_worst_cards() {
     let numbers: Vec<_> = worst::cards().iter().map(|card| report(&card.image)).collect();
     assert_eq!(numbers[0], (0, [64, 64, 0, 0]));
@@ -90,7 +100,8 @@ fn reports_on_the_worst_cards() {
 #[test]
 fn the_worst_cards_with_fewer_slots_are_sound() {
     for slots in [16, 64, 256, 1023] {
-        let cards = [worst::cards_of(slots), worst::slow_of(slots), worst::ruled_of(slots)];
+        let others = [worst::slow_of(slots), worst::one_directory_of(slots)].concat();
+        let cards = [worst::cards_of(slots), others, worst::ruled_of(slots)];
         for card in cards.concat() {
             assert!(sound(&card.image), "{} of {slots} slots", card.title);
             assert_eq!(card.image.len(), 16 + 64 * slots, "{}", card.title);

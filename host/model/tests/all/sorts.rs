@@ -10,7 +10,7 @@ use model::Card;
 use model::{bodies, objects};
 
 /// How many cases are stored, or a few more.
-pub const STORED_CASES: usize = 300;
+pub const STORED_CASES: usize = 400;
 const LONGEST_STORED_LINE: usize = 2000;
 /// For the first case of a sort; those that show bodies have pools too. Few
 /// sorts of others are so long.

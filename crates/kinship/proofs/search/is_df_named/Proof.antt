@@ -1,24 +1,20 @@
--- `search::is_df_named`: a DF, and a child with identifier x.
-use Rattle.laws.proofs.Chains.{got-and, ungot-and}
-use mathlib.Core.Path.{refl}
-use Rattle.kinship.specs.Search.{isDfNamed}
+-- `search::is_df_named`: a child with identifier x, and a DF.
+use Rattle.kinship.proofs.Foreign.{not-named, named-df}
 use borrow.Author.Needs.{needs}
 use Rattle.kinship.proofs.search.is_df_named.Statement.{statement}
 use Rattle.kinship.proofs.search.is_df_named.Tie as tie
 
-kind-requires : tie.Need-kind-requires
-kind-requires c κs = search needs
-
-returns : tie.Need-returns
-unfolding isDfNamed
-returns c = search (got-and, ungot-and, refl) depth 30
-
 is-child-named-requires : tie.Need-is-child-named-requires
 is-child-named-requires c κs = search needs
 
+returns : tie.Need-returns
+returns c = search not-named
+
+kind-requires : tie.Need-kind-requires
+kind-requires c κs = search needs
+
 returns-2 : tie.Need-returns-2
-unfolding isDfNamed
-returns-2 c = search (got-and, ungot-and, refl) depth 30
+returns-2 c = search named-df
 
 pub is-df-named-spec : {M : Type 1} → statement M
-is-df-named-spec = tie.close (tie.spec kind-requires returns is-child-named-requires returns-2)
+is-df-named-spec = tie.close (tie.spec is-child-named-requires returns kind-requires returns-2)
