@@ -1,17 +1,16 @@
 -- Foreign records: what a search asks first of a record, w, its identifier and parent in one word, tells that it is no child of d with
 -- identifier x; where it does not, whether the record holds a file is all that is left to ask.
 use mathlib.Core.Path.{_≡_, sym, ap, _∙_}
-use mathlib.Core.Bool.{Bool, true, false, not, _&&_, false≢true}
+use mathlib.Core.Bool.{Bool, true, false, not, _&&_, and-true, and-false, false≢true}
 use mathlib.Core.List.{List}
 use mathlib.Core.Logic.{⊎-elim}
-use Prim.Native.Nat.{ℕ, zero, suc, _+_, _<_, _≤_}
-use native.Mathlib.Numerals.{add-one}
+use Prim.Native.Nat.{ℕ, _+_, _<_, _≤_}
 use native.Mathlib.Omega.{arith}
 use lib.Dec.{eqb}
 use borrow.Author.Tests.{eq-eqb, ne-eqb, eqb-false, not-true, not-false}
 use Rattle.laws.specs.declared.Found.the-variants.{Nothing}
 use Rattle.laws.specs.Walks.{firstBelow}
-use Rattle.laws.proofs.Firsts.{first-zero, first-more, first-turn, no-first}
+use Rattle.laws.proofs.Firsts.{first-turn, no-first, nothing-below}
 use Rattle.laws.proofs.Says.{same-or, lt-or}
 use Rattle.rules.specs.Descriptor.{df}
 use Rattle.image.specs.Layout.{recAt, identifierOf, parentOf}
@@ -21,28 +20,15 @@ use Rattle.sound.specs.Table.{View, viewAt, isFile}
 use Rattle.sound.specs.Kinship.{isChild, isChildNamed}
 use Rattle.kinship.specs.Search.{Foreign, PassedOver, isDfNamed}
 
-and-none : (b : Bool) → false ≡ (b && false)
-and-none true = cc
-and-none false = cc
-
-and-all : (b : Bool) → b ≡ (b && true)
-and-all true = cc
-and-all false = cc
-
-nothing-first : (n : ℕ) (p : ℕ → Bool) → ((k : ℕ) → k < n → p k ≡ false) → firstBelow n p ≡ Nothing
-nothing-first zero p h = first-zero p
-nothing-first (suc n) p h =
-    rw add-one at (first-more p n (nothing-first n p (λ k l. h k (omega arith))) (h n (omega arith)))
-
 -- r is whether the parent of s is d
 module _ (v : ℕ → View) (d s : ℕ) (r : Bool) (e : r ≡ eqb (v s .parent) d) where
   pub other-parent : not r ≡ true → false ≡ isChild v d s
   unfolding isChild
-  other-parent t = rw (sym e ∙ not-true r t) (and-none (isFile v s))
+  other-parent t = rw (sym e ∙ not-true r t) (sym (and-false (isFile v s)))
 
   pub same-parent : not r ≡ false → (f : Bool) → f ≡ isFile v s → f ≡ isChild v d s
   unfolding isChild
-  same-parent t f h = rw (sym e ∙ not-false r t) (h ∙ and-all (isFile v s))
+  same-parent t f h = rw (sym e ∙ not-false r t) (h ∙ sym (and-true (isFile v s)))
 
 module _ (v : ℕ → View) (d s : ℕ) where
   unnamed : (x : ℕ) → (v s .parent ≡ d → v s .identifier ≡ x → ⊥) → false ≡ isChildNamed v d x s
@@ -50,10 +36,10 @@ module _ (v : ℕ → View) (d s : ℕ) where
   unnamed x n = ⊎-elim same other (same-or (v s .parent) d)
     where
       same : v s .parent ≡ d → false ≡ ((isFile v s && eqb (v s .parent) d) && eqb (v s .identifier) x)
-      same q = rw (ne-eqb (v s .identifier) x (n q)) (and-none (isFile v s && eqb (v s .parent) d))
+      same q = rw (ne-eqb (v s .identifier) x (n q)) (sym (and-false (isFile v s && eqb (v s .parent) d)))
 
       other : (v s .parent ≡ d → ⊥) → false ≡ ((isFile v s && eqb (v s .parent) d) && eqb (v s .identifier) x)
-      other q = rw (ne-eqb (v s .parent) d q, ← and-none (isFile v s))
+      other q = rw (ne-eqb (v s .parent) d q, and-false (isFile v s))
 
 -- w is the word of record s, k that of identifier x and parent d
 module _ (img : List ℕ) (d s x w : ℕ) (h : KinAt img s w) where
@@ -70,17 +56,17 @@ module _ (img : List ℕ) (d s x w : ℕ) (h : KinAt img s w) where
     same-word r l m q e =
         let v = viewAt img s in
         let both = same-kin (v .identifier) (v .parent) x d (h .identifier-low) (h .parent-low) m (omega arith) (sym (h .word) ∙ q ∙ key) in
-        rw (eq-eqb (v .parent) d (both .1), eq-eqb (v .identifier) x (both .0), ← and-all _, ← and-all _) e
+        rw (eq-eqb (v .parent) d (both .1), eq-eqb (v .identifier) x (both .0), and-true _, and-true _) e
 
 -- a child with that identifier, r, is asked whether it is a DF: k is its kind
 module _ (v : ℕ → View) (d x s : ℕ) (r : Bool) (e : r ≡ isChildNamed v d x s) where
   pub not-named : not r ≡ true → false ≡ isDfNamed v d x s
   unfolding isDfNamed
-  not-named t = rw (sym e ∙ not-true r t) (and-none (eqb (v s .kind) df))
+  not-named t = rw (sym e ∙ not-true r t) (sym (and-false (eqb (v s .kind) df)))
 
   pub named-df : (k : ℕ) → not r ≡ false → k ≡ v s .kind → eqb k df ≡ isDfNamed v d x s
   unfolding isDfNamed
-  named-df k t f = rw (sym e ∙ not-false r t, f) (and-all (eqb (v s .kind) df))
+  named-df k t f = rw (sym e ∙ not-false r t, f) (sym (and-true (eqb (v s .kind) df)))
 
 -- four records at a time: a, b, c and e are their words
 module _ (img : List ℕ) (word s : ℕ) where
@@ -121,22 +107,22 @@ module _ (img : List ℕ) (n d x a : ℕ) where
 -- a search behind which nothing was found: it starts behind the root, which is nobody's child; where s is not it, it goes on at b
 module _ (p : ℕ → Bool) where
   behind : (a b : ℕ) → firstBelow a p ≡ Nothing → ((k : ℕ) → a ≤ k → k < b → p k ≡ false) → firstBelow b p ≡ Nothing
-  behind a b h f = nothing-first b p (λ k l. ⊎-elim (no-first a p h .none k) (λ i. f k i l) (lt-or k a))
+  behind a b h f = nothing-below p b (λ k l. ⊎-elim (no-first a p h .none k) (λ i. f k i l) (lt-or k a))
 
 module _ (img : List ℕ) (n d x : ℕ) where
   root-unnamed : (k : ℕ) → k < 1 → isChildNamed (viewAt img) d x k ≡ false
   unfolding isChildNamed isChild
-  root-unnamed k l = rw (eq-eqb k 0 (omega arith), ← and-none (not (eqb (viewAt img k .kind) 0)))
+  root-unnamed k l = rw (eq-eqb k 0 (omega arith), and-false (not (eqb (viewAt img k .kind) 0)))
 
   df-unnamed : (k : ℕ) → isChildNamed (viewAt img) d x k ≡ false → isDfNamed (viewAt img) d x k ≡ false
   unfolding isDfNamed
-  df-unnamed k e = ap (λ (b : Bool). eqb (viewAt img k .kind) df && b) e ∙ sym (and-none (eqb (viewAt img k .kind) df))
+  df-unnamed k e = ap (λ (b : Bool). eqb (viewAt img k .kind) df && b) e ∙ and-false (eqb (viewAt img k .kind) df)
 
   pub child-start : firstBelow 1 (isChildNamed (viewAt img) d x) ≡ Nothing
-  child-start = nothing-first 1 (isChildNamed (viewAt img) d x) root-unnamed
+  child-start = nothing-below (isChildNamed (viewAt img) d x) 1 root-unnamed
 
   pub df-start : firstBelow 1 (isDfNamed (viewAt img) d x) ≡ Nothing
-  df-start = nothing-first 1 (isDfNamed (viewAt img) d x) (λ k l. df-unnamed k (root-unnamed k l))
+  df-start = nothing-below (isDfNamed (viewAt img) d x) 1 (λ k l. df-unnamed k (root-unnamed k l))
 
   module _ (s b : ℕ) (r : Bool) (t : r ≡ false) (h : PassedOver (viewAt img) n d x (s + 1) b) where
     pub child-turn : firstBelow s (isChildNamed (viewAt img) d x) ≡ Nothing → r ≡ isChildNamed (viewAt img) d x s

@@ -62,6 +62,10 @@ first-none (suc n) p e k l =
 pub no-first : (n : ℕ) (p : ℕ → Bool) → firstBelow n p ≡ Nothing → NoneBelow n p
 no-first n p e = record { none = first-none n p e }
 
+pub nothing-below : (p : ℕ → Bool) (n : ℕ) → ((k : ℕ) → k < n → p k ≡ false) → firstBelow n p ≡ Nothing
+nothing-below p zero h = first-zero p
+nothing-below p (suc n) h = rw (← add-one n) (first-more p n (nothing-below p n (λ k l. h k (omega arith))) (h n (omega arith)))
+
 pub first-is : (n : ℕ) (p : ℕ → Bool) (i : ℕ) → firstBelow n p ≡ At i → FirstAt n p i
 unfolding firstBelow
 first-is zero p i e = let z : _≡_ {A = ℕ} 0 1 = cc in absurd (omega arith)

@@ -3,23 +3,15 @@
 use mathlib.Core.Path.{_≡_}
 use mathlib.Core.Bool.{Bool, true, false, _&&_, _||_}
 use mathlib.Core.Logic.{_⊎_, _↔_, inl, inr, ⊎-elim}
-use Prim.Native.Nat.{ℕ, zero, suc, _+_, _<_, _≤_}
+use Prim.Native.Nat.{ℕ, _+_, _<_, _≤_}
 use native.Mathlib.Omega.{arith}
 use lib.Dec.{eqb, leb}
 use borrow.Author.Tests.{eq-eqb, ne-eqb, le-leb, lt-leb, eqb-true, leb-true}
-use Rattle.laws.specs.declared.Found.the-variants.{Nothing}
-use Rattle.laws.specs.Walks.{allBelow, firstBelow}
+use Rattle.laws.specs.Walks.{allBelow}
 use Rattle.laws.proofs.Walks.{all-each, each-all, all-fails}
-use Rattle.laws.proofs.Firsts.{first-zero, first-more}
 use Rattle.laws.proofs.Says.{or-says, and-says, apart, lt-or}
-use native.Mathlib.Numerals.{add-one}
 use Rattle.pool.specs.Laid.{clear, laidAt, laid, Laid}
 use Rattle.pool.specs.Gaps.{fits}
-
--- none below n has it
-pub nothing-below : (p : ℕ → Bool) (n : ℕ) → ((k : ℕ) → k < n → p k ≡ false) → firstBelow n p ≡ Nothing
-nothing-below p zero h = first-zero p
-nothing-below p (suc n) h = rw (← add-one n) (first-more p n (nothing-below p n (λ k l. h k (omega arith))) (h n (omega arith)))
 
 module _ (a z : ℕ → ℕ) (p m t : ℕ) where
   pub clear-is : (0 < z t → (a t + z t ≤ p) ⊎ (p + m ≤ a t)) → clear a z p m t ≡ true

@@ -10,7 +10,7 @@ use borrow.Author.Tests.{eq-eqb, ne-eqb, le-leb, lt-leb}
 use Rattle.laws.specs.declared.Found.{Found}
 use Rattle.laws.specs.declared.Found.the-variants.{At, Nothing}
 use Rattle.laws.specs.Walks.{sumBelow, firstBelow, anyBelow, ifSo}
-use Rattle.laws.proofs.Firsts.{first-at, first-is, no-first}
+use Rattle.laws.proofs.Firsts.{first-at, first-is, no-first, nothing-below}
 use Rattle.laws.proofs.Walks.{any-at, none-any}
 use Rattle.laws.proofs.Sums.{sum-cong, sum-none, sum-le}
 use Rattle.laws.proofs.Says.{lt-or}
@@ -21,7 +21,7 @@ use Rattle.pool.specs.Packed.{startsBelow, below, packedStart, ownerOf, 
 use Rattle.pool.proofs.Belows.{counts, counts-not, below-has}
 use Rattle.pool.proofs.Apart.{NoneFrom, Covering, covering, some-or, same-body, ends-before, climb, climb-all, none-step, packed-low}
 use Rattle.pool.proofs.Apart.{packed-order, packed-within, covered, below-len}
-use Rattle.pool.proofs.Clears.{nothing-below, fits-is, fits-not, fits-gives}
+use Rattle.pool.proofs.Clears.{fits-is, fits-not, fits-gives}
 use Rattle.pool.proofs.Pools.{owner-is, owner-none}
 use Rattle.pool.proofs.Walking.{counts-less}
 

@@ -5,13 +5,13 @@ use mathlib.Core.Logic.{_⊎_, inl, inr, ⊎-elim}
 use Prim.Native.Nat.{ℕ, _+_, _-_, _<_, _≤_}
 use native.Mathlib.Omega.{arith}
 use Rattle.laws.specs.declared.Found.the-variants.{At, Nothing}
-use Rattle.laws.proofs.Firsts.{first-at}
+use Rattle.laws.proofs.Firsts.{first-at, nothing-below}
 use Rattle.laws.proofs.Says.{lt-or}
 use Rattle.pool.specs.Laid.{Laid}
 use Rattle.pool.specs.Index.{StartsAt}
 use Rattle.pool.specs.Gaps.{fits, lowestGap}
 use Rattle.pool.proofs.Apart.{NoneFrom, ends-before, same-body}
-use Rattle.pool.proofs.Clears.{nothing-below, fits-is, fits-not}
+use Rattle.pool.proofs.Clears.{fits-is, fits-not}
 
 -- the bytes from `low` to p are a gap that is too short, and none below `low` fits
 pub record Searched (n : ℕ) (a z : ℕ → ℕ) (len m p low : ℕ) : Type 0 where
