@@ -165,7 +165,7 @@ mod tests {
             for rule in &rules {
                 assert!(groups(form, rule).is_some(), "{title}: {rule:02X?}");
                 assert!(!title.contains("worst") || rule.len() == 30, "{title}: {rule:02X?}");
-                let open = |right| decide(form, rule, right, &State::FULL);
+                let open = |right| decide(form, rule, right, &State::FULL).is_granted();
                 assert!(Right::ALL.into_iter().all(open), "{title}: {rule:02X?}");
             }
         }
@@ -178,13 +178,13 @@ mod tests {
     #[test]
     fn nothing_of_the_deep_rule_is_passed_over() {
         let rule = four_deep();
-        let denied = |rule: &[u8]| !decide(Form::Expanded, rule, Right::CreateEf, &State::FULL);
+        let decided = |rule: &[u8]| decide(Form::Expanded, rule, Right::CreateEf, &State::FULL);
         let places = (3..rule.len()).filter(|&place| rule[place] == 0x90).collect::<Vec<_>>();
         assert_eq!(places.len(), 6);
         for place in places {
             let mut bent = rule.clone();
             bent[place] = 0x97;
-            assert!(denied(&bent), "{bent:02X?}");
+            assert!(!decided(&bent).is_granted(), "{bent:02X?}");
         }
     }
 

@@ -2,7 +2,7 @@
 
 use std::collections::BTreeMap;
 
-use model::lines::{results_agree, Case as Line};
+use model::lines::Case as Line;
 use model::vectors::case_lines;
 
 use crate::outcome::run;
@@ -19,7 +19,7 @@ pub fn check_vectors(subject: &dyn Subject, text: &str) -> Result<BTreeMap<char,
         let parsed = Line::parse(case).ok_or_else(|| format!("no known case: {case:.200}"))?;
         let outcome = run(subject, &parsed).map(|outcome| outcome.result());
         let Some(given) = outcome.or_else(|| asked(subject, &parsed)) else { continue };
-        if !results_agree(&given, wanted) {
+        if given != wanted {
             return Err(format!("{case}\n  wanted {wanted}\n  given  {given}"));
         }
         *counts.entry(case.chars().next().unwrap_or(' ')).or_insert(0) += 1;

@@ -1,7 +1,8 @@
 //! One command on an image: 01, "The order in which a command is judged".
 //! Steps A to G are here and common to all; steps H to L stand, in their
 //! order, in the module of each command. The response buffer is looked at last
-//! of all (02, Ticket 2), the pool's length before the command (Ticket 4).
+//! of all (02, Ticket 2), the pool's length before the command (Ticket 4). A
+//! refusal for security has a number beside its word (Ticket 6).
 
 use crate::answers::{Answer, DONE, SHORT_BUFFER, UNSOUND, WRONG_POOL};
 use crate::bodies;
@@ -10,6 +11,7 @@ use crate::card::{Card, ROOT};
 use crate::commands::read_update::{self, Unit};
 use crate::commands::{change, create, delete, select};
 use crate::edition::Edition;
+use crate::refusal::{refuse_if, Refusal};
 use crate::security::State;
 use crate::soundness::sound_card;
 use crate::words::{
@@ -27,6 +29,8 @@ const LE_ALL: u8 = 0x00;
 const NO_START: u16 = 0x8000;
 /// P2 of a command that has a record number in P1.
 const RECORD_IN_P1: u8 = 0x04;
+/// The number of a call in which no rule refused.
+const NO_SECURITY_REFUSAL: u8 = 0;
 
 /// What a command call gives back beside image, pool and response buffer.
 #[derive(Clone, Copy, PartialEq, Eq, Debug)]
@@ -37,12 +41,27 @@ pub struct Outcome {
     pub word: Word,
     /// How many bytes of data stand at the start of the response buffer now.
     pub data: usize,
+    /// 0 for no security refusal; with word 6982, and only then, 1 if some
+    /// security state would have been granted it, 2 if none is.
+    pub security: u8,
 }
 
 impl Outcome {
-    /// An answer other than 0: no word, no data.
+    /// An answer other than 0: no word, no data, and security refused nothing.
     fn wordless(answer: Answer) -> Outcome {
-        Outcome { answer, word: NO_WORD, data: 0 }
+        Outcome { answer, word: NO_WORD, data: 0, security: NO_SECURITY_REFUSAL }
+    }
+
+    /// A command that is not done.
+    fn refused(refusal: Refusal) -> Outcome {
+        let Refusal { word, decision } = refusal;
+        Outcome { answer: DONE, word, data: 0, security: decision.number() }
+    }
+
+    /// A command that is done.
+    fn done(told: &Told) -> Outcome {
+        let data = told.data.len();
+        Outcome { answer: DONE, word: told.word, data, security: NO_SECURITY_REFUSAL }
     }
 }
 
@@ -134,7 +153,7 @@ pub fn command(
     let mut pool_after = pool.to_vec();
     let told = match judge(&mut card, &mut pool_after, command, state) {
         Ok(told) => told,
-        Err(refusal) => return Outcome { answer: DONE, word: refusal, data: 0 },
+        Err(refusal) => return Outcome::refused(refusal),
     };
     let Some(place) = response.get_mut(..told.data.len()) else {
         return Outcome::wordless(SHORT_BUFFER);
@@ -142,12 +161,12 @@ pub fn command(
     place.copy_from_slice(&told.data);
     image.copy_from_slice(&card.encode());
     pool.copy_from_slice(&pool_after);
-    Outcome { answer: DONE, word: told.word, data: told.data.len() }
+    Outcome::done(&told)
 }
 
 /// Steps A to L. `Ok` means that card and pool now have the command's effect;
 /// after `Err` they are not looked at again.
-fn judge(card: &mut Card, pool: &mut [u8], command: &[u8], state: &State) -> Result<Told, Word> {
+fn judge(card: &mut Card, pool: &mut [u8], command: &[u8], state: &State) -> Result<Told, Refusal> {
     step_a_four_bytes(command)?;
     step_b_class(byte(command, 0))?;
     let instruction = step_c_instruction(card.edition, byte(command, 1))?;
@@ -157,7 +176,9 @@ fn judge(card: &mut Card, pool: &mut [u8], command: &[u8], state: &State) -> Res
     step_g_length(instruction, command)?;
     let data = rest(command, 5);
     let word = match instruction {
-        Instruction::Select => return select::run(card, number16(data, 0), wants_data(command)),
+        Instruction::Select => {
+            return Ok(select::run(card, number16(data, 0), wants_data(command))?)
+        }
         Instruction::Read(unit) => return read_update::read(card, pool, command, unit, state),
         Instruction::Update(unit) => read_update::update(card, pool, command, unit, state),
         Instruction::Create => create::run(card, pool, data, state),
@@ -240,13 +261,4 @@ fn step_g_length(instruction: Instruction, command: &[u8]) -> Result<(), Word> {
 /// Whether a SELECT, by its P2, wants the selected file's template.
 fn wants_data(command: &[u8]) -> bool {
     number16(command, 2) == SELECT_WITH_FCP
-}
-
-/// A step's refusal.
-pub fn refuse_if(refused: bool, word: Word) -> Result<(), Word> {
-    if refused {
-        Err(word)
-    } else {
-        Ok(())
-    }
 }

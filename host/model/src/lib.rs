@@ -17,9 +17,10 @@
 //! | soundness | [`soundness`] |
 //! | descriptor, life cycle | [`descriptor`], [`life_cycle`] |
 //! | rules of each form | [`rule`], [`compact`], [`expanded`] |
-//! | security state | [`security`] |
+//! | security state, what a rule decides under it | [`security`], [`decision`] |
 //! | maker, report, replay | [`maker`], [`mod@report`], [`mod@replay`] |
 //! | steps A to G of a command | [`mod@command`] |
+//! | why a command is refused | [`refusal`] |
 //! | steps H to L of each command | [`commands`] |
 //! | CREATE's data, SELECT's answer | [`template`], [`fcp`] |
 //! | demand 3's ledger | [`ledger`] |
@@ -44,6 +45,7 @@ pub mod card;
 pub mod command;
 pub mod commands;
 pub mod compact;
+pub mod decision;
 pub mod descriptor;
 pub mod edition;
 pub mod expanded;
@@ -54,6 +56,7 @@ pub mod lines;
 pub mod maker;
 pub mod objects;
 pub mod record;
+pub mod refusal;
 pub mod replay;
 pub mod report;
 pub mod rule;
@@ -66,6 +69,7 @@ pub mod words;
 pub use answers::Answer;
 pub use card::Card;
 pub use command::{command, Outcome};
+pub use decision::Decision;
 pub use ledger::Ledger;
 pub use maker::make;
 pub use record::{Kind, Record};

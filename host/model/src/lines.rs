@@ -153,9 +153,9 @@ impl Case {
             Case::Command { image, command: bytes, state, pool, response } => {
                 let [mut image, mut pool, mut response] = [image, pool, response].map(Vec::clone);
                 let outcome = command(&mut image, &mut pool, bytes, &mut response, state);
-                let Outcome { answer, word, data } = outcome;
+                let Outcome { answer, word, data, security } = outcome;
                 let [image, pool, response] = [image, pool, response].map(|bytes| hex(&bytes));
-                format!("C {answer} {word:04X} {image} {pool} {response} {data} 0 0")
+                format!("C {answer} {word:04X} {image} {pool} {response} {data} {security} 0")
             }
             Case::Report { image } => {
                 let (answer, [total, room, children, beneath]) = report(image);
@@ -170,29 +170,15 @@ impl Case {
     }
 }
 
-/// Whether two results agree. Before Ticket 6 the digits of E tell only 0 or
-/// not 0, so there every other digit counts as 1.
-pub fn results_agree(one: &str, other: &str) -> bool {
-    fold_digits(one) == fold_digits(other)
-}
-
-fn fold_digits(result: &str) -> String {
-    if result.starts_with("E ") {
-        result.replace('2', "1")
-    } else {
-        result.to_string()
-    }
-}
-
-/// Seven digits, b7 first: 0 granted, 1 not; or `malformed`, which a rule of
-/// an unknown form is too.
+/// Seven digits, b7 first: 0 granted, 1 lacking, 2 closed; or `malformed`, which
+/// a rule of an unknown form is too.
 fn decisions(form: u32, rule: &[u8], state: &State) -> String {
     let well_formed = |form: &Form| rule::groups(*form, rule).is_some();
     let Some(form) = Form::from_number(form).filter(well_formed) else {
         return "malformed".to_string();
     };
-    let digit = |right| if rule::decide(form, rule, right, state) { '0' } else { '1' };
-    Right::ALL.into_iter().map(digit).collect()
+    let digit = |right| rule::decide(form, rule, right, state).number().to_string();
+    Right::ALL.map(digit).concat()
 }
 
 /// Whether a rule of this form may stand in a record of this version.

@@ -4,6 +4,7 @@
 //! checks what the fields mean, and whether the version has the rule's form.
 
 use crate::bytes::{all_zero, byte, number16, number32, part, push_padded, rest};
+use crate::decision::Decision;
 use crate::edition::Edition;
 use crate::rule::{self, Form, Right};
 use crate::security::State;
@@ -100,9 +101,14 @@ impl Record {
         charge(self.size)
     }
 
+    /// What the file's rule decides on a right.
+    pub fn decide(&self, right: Right, state: &State) -> Decision {
+        rule::decide(self.form, &self.rule, right, state)
+    }
+
     /// Whether the file's rule grants a right.
     pub fn grants(&self, right: Right, state: &State) -> bool {
-        rule::decide(self.form, &self.rule, right, state)
+        self.decide(right, state).is_granted()
     }
 
     /// Reads 64 bytes; nothing if the layout is broken.

@@ -2,8 +2,9 @@
 //! decides. How each form is written stands in [`compact`] and [`expanded`];
 //! both are read into the same groups.
 
+use crate::decision::Decision;
 use crate::edition::Edition;
-use crate::security::{condition_holds, State};
+use crate::security::{self, State};
 use crate::{compact, expanded};
 
 /// What a rule can allow, with the number of its AM bit (b7 to b1). The last
@@ -93,15 +94,18 @@ pub enum Condition {
 }
 
 impl Condition {
-    /// Whether it holds under a state. Reading lets conditions nest only a
-    /// few deep, and so deep this goes.
-    pub fn holds(&self, state: &State) -> bool {
+    /// What it decides under a state. Reading lets conditions nest only a few
+    /// deep, and so deep this goes.
+    pub fn decide(&self, state: &State) -> Decision {
+        let each = |inside: &[Condition]| -> Vec<Decision> {
+            inside.iter().map(|one| one.decide(state)).collect()
+        };
         match self {
-            Condition::Always => true,
-            Condition::Never => false,
-            Condition::Byte(sc) => condition_holds(*sc, state),
-            Condition::OneOf(inside) => inside.iter().any(|one| one.holds(state)),
-            Condition::AllOf(inside) => inside.iter().all(|one| one.holds(state)),
+            Condition::Always => Decision::Granted,
+            Condition::Never => Decision::Closed,
+            Condition::Byte(sc) => security::condition(*sc, state),
+            Condition::OneOf(inside) => Decision::of_alternatives(each(inside)),
+            Condition::AllOf(inside) => Decision::of_all_together(each(inside)),
         }
     }
 }
@@ -116,8 +120,12 @@ pub struct Group {
 }
 
 impl Group {
-    fn grants(&self, right: Right, state: &State) -> bool {
-        self.rights & right.bit() != 0 && self.conditions.iter().any(|one| one.holds(state))
+    /// What it decides on a right; one that it does not name it never opens.
+    fn decide(&self, right: Right, state: &State) -> Decision {
+        if self.rights & right.bit() == 0 {
+            return Decision::Closed;
+        }
+        Decision::of_alternatives(self.conditions.iter().map(|one| one.decide(state)))
     }
 }
 
@@ -137,8 +145,9 @@ pub fn fit(edition: Edition, form: Form, rule: &[u8]) -> bool {
         && groups(form, rule).is_some()
 }
 
-/// Whether the rule, of any length, grants the right: one group suffices; a
-/// right that no group names, and a malformed rule, are denied.
-pub fn decide(form: Form, rule: &[u8], right: Right, state: &State) -> bool {
-    groups(form, rule).unwrap_or_default().iter().any(|group| group.grants(right, state))
+/// What the rule, of any length, decides on the right: one group suffices; a
+/// right that no group names, and a malformed rule, are closed.
+pub fn decide(form: Form, rule: &[u8], right: Right, state: &State) -> Decision {
+    let groups = groups(form, rule).unwrap_or_default();
+    Decision::of_alternatives(groups.iter().map(|group| group.decide(right, state)))
 }

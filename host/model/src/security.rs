@@ -1,6 +1,8 @@
 //! The caller's security state and the judging of one SC byte: 01,
 //! "Descriptor and rules", third paragraph, and the byte of open channels of
-//! "The order in which a command is judged".
+//! "The order in which a command is judged"; 02, Ticket 6.
+
+use crate::decision::Decision;
 
 /// What the caller tells with each command.
 #[derive(Clone, Copy, PartialEq, Eq, Debug, Default)]
@@ -29,18 +31,22 @@ impl State {
     }
 }
 
-/// Whether the condition of one SC byte holds.
-pub fn condition_holds(sc: u8, state: &State) -> bool {
+/// What the condition of one SC byte decides. A named condition whose bit is
+/// off lacks it, as the state with that bit on would do.
+pub fn condition(sc: u8, state: &State) -> Decision {
     match sc {
-        0x00 => return true,
-        0xFF => return false,
+        0x00 => return Decision::Granted,
+        0xFF => return Decision::Closed,
         _ => {}
     }
     let environment = sc & 0x0F;
     if environment == 15 {
-        return false;
+        return Decision::Closed;
     }
-    let holds = |set: u16| (set >> environment) & 1 == 1;
+    let holds = |set: u16| match (set >> environment) & 1 {
+        1 => Decision::Granted,
+        _ => Decision::Lacking,
+    };
     let mut named = Vec::new();
     if sc & 0x40 != 0 {
         named.push(holds(state.messaging));
@@ -52,12 +58,17 @@ pub fn condition_holds(sc: u8, state: &State) -> bool {
         named.push(holds(state.user));
     }
     if named.is_empty() {
-        return false;
+        return Decision::Closed;
     }
     let all_asked = sc & 0x80 != 0;
     if all_asked {
-        named.iter().all(|&held| held)
+        Decision::of_all_together(named)
     } else {
-        named.iter().any(|&held| held)
+        Decision::of_alternatives(named)
     }
+}
+
+/// Whether the condition of one SC byte holds.
+pub fn condition_holds(sc: u8, state: &State) -> bool {
+    condition(sc, state).is_granted()
 }

@@ -66,7 +66,8 @@ fn well_formed_rules_are_fit_and_of_every_depth() {
         assert!(fit(edition, Form::Expanded, &rule), "{rule:02X?}");
         let mut seen = vec![format!("depth {}", depth(&rule).expect("it is well formed"))];
         seen.push(format!("{} bytes", rule.len()));
-        let granted = |state| Right::ALL.iter().any(|&r| decide(Form::Expanded, &rule, r, state));
+        let decided = |right, state| decide(Form::Expanded, &rule, right, state);
+        let granted = |state| Right::ALL.iter().any(|&right| decided(right, state).is_granted());
         seen.extend(granted(&State::EMPTY).then(|| "always open".to_string()));
         seen.extend((!granted(&State::FULL)).then(|| "closed".to_string()));
         let lacking = granted(&State::FULL) && !granted(&State::EMPTY);
@@ -94,7 +95,8 @@ fn open_rules_grant_everything_to_everybody() {
         assert!(fit(edition, Form::Expanded, &rule), "{rule:02X?}");
         depths.extend(depth(&rule));
         for right in Right::ALL {
-            assert!(decide(Form::Expanded, &rule, right, &State::EMPTY), "{rule:02X?}");
+            let decided = decide(Form::Expanded, &rule, right, &State::EMPTY);
+            assert!(decided.is_granted(), "{rule:02X?}");
         }
     }
     assert_eq!(depths, (0..=4).collect());
@@ -136,7 +138,7 @@ fn a_compact_rule_and_its_writing_decide_alike() {
         for right in Right::ALL {
             let one = decide(Form::Compact, &rule, right, &state);
             assert_eq!(one, decide(Form::Expanded, &writing, right, &state), "{rule:02X?}");
-            granted += usize::from(one);
+            granted += usize::from(one.is_granted());
         }
     }
     assert!((2000..26_000).contains(&granted), "{granted}");

@@ -119,7 +119,7 @@ impl Quirks {
         match condition {
             Condition::Always => true,
             Condition::Never => self.never_holds,
-            Condition::Byte(_) => condition.holds(state),
+            Condition::Byte(_) => condition.decide(state).is_granted(),
             Condition::OneOf(inside) if self.one_as_all => all(inside),
             Condition::OneOf(inside) => one(inside),
             Condition::AllOf(inside) if self.all_as_one => one(inside),

@@ -153,8 +153,8 @@ fn without_a_quirk_nothing_is_wrong() {
             assert_eq!(RIGHT.fits(version, &bytes), fit, "{version:?} {form:?} {bytes:02X?}");
         }
         for right in Right::ALL {
-            let decided = model::rule::decide(Form::Expanded, &bytes, right, &state);
-            assert_eq!(RIGHT.decides(&bytes, right, &state), decided, "{bytes:02X?}");
+            let granted = model::rule::decide(Form::Expanded, &bytes, right, &state).is_granted();
+            assert_eq!(RIGHT.decides(&bytes, right, &state), granted, "{bytes:02X?}");
         }
     }
     let spoils: [Spoil; 3] = [

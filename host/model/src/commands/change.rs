@@ -1,44 +1,42 @@
 //! The commands that change a life cycle: 01, "ACTIVATE, DEACTIVATE",
-//! "TERMINATE EF / DF" and "TERMINATE CARD USAGE".
+//! "TERMINATE EF / DF" and "TERMINATE CARD USAGE"; 02, Ticket 6.
 
 use crate::card::{Card, ROOT};
-use crate::command::refuse_if;
 use crate::life_cycle;
+use crate::refusal::{refuse_if, step_j_security, Refusal};
 use crate::rule::Right;
 use crate::security::State;
-use crate::words::{
-    Word, CONDITIONS_NOT_SATISFIED, NO_CURRENT_EF, SECURITY_NOT_SATISFIED, SUCCESS,
-};
+use crate::words::{Word, CONDITIONS_NOT_SATISFIED, NO_CURRENT_EF, SUCCESS};
 
 /// ACTIVATE FILE: the current EF, else the current DF.
-pub fn activate(card: &mut Card, state: &State) -> Result<Word, Word> {
+pub fn activate(card: &mut Card, state: &State) -> Result<Word, Refusal> {
     let target = card.current_ef.unwrap_or(card.current_df);
-    step_j_security(card, target, Right::Activate, state)?;
+    step_j_security(card.record(target).decide(Right::Activate, state))?;
     step_k_nothing_terminated(card, target)?;
     step_k_change(card, target, life_cycle::after_activate)
 }
 
 /// DEACTIVATE FILE: the current EF, else the current DF.
-pub fn deactivate(card: &mut Card, state: &State) -> Result<Word, Word> {
+pub fn deactivate(card: &mut Card, state: &State) -> Result<Word, Refusal> {
     let target = card.current_ef.unwrap_or(card.current_df);
-    step_j_security(card, target, Right::Deactivate, state)?;
+    step_j_security(card.record(target).decide(Right::Deactivate, state))?;
     step_k_nothing_terminated(card, target)?;
     step_k_change(card, target, life_cycle::after_deactivate)
 }
 
 /// TERMINATE EF: the current EF.
-pub fn terminate_ef(card: &mut Card, state: &State) -> Result<Word, Word> {
+pub fn terminate_ef(card: &mut Card, state: &State) -> Result<Word, Refusal> {
     let target = step_i_current_ef(card)?;
-    step_j_security(card, target, Right::Terminate, state)?;
+    step_j_security(card.record(target).decide(Right::Terminate, state))?;
     step_k_nothing_terminated(card, target)?;
     step_k_change(card, target, life_cycle::after_terminate)
 }
 
 /// TERMINATE DF: the current DF. The root is refused at step K, after the
 /// security check.
-pub fn terminate_df(card: &mut Card, state: &State) -> Result<Word, Word> {
+pub fn terminate_df(card: &mut Card, state: &State) -> Result<Word, Refusal> {
     let target = card.current_df;
-    step_j_security(card, target, Right::Terminate, state)?;
+    step_j_security(card.record(target).decide(Right::Terminate, state))?;
     refuse_if(target == ROOT, CONDITIONS_NOT_SATISFIED)?;
     step_k_nothing_terminated(card, target)?;
     step_k_change(card, target, life_cycle::after_terminate)
@@ -46,19 +44,14 @@ pub fn terminate_df(card: &mut Card, state: &State) -> Result<Word, Word> {
 
 /// TERMINATE CARD USAGE: the root's byte and nothing else; the current files
 /// stay.
-pub fn terminate_card(card: &mut Card, state: &State) -> Result<Word, Word> {
-    step_j_security(card, ROOT, Right::Terminate, state)?;
+pub fn terminate_card(card: &mut Card, state: &State) -> Result<Word, Refusal> {
+    step_j_security(card.record(ROOT).decide(Right::Terminate, state))?;
     card.set_life_cycle(ROOT, life_cycle::TERMINATED);
     Ok(SUCCESS)
 }
 
 fn step_i_current_ef(card: &Card) -> Result<usize, Word> {
     card.current_ef.ok_or(NO_CURRENT_EF)
-}
-
-fn step_j_security(card: &Card, slot: usize, right: Right, state: &State) -> Result<(), Word> {
-    let granted = card.record(slot).grants(right, state);
-    refuse_if(!granted, SECURITY_NOT_SATISFIED)
 }
 
 /// Neither the target nor a directory above is terminated.
@@ -72,7 +65,7 @@ fn step_k_change(
     card: &mut Card,
     target: usize,
     after: impl Fn(u8) -> Option<u8>,
-) -> Result<Word, Word> {
+) -> Result<Word, Refusal> {
     let changed = after(card.record(target).life_cycle).ok_or(CONDITIONS_NOT_SATISFIED)?;
     card.set_life_cycle(target, changed);
     Ok(SUCCESS)

@@ -1,22 +1,24 @@
-//! CREATE FILE in the current DF: 01, "CREATE"; 02, Ticket 4 (the new body).
+//! CREATE FILE in the current DF: 01, "CREATE"; 02, Ticket 4 (the new body) and
+//! Ticket 6.
 
 use crate::bodies;
 use crate::card::{slot_number, Card};
-use crate::command::refuse_if;
+use crate::decision::Decision;
 use crate::descriptor::Class;
 use crate::record::{charge, Kind, Record};
+use crate::refusal::{refuse_if, step_j_security, Refusal};
 use crate::rule::Right;
 use crate::security::State;
 use crate::template::{self, NewFile};
 use crate::words::{
-    Word, CONDITIONS_NOT_SATISFIED, IDENTIFIER_TAKEN, NAME_TAKEN, NOT_ENOUGH_MEMORY,
-    SECURITY_NOT_SATISFIED, SUCCESS, WRONG_DATA,
+    Word, CONDITIONS_NOT_SATISFIED, IDENTIFIER_TAKEN, NAME_TAKEN, NOT_ENOUGH_MEMORY, SUCCESS,
+    WRONG_DATA,
 };
 
 /// Steps H, J, K and L, then the effect.
-pub fn run(card: &mut Card, pool: &mut [u8], data: &[u8], state: &State) -> Result<Word, Word> {
+pub fn run(card: &mut Card, pool: &mut [u8], data: &[u8], state: &State) -> Result<Word, Refusal> {
     let new = template::read(data, card.edition).ok_or(WRONG_DATA)?;
-    step_j_security(card, &new, state)?;
+    step_j_security(decide(card, &new, state))?;
     step_k_life_cycle(card)?;
     step_l_identifier(card, &new)?;
     step_l_name(card, &new)?;
@@ -31,13 +33,12 @@ pub fn run(card: &mut Card, pool: &mut [u8], data: &[u8], state: &State) -> Resu
 }
 
 /// Bit b3 of the current DF's rule for a DF, b2 for an EF.
-fn step_j_security(card: &Card, new: &NewFile, state: &State) -> Result<(), Word> {
+fn decide(card: &Card, new: &NewFile, state: &State) -> Decision {
     let right = match new.class {
         Class::Df => Right::CreateDf,
         _ => Right::CreateEf,
     };
-    let granted = card.record(card.current_df).grants(right, state);
-    refuse_if(!granted, SECURITY_NOT_SATISFIED)
+    card.record(card.current_df).decide(right, state)
 }
 
 /// The current DF is deactivated or terminated, or one above is terminated.

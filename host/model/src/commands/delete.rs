@@ -1,18 +1,24 @@
 //! DELETE FILE, a child of the current DF: 01, "DELETE"; 02, Ticket 4 (deleted
-//! bodies). No life cycle is checked.
+//! bodies) and Ticket 6 (its two rules). No life cycle is checked.
 
 use crate::bodies;
 use crate::card::Card;
-use crate::command::refuse_if;
+use crate::decision::Decision;
 use crate::record::Record;
+use crate::refusal::{step_j_security, Refusal};
 use crate::rule::Right;
 use crate::security::State;
-use crate::words::{Word, FILE_NOT_FOUND, SECURITY_NOT_SATISFIED, SUCCESS};
+use crate::words::{Word, FILE_NOT_FOUND, SUCCESS};
 
 /// Steps I and J, then the effect.
-pub fn run(card: &mut Card, pool: &mut [u8], identifier: u16, state: &State) -> Result<Word, Word> {
+pub fn run(
+    card: &mut Card,
+    pool: &mut [u8],
+    identifier: u16,
+    state: &State,
+) -> Result<Word, Refusal> {
     let child = step_i_child(card, identifier)?;
-    step_j_security(card, child, state)?;
+    step_j_security(decide(card, child, state))?;
     let mut deleted = card.beneath(child);
     deleted.push(child);
     for slot in deleted {
@@ -33,9 +39,10 @@ fn step_i_child(card: &Card, identifier: u16) -> Result<usize, Word> {
         .ok_or(FILE_NOT_FOUND)
 }
 
-/// The child's b7 or the current DF's b1.
-fn step_j_security(card: &Card, child: usize, state: &State) -> Result<(), Word> {
-    let by_child = card.record(child).grants(Right::DeleteSelf, state);
-    let by_directory = card.record(card.current_df).grants(Right::DeleteChild, state);
-    refuse_if(!by_child && !by_directory, SECURITY_NOT_SATISFIED)
+/// The child's b7 or the current DF's b1: alternatives, so that lacking wins
+/// over closed.
+fn decide(card: &Card, child: usize, state: &State) -> Decision {
+    let by_child = card.record(child).decide(Right::DeleteSelf, state);
+    let by_directory = card.record(card.current_df).decide(Right::DeleteChild, state);
+    Decision::of_alternatives([by_child, by_directory])
 }

@@ -1,20 +1,22 @@
 //! READ BINARY, UPDATE BINARY, READ RECORD and UPDATE RECORD on the current EF:
-//! 02, Ticket 4, coded as in 01, "The order in which a command is judged".
+//! 02, Ticket 4, coded as in 01, "The order in which a command is judged"; Ticket
+//! 6.
 
 use std::ops::Range;
 
 use crate::bodies;
 use crate::bytes::{byte, number16, rest};
 use crate::card::Card;
-use crate::command::{refuse_if, Told};
+use crate::command::Told;
 use crate::descriptor::{class, Class};
 use crate::life_cycle;
 use crate::record::Record;
+use crate::refusal::{refuse_if, step_j_security, Refusal};
 use crate::rule::Right;
 use crate::security::State;
 use crate::words::{
-    Word, CONDITIONS_NOT_SATISFIED, NO_CURRENT_EF, RECORD_NOT_FOUND, SECURITY_NOT_SATISFIED,
-    SUCCESS, WRONG_LENGTH, WRONG_PARAMETERS, WRONG_STRUCTURE,
+    Word, CONDITIONS_NOT_SATISFIED, NO_CURRENT_EF, RECORD_NOT_FOUND, SUCCESS, WRONG_LENGTH,
+    WRONG_PARAMETERS, WRONG_STRUCTURE,
 };
 
 /// How many bytes Le 00 asks for.
@@ -36,7 +38,7 @@ pub fn read(
     command: &[u8],
     unit: Unit,
     state: &State,
-) -> Result<Told, Word> {
+) -> Result<Told, Refusal> {
     let file = step_i_to_k(card, Right::READ, state)?;
     let length = match byte(command, 4) {
         0 => LE_ZERO,
@@ -54,7 +56,7 @@ pub fn update(
     command: &[u8],
     unit: Unit,
     state: &State,
-) -> Result<Word, Word> {
+) -> Result<Word, Refusal> {
     let file = step_i_to_k(card, Right::UPDATE, state)?;
     let data = rest(command, 5);
     let place = place(file, unit, number16(command, 2), data.len())?;
@@ -66,10 +68,10 @@ pub fn update(
 
 /// The current EF, if its rule grants the right, it is activated, and nothing
 /// above it is terminated.
-fn step_i_to_k<'a>(card: &'a Card, right: Right, state: &State) -> Result<&'a Record, Word> {
+fn step_i_to_k<'a>(card: &'a Card, right: Right, state: &State) -> Result<&'a Record, Refusal> {
     let slot = card.current_ef.ok_or(NO_CURRENT_EF)?;
     let file = card.record(slot);
-    refuse_if(!file.grants(right, state), SECURITY_NOT_SATISFIED)?;
+    step_j_security(file.decide(right, state))?;
     let usable = life_cycle::is_activated(file.life_cycle) && !card.is_terminated_above(slot);
     refuse_if(!usable, CONDITIONS_NOT_SATISFIED)?;
     Ok(file)

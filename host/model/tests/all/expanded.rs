@@ -4,7 +4,7 @@ use crate::common::*;
 use model::edition::{Edition, Version};
 use model::lines::hex;
 use model::rule::{decide, fit, groups, Form, Right};
-use model::State;
+use model::{Decision, State};
 
 /// Only bit n of the user set.
 fn user(n: u32) -> State {
@@ -26,14 +26,15 @@ fn bad(conditions: &str) {
     let rule = ruled(conditions);
     assert!(groups(Form::Expanded, &rule).is_none(), "{conditions}");
     for right in Right::ALL {
-        assert!(!decide(Form::Expanded, &rule, right, &State::FULL), "{conditions} denies");
+        let decided = decide(Form::Expanded, &rule, right, &State::FULL);
+        assert_eq!(decided, Decision::Closed, "{conditions} denies");
     }
 }
 
 /// Whether the conditions open b4 under a state.
 fn opens(conditions: &str, state: &State) -> bool {
     good(conditions);
-    decide(Form::Expanded, &ruled(conditions), Right::Deactivate, state)
+    decide(Form::Expanded, &ruled(conditions), Right::Deactivate, state).is_granted()
 }
 
 #[test]
@@ -213,7 +214,7 @@ fn the_innermost_decides() {
 #[test]
 fn groups_are_alternatives() {
     let rule = bytes("800108 9700 80010C 9E0111 800104 9700");
-    let decided = |right, state: &State| decide(Form::Expanded, &rule, right, state);
+    let decided = |right, state: &State| decide(Form::Expanded, &rule, right, state).is_granted();
     assert!(decided(Right::Deactivate, &user(1)));
     assert!(decided(Right::CreateDf, &user(1)));
     assert!(!decided(Right::CreateDf, &user(2)));
@@ -221,7 +222,8 @@ fn groups_are_alternatives() {
         assert!(!decided(right, &State::FULL), "{right:?} is in no group");
     }
     let nothing = bytes("800100 9000");
-    assert!(Right::ALL.iter().all(|&r| !decide(Form::Expanded, &nothing, r, &State::FULL)));
+    let granted = |right: &Right| decide(Form::Expanded, &nothing, *right, &State::FULL);
+    assert!(!Right::ALL.iter().any(|right| granted(right).is_granted()));
 }
 
 #[test]
@@ -229,7 +231,8 @@ fn each_right_has_its_bit() {
     for (place, right) in Right::ALL.into_iter().enumerate() {
         let rule = bytes(&format!("8001{:02X}9000", 0x40 >> place));
         for asked in Right::ALL {
-            assert_eq!(decide(Form::Expanded, &rule, asked, &State::EMPTY), asked == right);
+            let decided = decide(Form::Expanded, &rule, asked, &State::EMPTY);
+            assert_eq!(decided.is_granted(), asked == right);
         }
     }
 }
@@ -270,7 +273,8 @@ fn a_compact_rule_and_its_expanded_writing_decide_alike() {
 fn an_empty_rule_denies() {
     for form in Form::ALL {
         assert_eq!(groups(form, &[]), Some(vec![]));
-        assert!(Right::ALL.iter().all(|&right| !decide(form, &[], right, &State::FULL)));
+        let closed = |right: &Right| decide(form, &[], *right, &State::FULL) == Decision::Closed;
+        assert!(Right::ALL.iter().all(closed));
         assert!(!fit(Edition::of(Version::Two), form, &[]));
     }
 }

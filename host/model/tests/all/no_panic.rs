@@ -3,7 +3,7 @@
 
 use crate::common::*;
 use model::edition::{Edition, Version};
-use model::lines::{from_hex, hex, results_agree, Case};
+use model::lines::{from_hex, hex, Case};
 use model::rule::{Form, Right};
 use model::security::condition_holds;
 use model::{bytes as numbers, *};
@@ -110,7 +110,7 @@ fn call_with_bytes(bytes: &[u8], random: &mut Random) {
     let _ = (ledger.room(slots[0]), ledger.total(slots[1]), ledger.children(slots[0]));
     assert_eq!(from_hex(&hex(bytes)).as_deref(), Some(bytes));
     let text = String::from_utf8_lossy(bytes).into_owned();
-    let _ = (from_hex(&text), Case::parse(&text), results_agree(&text, "E 2"));
+    let _ = (from_hex(&text), Case::parse(&text));
     let mut buffer = bytes.to_vec();
     let [version, form] = [random.next() as u32 % 5, random.next() as u32 % 4];
     assert!(make(&mut buffer, version, random.next() as u32, form, bytes) <= 4);

@@ -53,8 +53,8 @@ fn w4_nothing_named_or_environment_15() {
 #[test]
 fn w5_df_yes_ef_no() {
     let rule = bytes("0600FF");
-    assert!(decide(Form::Compact, &rule, Right::CreateDf, &State::EMPTY));
-    assert!(!decide(Form::Compact, &rule, Right::CreateEf, &State::FULL));
+    assert!(decide(Form::Compact, &rule, Right::CreateDf, &State::EMPTY).is_granted());
+    assert!(!decide(Form::Compact, &rule, Right::CreateEf, &State::FULL).is_granted());
     let mut image = fresh(8, 448, "0600FF");
     assert_eq!(run(&mut image, &create_ef("6F07", 9, OPEN)), SECURITY_NOT_SATISFIED);
     assert_eq!(run(&mut image, &create_df("7F10", 9, OPEN)), SUCCESS);
@@ -63,7 +63,7 @@ fn w5_df_yes_ef_no() {
 #[test]
 fn w6_a_later_group_grants() {
     let rule = bytes("02FF0200");
-    assert!(decide(Form::Compact, &rule, Right::CreateEf, &State::EMPTY));
+    assert!(decide(Form::Compact, &rule, Right::CreateEf, &State::EMPTY).is_granted());
     let mut image = fresh(8, 448, "02FF0200");
     assert_eq!(run_under(&mut image, &create_ef("6F07", 9, OPEN), &State::EMPTY), SUCCESS);
 }

@@ -3,11 +3,11 @@
 
 use std::collections::BTreeMap;
 
-use model::lines::from_hex;
+use model::lines::{from_hex, Case};
+use model::rule::Right;
 use model::soundness::sound_card;
 use model::vectors::case_lines;
-use model::Card;
-use model::{bodies, objects};
+use model::{bodies, objects, Card};
 
 /// How many cases are stored, or a few more.
 pub const STORED_CASES: usize = 400;
@@ -83,8 +83,8 @@ fn rule_object(template: &[u8]) -> String {
     String::new()
 }
 
-/// What a command on version 2 met, or sent, of Ticket 3: the rule in CREATE's
-/// data; else the form of the rule that lets it pass or refuses it.
+/// What a command met, or sent, of Ticket 3: the rule in CREATE's data; else the
+/// form of the rule that lets it pass or refuses it, of DELETE the directory's.
 fn met_with_rules(instruction: &str, case: &str, result: &str) -> String {
     let fields: Vec<&str> = case.split(' ').collect();
     let (&[_, image, command, ..], Some(word)) = (fields.as_slice(), result.split(' ').nth(2))
@@ -95,7 +95,9 @@ fn met_with_rules(instruction: &str, case: &str, result: &str) -> String {
     let card = from_hex(image).and_then(|image| sound_card(&image));
     let asked = card.map(|card| {
         let target = match instruction {
-            "44" | "04" | "E8" => card.current_ef.unwrap_or(card.current_df),
+            "44" | "04" | "E8" | "B0" | "D6" | "B2" | "DC" => {
+                card.current_ef.unwrap_or(card.current_df)
+            }
             _ => card.current_df,
         };
         (card.edition.version_number(), card.record(target).form.number())
@@ -145,10 +147,38 @@ fn place_of_the_new(before: &Card, after: &Card) -> &'static str {
     }
 }
 
+/// What a refusal for security shows of Ticket 6: the result's number, in
+/// words; of DELETE also where its two rules decide differently.
+fn met_with_security(case: &str, result: &str) -> String {
+    let security = match result.split(' ').nth(7) {
+        Some("1") => " lacking",
+        Some("2") => " closed",
+        _ => return String::new(),
+    };
+    let two_rules = match two_decisions(case) {
+        Some([own, directory]) if own != directory => " of two",
+        _ => "",
+    };
+    format!("{security}{two_rules}")
+}
+
+/// What the child's own rule and the directory's decide on a DELETE.
+fn two_decisions(case: &str) -> Option<[model::Decision; 2]> {
+    let Case::Command { image, command, state, .. } = Case::parse(case)? else { return None };
+    let &[_, 0xE4, _, _, _, high, low] = command.as_slice() else { return None };
+    let card = sound_card(&image)?;
+    let identifier = u16::from_be_bytes([high, low]);
+    let child =
+        card.children(card.current_df).find(|&s| card.record(s).identifier == identifier)?;
+    let directory = card.record(card.current_df);
+    let own = card.record(child).decide(Right::DeleteSelf, &state);
+    Some([own, directory.decide(Right::DeleteChild, &state)])
+}
+
 /// What a line shows, so that one of each sort is stored: the kind, the
 /// result's head, versions and forms, and of a command its instruction and
-/// what it met of 06 and 07, of expanded or longer rules, and of bodies; of a
-/// SELECT also P2 and what it shows of templates.
+/// what it met of 06 and 07, of expanded or longer rules, of bodies, and of
+/// security; of a SELECT also P2 and what it shows of templates.
 pub fn sort_of(line: &str) -> String {
     let (case, result) = line.split_once(" > ").unwrap_or((line, ""));
     let kind: String = case.chars().take(1).collect();
@@ -163,7 +193,8 @@ pub fn sort_of(line: &str) -> String {
             let b2 = met_with_b2(instruction, case, result);
             let rules = met_with_rules(instruction, case, result);
             let bodies = met_with_bodies(instruction, case, result);
-            format!("C {instruction}{p2} {}{fcp}{bodies}{b2}{rules}", head.join(" "))
+            let security = met_with_security(case, result);
+            format!("C {instruction}{p2} {}{fcp}{bodies}{b2}{rules}{security}", head.join(" "))
         }
         "Y" => format!("Y {:.8}", head.first().unwrap_or(&"")),
         "E" => format!("E {} {}", case.get(2..3).unwrap_or(""), decided(result)),
@@ -171,13 +202,16 @@ pub fn sort_of(line: &str) -> String {
     }
 }
 
-/// Whether a rule is malformed, grants something, or nothing.
-fn decided(result: &str) -> &str {
-    match result {
-        "E malformed" => "malformed",
-        _ if result.contains('0') => "granted",
-        _ => "denied",
+/// Which of the three decisions a rule gives among its seven, or that it is
+/// malformed.
+fn decided(result: &str) -> String {
+    if result == "E malformed" {
+        return "malformed".to_string();
     }
+    let given = [('0', "granted"), ('1', "lacking"), ('2', "closed")]
+        .into_iter()
+        .filter(|(digit, _)| result.contains(*digit));
+    given.map(|(_, name)| name).collect::<Vec<_>>().join(" ")
 }
 
 /// The version of a report's image; the version and the form of M and W.

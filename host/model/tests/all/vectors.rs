@@ -11,7 +11,7 @@ use std::time::Instant;
 use crate::common::say;
 use crate::sorts::{choose, sort_of, STORED_CASES};
 use model::edition::LEVEL;
-use model::lines::{results_agree, Case};
+use model::lines::Case;
 use model::vectors::{case_lines, shared_file, shared_text, stored_file, stored_text};
 
 /// Checks every line; gives the number of cases of each kind.
@@ -22,11 +22,7 @@ fn check(text: &str) -> BTreeMap<char, usize> {
         let parsed = Case::parse(case)
             .unwrap_or_else(|| panic!("case {number} is of no known kind: {case:.200}"));
         assert_eq!(parsed.line(), case, "case {number}, written again");
-        let given = parsed.result();
-        assert!(
-            results_agree(&given, wanted),
-            "case {number}:\n{case}\nwanted {wanted}\ngiven  {given}"
-        );
+        assert_eq!(parsed.result(), wanted, "case {number}:\n{case}");
         *counts.entry(line.chars().next().unwrap_or(' ')).or_insert(0) += 1;
     }
     counts
@@ -36,7 +32,7 @@ fn check(text: &str) -> BTreeMap<char, usize> {
 fn holds(line: &str) -> bool {
     let parts = line.split_once(" > ");
     let given = parts.and_then(|(case, wanted)| Some((Case::parse(case)?.result(), wanted)));
-    given.is_some_and(|(given, wanted)| results_agree(&given, wanted))
+    given.is_some_and(|(given, wanted)| given == wanted)
 }
 
 fn tell(what: &str, counts: &BTreeMap<char, usize>, start: Instant) {
@@ -88,11 +84,16 @@ fn the_stored_cases_hold_every_word_and_answer() {
     assert!(text.contains(" > E malformed"), "no stored malformed rule");
 }
 
+/// The sorts of the stored cases.
+fn stored_sorts() -> BTreeSet<String> {
+    let text = stored_text().expect("the stored cases are there");
+    case_lines(&text).map(sort_of).collect()
+}
+
 /// Asserts that the stored cases have one of each sort, or of a finer one.
 #[track_caller]
 fn stored_show<T: AsRef<str>>(sorts: &[T]) {
-    let text = stored_text().expect("the stored cases are there");
-    let stored: BTreeSet<String> = case_lines(&text).map(sort_of).collect();
+    let stored = stored_sorts();
     for sort in sorts.iter().map(AsRef::as_ref) {
         let is_it = |one: &String| one == sort || one.starts_with(&format!("{sort} "));
         assert!(stored.iter().any(is_it), "no stored case of sort {sort}");
@@ -143,7 +144,7 @@ fn the_stored_cases_show_templates() {
 fn the_stored_cases_show_versions_and_forms() {
     stored_show(&[
         "E 1 granted",
-        "E 1 denied",
+        "E 1 closed",
         "E 1 malformed",
         "W 1 1 0",
         "W 2 0 1",
@@ -205,6 +206,46 @@ fn the_stored_cases_show_bodies() {
     ]);
 }
 
+/// Ticket 6. There is no UPDATE BINARY that lacks something among the shared
+/// cases so far, nor a TERMINATE CARD USAGE that is closed; those are in
+/// security.rs.
+#[test]
+fn the_stored_cases_show_what_is_lacking() {
+    let both = ["44", "04", "E0", "E4", "E6", "E8", "B0", "B2", "DC"];
+    for (instruction, number) in
+        both.into_iter().flat_map(|one| [(one, 1), (one, 2)]).chain([("D6", 2), ("FE", 1)])
+    {
+        let (start, end) = (format!("C {instruction} 0 6982"), [" lacking", " closed"][number - 1]);
+        let is_it = |sort: &String| sort.starts_with(&start) && sort.contains(end);
+        assert!(stored_sorts().iter().any(is_it), "no stored case of {start}{end}");
+    }
+    stored_show(&[
+        "C E4 0 6982 lacking of two",
+        "C E8 0 6982 by AB lacking",
+        "C E8 0 6982 by AB closed",
+        "E 0 closed",
+        "E 0 granted closed",
+        "E 0 granted lacking closed",
+        "E 0 lacking closed",
+        "E 1 closed",
+        "E 1 granted closed",
+        "E 1 lacking closed",
+    ]);
+}
+
+/// A61, in what others gave: the number is not 0 exactly with answer 0 and 6982.
+#[test]
+fn the_stored_results_tell_a_number_exactly_with_6982() {
+    let text = stored_text().expect("the stored cases are there");
+    for line in case_lines(&text).filter(|line| line.starts_with("C ")) {
+        let (_, result) = line.split_once(" > ").expect("a case and its result");
+        let fields: Vec<&str> = result.split(' ').collect();
+        let refused = result.starts_with("C 0 6982 ");
+        assert_eq!(["1", "2"].contains(&fields[7]), refused, "{line:.200}");
+        assert_eq!(fields[7] == "0", !refused, "{line:.200}");
+    }
+}
+
 /// A wrong result must be found: each stored case is given a changed result.
 #[test]
 fn a_changed_result_does_not_agree() {
@@ -215,7 +256,7 @@ fn a_changed_result_does_not_agree() {
         let first = if figures.starts_with('0') { "1" } else { "0" };
         let changed = format!("{kind}{first}{}", &figures[1..]);
         let given = Case::parse(case).expect("a known case").result();
-        assert!(!results_agree(&given, &changed), "{case:.200}");
+        assert_ne!(given, changed, "{case:.200}");
     }
 }
 

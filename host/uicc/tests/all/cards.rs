@@ -86,7 +86,7 @@ fn bytes(card: &Card, record: &Record) -> Vec<u8> {
 }
 
 fn grants(record: &Record, right: Right) -> bool {
-    decide(record.form, &record.rule, right, &State::FULL)
+    decide(record.form, &record.rule, right, &State::FULL).is_granted()
 }
 
 /// Whether a file can be created in its directory.

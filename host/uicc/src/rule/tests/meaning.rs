@@ -92,8 +92,8 @@ fn agree(rule: Rule, noise: &mut Noise) {
     };
     for state in [State::EMPTY, State::FULL, state(noise), state(noise), state(noise)] {
         for (right, need) in Right::ALL.into_iter().zip(&needs) {
-            let decided = decide(model_form(rule.form), rule.bytes, right, &state);
-            assert_eq!(Reading::of(need, &state), decided, "{rule:02X?} {right:?}: {need}");
+            let granted = decide(model_form(rule.form), rule.bytes, right, &state).is_granted();
+            assert_eq!(Reading::of(need, &state), granted, "{rule:02X?} {right:?}: {need}");
         }
     }
 }
