@@ -4,7 +4,7 @@
 use std::io::Write;
 
 use model::lines::from_hex;
-use model::{bytes as numbers, command, make, State, Word};
+use model::{bytes as numbers, command, make, words, Outcome, State, Word};
 
 /// Everything always: the rule of replay's root.
 pub const OPEN: &str = "7F00000000000000";
@@ -84,6 +84,14 @@ pub fn pool_for(image: &[u8]) -> Vec<u8> {
     vec![MARK; numbers::number32(image, 16 + 12).min(65_408) as usize]
 }
 
+/// A61: the number is 1 or 2 exactly with answer 0 and word 6982, else 0.
+#[track_caller]
+pub fn number_fits(outcome: &Outcome) {
+    let refused = outcome.answer == 0 && outcome.word == words::SECURITY_NOT_SATISFIED;
+    let fitting = if refused { 1..=2 } else { 0..=0 };
+    assert!(fitting.contains(&outcome.security), "{outcome:04X?}");
+}
+
 /// Runs one command under a state and gives its word and its data; the image
 /// is sound, and the response buffer long and full of a mark, which stays past
 /// the data. The pool is forgotten; without bodies it stays.
@@ -92,6 +100,7 @@ pub fn ask_under(image: &mut [u8], text: &str, state: &State) -> (Word, Vec<u8>)
     let outcome = command(image, &mut pool, &bytes(text), &mut response, state);
     assert!(image[4] == 3 || pool == pool_for(image), "{text} wrote into the pool");
     assert_eq!(outcome.answer, 0, "{text} on a sound image");
+    number_fits(&outcome);
     let (data, past) = response.split_at(outcome.data);
     assert!(past.iter().all(|&b| b == MARK), "{text} wrote past its data");
     (outcome.word, data.to_vec())

@@ -43,6 +43,7 @@ impl Lent {
             assert_eq!((&*self, outcome.data), (&before, 0), "{text} is refused and leaves all");
         }
         assert_eq!(sound(&before.image), sound(&self.image), "{text}");
+        number_fits(&outcome);
         (outcome, response)
     }
 

@@ -6,6 +6,7 @@
 mod bodies;
 mod common;
 mod create_data;
+mod decisions;
 mod expanded;
 mod fcp;
 mod ledger;
@@ -18,6 +19,7 @@ mod read_order;
 mod reading;
 mod readings;
 mod scope;
+mod security;
 mod sorts;
 mod soundness;
 mod stored;

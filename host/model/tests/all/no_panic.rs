@@ -17,6 +17,7 @@ fn call_with_image(image: &[u8], random: &mut Random) {
     let mut pool = random.bytes(60);
     let outcome = command(&mut after, &mut pool, &bytes, &mut response, &state);
     assert!([0, 1, 5, 6].contains(&outcome.answer));
+    number_fits(&outcome);
     assert!(outcome.data <= response.len());
     assert_eq!(after.len(), image.len());
     select_with_templates(image, random);
