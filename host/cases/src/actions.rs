@@ -27,6 +27,8 @@ pub enum Action {
     CreateNamed,
     /// A file with a rule of many groups.
     CreateRuled,
+    /// A file all of whose rights some states open, and not every one.
+    CreateLocked,
     /// A file in any life cycle that CREATE takes.
     CreateInState,
     /// An EF of a large part of the room, which leaves a large gap when it is

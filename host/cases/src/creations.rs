@@ -9,7 +9,7 @@ use crate::actions::Action;
 use crate::choices::{a_name, free_identifier, taken_identifiers};
 use crate::random::Random;
 use crate::template::{directory, elementary, FileData};
-use crate::{layouts, life_cycles, rules};
+use crate::{decided, layouts, life_cycles, rules};
 
 /// Where the new file would stand.
 struct Place {
@@ -62,7 +62,8 @@ pub fn data_for(
     };
     // Expanded rules come as often as compact ones where there are any.
     let other = if card.edition.takes(Form::Expanded) { 80 } else { 8 };
-    if action != Action::CreateRuled && random.chance(other) {
+    let ruled = [Action::CreateRuled, Action::CreateLocked].contains(&action);
+    if !ruled && random.chance(other) {
         data.rule = rules::mostly_open(random, card.edition);
     }
     Some(data)
@@ -140,10 +141,13 @@ fn by_field(action: Action, random: &mut Random, card: &Card, place: &Place) -> 
             let name = a_name(random, card)?;
             Some(named(random, identifier, place.most.unwrap_or(1), name))
         }
-        Action::CreateRuled => {
+        Action::CreateRuled | Action::CreateLocked => {
             let size = random.range(1, place.most?.min(300));
             let mut data = either(random, identifier, size);
-            data.rule = rules::many_groups(random, card.edition);
+            data.rule = match action {
+                Action::CreateRuled => rules::many_groups(random, card.edition),
+                _ => decided::locked(random, card.edition),
+            };
             Some(data)
         }
         Action::CreateInState => {

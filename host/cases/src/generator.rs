@@ -5,10 +5,11 @@ use model::{Card, State};
 use crate::again::Again;
 use crate::case::Case;
 use crate::damage::{damaged, Field};
-use crate::history::{fitting_command, history};
+use crate::history::{fitting_command, history, history_with};
 use crate::random::Random;
+use crate::themes::Theme;
 use crate::{bodied, breach, editions, images, makers, pools, raw};
-use crate::{responses, rules, states, streams, worst};
+use crate::{responses, rules, security, states, streams, worst};
 
 /// What a case is made for.
 #[derive(Clone, Copy, PartialEq, Eq, PartialOrd, Ord, Debug)]
@@ -29,6 +30,10 @@ pub enum Kind {
     NearMiss,
     /// READ, UPDATE, CREATE or DELETE on a sound image made for its bodies.
     Bodies,
+    /// A command that comes to step J, its rules made for one decision each.
+    Security,
+    /// A history of locked files, under states that open them or lack something.
+    Locked,
     /// CREATE's data, good or broken.
     Template,
     /// A call of the maker.
@@ -47,7 +52,7 @@ pub enum Kind {
 
 impl Kind {
     /// All kinds with their weights in the mix.
-    pub const MIX: [(Kind, usize); 15] = [
+    pub const MIX: [(Kind, usize); 17] = [
         (Kind::History, 100),
         (Kind::SoundCommand, 300),
         (Kind::SoundReport, 60),
@@ -56,6 +61,8 @@ impl Kind {
         (Kind::RawCommand, 70),
         (Kind::NearMiss, 110),
         (Kind::Bodies, 140),
+        (Kind::Security, 130),
+        (Kind::Locked, 20),
         (Kind::Template, 180),
         (Kind::Make, 30),
         (Kind::Replay, 30),
@@ -157,13 +164,15 @@ pub fn make_case(random: &mut Random, kind: Kind) -> Case {
             let (command, state) = (bodied::command(random, &card), states::mostly_full(random));
             one_command(random, card.encode(), command, state)
         }
+        Kind::Security => asking(random),
+        Kind::Locked => Case::History(history_with(random, Theme::Locked)),
         Kind::Template => {
             let edition = editions::any(random);
             Case::Template { edition, data: breach::any(random, edition) }
         }
         Kind::Make => makers::call(random),
         Kind::Replay => Case::Replay { input: streams::input(random) },
-        Kind::Rule => Case::Rule { rule: rules::any(random), state: states::any(random) },
+        Kind::Rule => rule_case(random),
         Kind::Worst => worst_case(random),
         Kind::FilesAgain => Case::Again(Again::files(random)),
         Kind::TreeAgain => Case::Again(Again::tree(random)),
@@ -190,6 +199,21 @@ fn one_command(random: &mut Random, image: Vec<u8>, command: Vec<u8>, state: Sta
     let pool = pools::lent(random, &image);
     let response = responses::lent(random, &image, &pool, &command);
     Case::OneCommand { image, pool, command, response, state }
+}
+
+/// A command that comes to step J.
+fn asking(random: &mut Random) -> Case {
+    let (card, command, state) = security::asked(random);
+    one_command(random, card.encode(), command, state)
+}
+
+/// A rule of any sort under any state, or one made for a decision under its own.
+fn rule_case(random: &mut Random) -> Case {
+    let (rule, state) = match random.chance(35) {
+        true => security::rule_and_state(random),
+        false => (rules::any(random), states::any(random)),
+    };
+    Case::Rule { rule, state }
 }
 
 fn worst_case(random: &mut Random) -> Case {

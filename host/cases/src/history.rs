@@ -10,7 +10,7 @@ use crate::case::{History, Lent, Step};
 use crate::images::slot_count;
 use crate::random::Random;
 use crate::themes::Theme;
-use crate::{editions, pools, responses, rules, states};
+use crate::{decided, editions, pools, responses, rules, states};
 
 /// How often another action is tried where the card gives no occasion.
 const TRIES: usize = 6;
@@ -31,6 +31,7 @@ impl Writer {
         let total = if random.chance(70) { most } else { random.range(1, most) };
         let rule = match theme {
             Theme::Rules => rules::well_formed(random, edition),
+            Theme::Locked => decided::locked(random, edition),
             _ => rules::mostly_open(random, edition),
         };
         let pool = Vec::new();
@@ -85,6 +86,7 @@ impl Writer {
         });
         let state = match theme {
             Theme::Rules if random.chance(40) => states::any(random),
+            Theme::Locked if random.chance(45) => decided::state(random),
             _ => states::mostly_full(random),
         };
         let bytes = fitting.unwrap_or_else(|| select_by(random, 0x3F00));
@@ -95,6 +97,11 @@ impl Writer {
 /// A history of any theme.
 pub fn history(random: &mut Random) -> History {
     let theme = if random.chance(15) { Theme::Bodies } else { random.pick(Theme::ALL) };
+    history_with(random, theme)
+}
+
+/// A history of a theme on a card of any measures.
+pub fn history_with(random: &mut Random, theme: Theme) -> History {
     let slots = slot_count(random);
     // Large cards make long lines, so they get few commands.
     let steps = if slots > 200 { 6 } else { random.range(5, 40) as usize };
@@ -105,6 +112,7 @@ pub fn history(random: &mut Random) -> History {
 pub fn history_of(random: &mut Random, theme: Theme, slots: usize, steps: usize) -> History {
     let edition = match theme {
         Theme::Bodies if random.chance(85) => editions::NEWEST,
+        Theme::Locked if random.chance(50) => editions::NEWEST,
         _ => editions::any(random),
     };
     history_on(random, edition, theme, slots, steps)

@@ -30,6 +30,7 @@
 //! | CREATE's data, good and broken | [`template`], [`breach`] |
 //! | versions, life-cycle bytes, states | [`editions`], [`life_cycles`], [`states`] |
 //! | rules of both forms, and what can be wrong with them | [`rules`], [`compact`], [`expanded`], [`flaws`] |
+//! | rules made for a decision, commands that ask them | [`decided`], [`security`] |
 //! | maker's calls, replay's streams | [`makers`], [`streams`] |
 //! | pools, response buffers | [`pools`], [`responses`] |
 //! | files made again by their templates | [`again`], [`target`], [`elsewhere`], [`regrown`], [`sorts`] |
@@ -48,6 +49,7 @@ pub mod choices;
 pub mod compact;
 pub mod creations;
 pub mod damage;
+pub mod decided;
 pub mod editions;
 pub mod elsewhere;
 pub mod expanded;
@@ -65,6 +67,7 @@ pub mod raw;
 pub mod regrown;
 pub mod responses;
 pub mod rules;
+pub mod security;
 pub mod sorts;
 pub mod states;
 pub mod streams;

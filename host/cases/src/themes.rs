@@ -18,6 +18,9 @@ pub enum Theme {
     Names,
     /// Rules with many groups under all sorts of states.
     Rules,
+    /// Rights that some states open, under such and under others that lack
+    /// something.
+    Locked,
     /// All life cycles.
     LifeCycles,
     /// Terminated trees and what still works in them.
@@ -27,7 +30,8 @@ pub enum Theme {
 }
 
 impl Theme {
-    /// All themes.
+    /// The themes of any history; those of locked files are a kind of cases by
+    /// themselves.
     pub const ALL: [Theme; 9] = [
         Theme::Mixed,
         Theme::Sizes,
@@ -58,6 +62,7 @@ impl Theme {
             Theme::Deep => &DEEP,
             Theme::Names => &NAMES,
             Theme::Rules => &RULES,
+            Theme::Locked => &LOCKED,
             Theme::LifeCycles => &LIFE_CYCLES,
             Theme::Terminated => &TERMINATED,
             Theme::Bodies => &BODIES,
@@ -106,6 +111,18 @@ const RULES: [(Action, usize); 6] = [
     (Action::Activate, 2),
     (Action::Deactivate, 2),
     (Action::SelectUp, 2),
+];
+
+const LOCKED: [(Action, usize); 9] = [
+    (Action::CreateLocked, 9),
+    (Action::SelectChild, 4),
+    (Action::SelectUp, 4),
+    (Action::DeleteChild, 3),
+    (Action::Activate, 3),
+    (Action::Deactivate, 3),
+    (Action::TerminateEf, 1),
+    (Action::TerminateDf, 1),
+    (Action::ReadOrUpdate, 5),
 ];
 
 const LIFE_CYCLES: [(Action, usize); 7] = [

@@ -260,7 +260,7 @@ fn damage_at_the_bytes_of_the_ticket() {
 #[test]
 fn every_theme_is_played_on_all_versions() {
     let mut random = Random::new(SEED + 6);
-    for theme in Theme::ALL {
+    for theme in Theme::ALL.into_iter().chain([Theme::Locked]) {
         for version in Version::ALL {
             let edition = Edition::of(version);
             let mut forms = BTreeSet::new();

@@ -168,7 +168,7 @@ fn every_life_cycle_is_left_by_every_way() {
 
 #[test]
 fn every_theme_makes_histories_of_the_asked_length() {
-    for (number, theme) in Theme::ALL.into_iter().enumerate() {
+    for (number, theme) in Theme::ALL.into_iter().chain([Theme::Locked]).enumerate() {
         let mut random = Random::new(number as u64);
         let history = history_of(&mut random, theme, 30, 200);
         assert!((200..=204).contains(&history.steps.len()), "{theme:?}");

@@ -4,6 +4,7 @@
 #![forbid(unsafe_code)]
 
 mod again;
+mod asked;
 mod bodies;
 mod common;
 mod coverage;
@@ -17,5 +18,6 @@ mod life_cycles;
 mod near;
 mod pools;
 mod program;
+mod security;
 mod shown;
 mod starts;
