@@ -47,7 +47,7 @@ fn every_shared_case_agrees() {
             say(&format!("SKIPPED: the shared vectors against the proved card: {reason}"));
         }
         Ok(text) => {
-            let counts = all_agree(&text, 30);
+            let counts = all_agree(&text, 25);
             let all: usize = counts.values().sum();
             say(&format!("shared vectors: {all} agree with the proved card {counts:?}"));
         }
