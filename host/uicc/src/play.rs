@@ -44,7 +44,7 @@ fn play(card: &mut Card, steps: &[Step], state: &State) -> Result<String, String
     let mut told = String::new();
     for (Step { line, command }, name) in steps.iter().zip(names) {
         let reply = card.command(command, state);
-        let Reply { word, data } =
+        let Reply { word, data, .. } =
             reply.map_err(|error| format!("line {line}, {name}: {error}"))?;
         let meaning = meaning::of(command, word, card.kind());
         told += &format!("{line:>4}  {name:<width$}  {word}  {meaning}\n");
