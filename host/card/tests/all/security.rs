@@ -64,6 +64,14 @@ fn commands() -> Vec<(Vec<u8>, usize, u8, u16)> {
 }
 
 #[test]
+fn each_of_the_three_has_a_number_and_a_meaning_of_its_own() {
+    assert_eq!([0, 1, 2].map(Security::of_number), Security::ALL.map(Some));
+    assert_eq!([3, 255, 256, u32::MAX].map(Security::of_number), [None; 4]);
+    let meanings: BTreeSet<_> = Security::ALL.into_iter().map(Security::meaning).collect();
+    assert_eq!(meanings.len(), 3);
+}
+
+#[test]
 fn a_rule_that_some_state_opens_is_lacking() {
     for (command, slot, right, word) in commands() {
         let (compact, expanded) = ([right, USER_1], [0x80, 0x01, right, 0x9E, 0x01, USER_1]);
