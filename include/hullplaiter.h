@@ -180,9 +180,9 @@ uint32_t hull_make(uint8_t *image, size_t image_length, uint32_t kind, uint32_t 
  *         version, is wrong data
  *   6A82  no such file
  *   6986  TERMINATE EF, READ or UPDATE while no EF is current
- *   6982  the file's rule does not allow the command with these sets: CREATE asks b3 (a DF) or b2 (an EF) of the current DF's
- *         rule, DELETE b7 of the file's or b1 of the current DF's, TERMINATE b6, ACTIVATE b5 and DEACTIVATE b4 of the file's
- *         own, UPDATE b2 and READ b1. Whether other sets would allow it, numbers[1] tells
+ *   6982  the rule does not allow the command with these sets. CREATE asks b3 (a DF) or b2 (an EF) of the current DF's rule,
+ *         DELETE b7 of the file's or b1 of the current DF's; of the file's own TERMINATE asks b6, ACTIVATE b5, DEACTIVATE b4,
+ *         UPDATE b2, READ b1, and TERMINATE CARD USAGE b6 of the root's. numbers[1] tells whether other sets would allow it
  *   6A89  CREATE: the identifier is a sibling's, the current DF's, or one above
  *   6A8A  CREATE: the name stands on the card already
  *   6A84  CREATE: not enough memory

@@ -1,6 +1,7 @@
 //! What is told of a refusal, beside what the card does.
 
 use card::{Kind, Reply, Rule, Security, Word};
+use model::command::Instruction;
 use model::{Record, State as ModelState};
 
 use super::*;
@@ -84,6 +85,15 @@ fn read(lines: &str) -> (Vec<(String, String)>, Option<String>) {
         rules.push((whose.to_string(), need.to_string()));
     }
     (rules, missing)
+}
+
+/// Every command of the card but SELECT asks a rule, and none is forgotten here.
+#[test]
+fn every_command_is_among_them() {
+    let listed = |instruction: u8| ALL.iter().any(|(row, ..)| bytes(row)[1] == instruction);
+    for (byte, instruction) in Instruction::ALL {
+        assert_eq!(listed(byte), instruction != Instruction::Select, "{instruction:?}");
+    }
 }
 
 #[test]
