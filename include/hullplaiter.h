@@ -103,6 +103,17 @@ extern "C" {
 #define HULL_SHORT_RESPONSE 5u
 #define HULL_WRONG_POOL 6u
 
+/* What a security refusal lacks: numbers[1] of hull_command. Lacking: the command is refused, and with other sets its rule
+ * would let it pass. Closed: no sets do, whatever is authenticated. They come with answer HULL_DONE and word 6982, one of
+ * the two each time, and with nothing else. A DELETE asks two rules, of which one suffices: it is lacking if one of them
+ * is, and closed if both are. Channels and life cycles are no part of it.
+ *
+ * The number came later than its place: in earlier versions of this library it is 0 on every call, also with 6982. What was
+ * compiled for the header of such a version goes on working as it is; the array has as many entries as it had. */
+#define HULL_NO_SECURITY_REFUSAL 0u
+#define HULL_LACKING 1u
+#define HULL_CLOSED 2u
+
 /* Makes a fresh card in image[0 .. image_length): the root 3F00 with descriptor 38, life cycle 05, that total and that
  * rule, no name; the root current, no EF; all else free. In version 3 the pool that hull_command is lent beside it has
  * `total` bytes; the maker takes no pool, and what a fresh one holds does not matter.
@@ -142,7 +153,7 @@ uint32_t hull_make(uint8_t *image, size_t image_length, uint32_t kind, uint32_t 
  * numbers
  *         HULL_COMMAND_NUMBERS numbers that the caller lends, each written on every call:
  *         numbers[0]  how many bytes of data were written to the response; 0 if there are none
- *         numbers[1]  0; kept for a later version, which tells there what a security refusal lacks
+ *         numbers[1]  HULL_LACKING or HULL_CLOSED with answer HULL_DONE and word 6982; else HULL_NO_SECURITY_REFUSAL
  *         numbers[2]  0; kept for a later version, which tells there how many bytes were moved
  * returns 65536 times the answer, plus the word: HULL_ANSWER and HULL_WORD take them apart.
  *         Answer HULL_DONE: the word tells. With 9000 the command has had its effect on image and pool; with 6283 or 6285
@@ -169,7 +180,9 @@ uint32_t hull_make(uint8_t *image, size_t image_length, uint32_t kind, uint32_t 
  *         version, is wrong data
  *   6A82  no such file
  *   6986  TERMINATE EF, READ or UPDATE while no EF is current
- *   6982  the file's rule does not allow the command with these sets
+ *   6982  the rule does not allow the command with these sets. CREATE asks b3 (a DF) or b2 (an EF) of the current DF's rule,
+ *         DELETE b7 of the file's or b1 of the current DF's; of the file's own TERMINATE asks b6, ACTIVATE b5, DEACTIVATE b4,
+ *         UPDATE b2, READ b1, and TERMINATE CARD USAGE b6 of the root's. numbers[1] tells whether other sets would allow it
  *   6A89  CREATE: the identifier is a sibling's, the current DF's, or one above
  *   6A8A  CREATE: the name stands on the card already
  *   6A84  CREATE: not enough memory

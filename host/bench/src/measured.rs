@@ -122,9 +122,13 @@ fn by_card(call: &Call, lent: &mut Lent) -> u16 {
     match call {
         Call::Sound => u16::from(!lent::is_sound(image)),
         Call::Report => u16::from(lent::report(image).is_err()),
-        Call::Command(bytes) => {
+        Call::Command(bytes) | Call::Unauthenticated(bytes) => {
             let mut response = [0; LONGEST_RESPONSE];
-            let answer = lent::command(image, pool, bytes, &mut response, &card::State::FULL);
+            let state = match call {
+                Call::Unauthenticated(_) => card::State::EMPTY,
+                _ => card::State::FULL,
+            };
+            let answer = lent::command(image, pool, bytes, &mut response, &state);
             answer.map_or(0, |answer| answer.word.0)
         }
     }
@@ -136,9 +140,13 @@ fn by_model(call: &Call, lent: &mut Lent) -> u16 {
     match call {
         Call::Sound => u16::from(!model::sound(image)),
         Call::Report => u16::from(model::report(image).0),
-        Call::Command(bytes) => {
+        Call::Command(bytes) | Call::Unauthenticated(bytes) => {
             let mut response = [0; LONGEST_RESPONSE];
-            model::command(image, pool, bytes, &mut response, &model::State::FULL).word
+            let state = match call {
+                Call::Unauthenticated(_) => model::State::EMPTY,
+                _ => model::State::FULL,
+            };
+            model::command(image, pool, bytes, &mut response, &state).word
         }
     }
 }

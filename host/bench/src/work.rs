@@ -5,6 +5,7 @@ use cases::actions::{bare, delete, select};
 use cases::rules::Rule;
 use cases::template::FileData;
 use cases::Lent;
+use model::rule::Form;
 use model::{Card, Record};
 
 use crate::bodied::BYTES;
@@ -12,12 +13,23 @@ use crate::bodied::BYTES;
 /// A body of so many bytes finds a gap on every card with bodies.
 const FEW_BYTES: u32 = 40;
 
+/// The AM byte of DEACTIVATE, and two conditions for it: user authentication 1, and
+/// the one that no state opens.
+const DEACTIVATES: u8 = 0x08;
+const USER_1: u8 = 0x11;
+const NEVER: u8 = 0xFF;
+/// Groups of two bytes in the longest rule of version 1.
+const GROUPS: usize = 8;
+
 /// A call with its command.
 #[derive(Clone, PartialEq, Eq, Debug)]
 pub enum Call {
     Sound,
     Report,
+    /// Every condition holds that can hold.
     Command(Vec<u8>),
+    /// No condition holds but those that always do.
+    Unauthenticated(Vec<u8>),
 }
 
 /// A kind of work.
@@ -44,11 +56,13 @@ pub enum Task {
     TerminateEf,
     TerminateDf,
     TerminateCard,
+    Lacking,
+    Closed,
 }
 
 impl Task {
     /// What is measured on a card without bodies.
-    pub const ALL: [Task; 17] = [
+    pub const ALL: [Task; 19] = [
         Task::Sound,
         Task::Report,
         Task::UnknownInstruction,
@@ -66,10 +80,12 @@ impl Task {
         Task::TerminateEf,
         Task::TerminateDf,
         Task::TerminateCard,
+        Task::Lacking,
+        Task::Closed,
     ];
 
     /// What is measured on a card with bodies.
-    pub const BODIED: [Task; 13] = [
+    pub const BODIED: [Task; 15] = [
         Task::Sound,
         Task::Report,
         Task::UnknownInstruction,
@@ -83,6 +99,8 @@ impl Task {
         Task::DeleteFile,
         Task::DeleteTree,
         Task::Activate,
+        Task::Lacking,
+        Task::Closed,
     ];
 
     /// Each SELECT with the one that answers the template, and what both select.
@@ -123,6 +141,8 @@ impl Task {
             Task::TerminateEf => "TERMINATE EF",
             Task::TerminateDf => "TERMINATE DF",
             Task::TerminateCard => "TERMINATE CARD USAGE",
+            Task::Lacking => "DEACTIVATE, lacking",
+            Task::Closed => "DEACTIVATE, closed",
         }
     }
 
@@ -160,6 +180,8 @@ impl Task {
             Task::TerminateEf => on_last_file(&mut card, 0x05, 0xE8),
             Task::TerminateDf => on_last_file(&mut card, 0x05, 0xE6),
             Task::TerminateCard => Call::Command(bare(0xFE)),
+            Task::Lacking => refused_by(&mut card, USER_1),
+            Task::Closed => refused_by(&mut card, NEVER),
         };
         (Lent { image: card.encode(), pool: start.pool.clone() }, call)
     }
@@ -223,75 +245,18 @@ fn on_last_file(card: &mut Card, life_cycle: u8, ins: u8) -> Call {
     Call::Command(bare(ins))
 }
 
-#[cfg(test)]
-mod tests {
-    use super::*;
-    use crate::shapes::shapes;
-
-    /// The two SELECTs that are compared start alike and select the same file.
-    #[test]
-    fn a_template_is_compared_with_the_same_select_without() {
-        for worst in shapes(64) {
-            for (_, without, with) in Task::TEMPLATES {
-                let (start, one) = without.prepared(&worst.start);
-                let (same_start, other) = with.prepared(&worst.start);
-                assert_eq!(start, same_start, "{}, {with:?}", worst.title);
-                let (Call::Command(one), Call::Command(other)) = (one, other) else {
-                    panic!("{with:?} is no command");
-                };
-                assert_eq!((one[3], other[3], other[7]), (0x0C, 0x04, 0x00), "{with:?}");
-                assert_eq!(one[4..], other[4..7], "{with:?}");
-            }
-        }
-    }
-
-    /// Every command has its effect, but for those that a shape cannot have:
-    /// no EF to terminate, nothing to select.
-    #[test]
-    fn the_commands_do_what_their_titles_say() {
-        for worst in shapes(64) {
-            let has_ef =
-                ["identifier", "files", "version 2"].map(|part| worst.title.contains(part));
-            let has_ef = has_ef.contains(&true);
-            let bodied = !worst.start.pool.is_empty();
-            for task in if bodied { &Task::BODIED[..] } else { &Task::ALL } {
-                let (Lent { mut image, mut pool }, call) = task.prepared(&worst.start);
-                assert!(card::lent::is_sound(&image), "{}, {task:?}", worst.title);
-                let Call::Command(bytes) = call else { continue };
-                let wanted = match task {
-                    Task::UnknownInstruction => 0x6D00,
-                    Task::SelectNothing => 0x6A82,
-                    Task::TerminateEf if !has_ef => 0x6986,
-                    _ => 0x9000,
-                };
-                let mut response = [0; card::LONGEST_RESPONSE];
-                let full = card::State::FULL;
-                let answer =
-                    card::lent::command(&mut image, &mut pool, &bytes, &mut response, &full);
-                let answer = answer.expect("a sound card, its pool and a long response");
-                assert_eq!(answer.word.0, wanted, "{}, {task:?}", worst.title);
-                let has_data = format!("{task:?}").contains("Template") || *task == Task::Read;
-                assert_eq!(answer.data_length > 0, has_data, "{}, {task:?}", worst.title);
-            }
-        }
-    }
-
-    /// What a CREATE on a card with bodies does to those that are there.
-    #[test]
-    fn bodies_are_moved_by_one_create_and_not_by_the_other() {
-        let shapes = [16, 128, 1023].into_iter().flat_map(shapes);
-        for worst in shapes.filter(|shape| !shape.start.pool.is_empty()) {
-            for (task, moves) in [(Task::CreateInGap, false), (Task::CreateMoving, true)] {
-                let (Lent { mut image, mut pool }, call) = task.prepared(&worst.start);
-                let before = Card::decode(&image).expect("a card");
-                let Call::Command(bytes) = call else { panic!("no command") };
-                model::command(&mut image, &mut pool, &bytes, &mut [], &model::State::FULL);
-                let after = Card::decode(&image).expect("a card");
-                for slot in model::bodies::in_order(&before) {
-                    let moved = before.record(slot).start != after.record(slot).start;
-                    assert_eq!(moved, moves, "{}, {task:?}, slot {slot}", worst.title);
-                }
-            }
-        }
-    }
+/// Makes the last file current, with its directory, and refuses its DEACTIVATE by a
+/// rule of so many groups as every version takes: none but the last may hold in any
+/// state, so that each is looked at.
+fn refused_by(card: &mut Card, last_condition: u8) -> Call {
+    on_last_file(card, 0x05, 0x04);
+    let slot = last_slot(card);
+    let rule =
+        [[DEACTIVATES, NEVER].repeat(GROUPS - 1), vec![DEACTIVATES, last_condition]].concat();
+    let record = card.record(slot).clone();
+    card.put(slot, Record { form: Form::Compact, rule, ..record });
+    Call::Unauthenticated(bare(0x04))
 }
+
+#[cfg(test)]
+mod tests;

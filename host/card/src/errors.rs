@@ -137,6 +137,10 @@ pub enum CommandError {
     /// An answer that this version does not know, or data that is longer than
     /// the response; what became of the buffers is not known.
     Unknown(u32),
+    /// Answer 0 with a number that this version does not know where the library
+    /// tells what a security refusal lacks; whether the command had its effect
+    /// is not known.
+    UnknownSecurity(u32),
 }
 
 impl CommandError {
@@ -147,6 +151,7 @@ impl CommandError {
             CommandError::ShortResponse => 5,
             CommandError::WrongPool { .. } => 6,
             CommandError::Unknown(answer) => answer,
+            CommandError::UnknownSecurity(_) => 0,
         }
     }
 }
@@ -166,6 +171,11 @@ impl fmt::Display for CommandError {
                  give the pool that was kept with this image"
             ),
             CommandError::Unknown(answer) => unknown(*answer, f),
+            CommandError::UnknownSecurity(number) => write!(
+                f,
+                "the card library told of a security refusal by the unknown number {number}: build \
+                 both anew"
+            ),
         }
     }
 }

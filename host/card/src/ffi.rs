@@ -44,9 +44,9 @@ pub fn make(image: &mut [u8], kind: u32, total: u32, form: u32, rule: &[u8]) -> 
 }
 
 /// The answer in the high half of the first number, the word in its low half.
-/// Then the call's three numbers: how many bytes of the response were written,
-/// and two that are 0. They start as no call could leave them, to show that
-/// each is written.
+/// Then the call's three numbers: how many bytes of the response were written;
+/// what a security refusal lacks, 1 or 2 with word 6982 and else 0; and one that
+/// is 0. They start as no call could leave them, to show that each is written.
 pub fn command(
     image: &mut [u8],
     pool: &mut [u8],

@@ -6,6 +6,7 @@ use crate::errors::{CommandError, Damaged, MakeError};
 use crate::ffi;
 use crate::kind::{Kind, Rule};
 use crate::pool_length;
+use crate::security::Security;
 use crate::state::State;
 use crate::word::Word;
 
@@ -27,6 +28,8 @@ pub struct Report {
 pub struct Answer {
     /// The status word.
     pub word: Word,
+    /// What is lacking where the word is 6982.
+    pub security: Security,
     /// How many bytes of data stand at the start of the response.
     pub data_length: usize,
 }
@@ -59,11 +62,12 @@ pub fn command(
     state: &State,
 ) -> Result<Answer, CommandError> {
     let sets = [state.messaging, state.external, state.user];
-    let (both, [written, ..]) = ffi::command(image, pool, command, response, sets, state.channels);
+    let (both, [written, lacking, _]) =
+        ffi::command(image, pool, command, response, sets, state.channels);
     let data_length = usize::try_from(written).unwrap_or(usize::MAX);
     match both >> 16 {
         0 if data_length <= response.len() => {
-            Ok(Answer { word: Word((both & 0xFFFF) as u16), data_length })
+            done(Word((both & 0xFFFF) as u16), lacking, data_length)
         }
         1 => Err(CommandError::Damaged),
         5 => Err(CommandError::ShortResponse),
@@ -73,6 +77,12 @@ pub fn command(
         }
         answer => Err(CommandError::Unknown(answer)),
     }
+}
+
+/// What answer 0 tells, with the library's number for what a refusal lacks.
+fn done(word: Word, lacking: u32, data_length: usize) -> Result<Answer, CommandError> {
+    let security = Security::of_number(lacking).ok_or(CommandError::UnknownSecurity(lacking))?;
+    Ok(Answer { word, security, data_length })
 }
 
 /// Reports on the current directory.
@@ -86,4 +96,22 @@ pub fn report(image: &[u8]) -> Result<Report, Damaged> {
 /// Whether the buffer holds a sound image.
 pub fn is_sound(image: &[u8]) -> bool {
     ffi::sound(image) == 1
+}
+
+#[cfg(test)]
+mod tests {
+    use super::*;
+
+    /// The proved library gives no other number; one of another version might.
+    #[test]
+    fn a_number_that_is_not_known_is_an_error() {
+        let word = Word(0x6982);
+        for security in Security::ALL {
+            let answer = Answer { word, security, data_length: 0 };
+            assert_eq!(done(word, security.number(), 0), Ok(answer));
+        }
+        for number in [3, 0x0001_0000, 0x0100_0002, u32::MAX] {
+            assert_eq!(done(word, number, 0), Err(CommandError::UnknownSecurity(number)));
+        }
+    }
 }

@@ -25,7 +25,8 @@
 //! | what card it is, its root's rule | [`Kind`]; [`Rule`], [`Form`] |
 //! | what the caller has authenticated | [`State`] |
 //! | status words and their meaning | [`Word`] |
-//! | a word with the data that came with it | [`Reply`] |
+//! | what a security refusal lacks | [`Security`] |
+//! | a word with all that came with it | [`Reply`] |
 //! | what goes wrong | [`MakeError`], [`CommandError`], [`Damaged`], [`RefusedParts`] |
 
 #![deny(unsafe_code)]
@@ -46,6 +47,7 @@ pub mod ffi;
 mod kind;
 pub mod lent;
 mod owned;
+mod security;
 mod state;
 mod word;
 
@@ -53,6 +55,7 @@ pub use errors::{CommandError, Damaged, MakeError, RefusedParts};
 pub use kind::{Form, Kind, Rule};
 pub use lent::{Answer, Report};
 pub use owned::{Card, Reply};
+pub use security::Security;
 pub use state::State;
 pub use word::Word;
 

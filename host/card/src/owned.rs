@@ -4,7 +4,8 @@ use std::fmt;
 
 use crate::errors::{CommandError, Damaged, MakeError, RefusedParts};
 use crate::kind::{Kind, Rule};
-use crate::lent::{self, Report};
+use crate::lent::{self, Answer, Report};
+use crate::security::Security;
 use crate::state::State;
 use crate::word::Word;
 use crate::{image_length, pool_length, LONGEST_RESPONSE, MOST_SLOTS};
@@ -14,6 +15,8 @@ use crate::{image_length, pool_length, LONGEST_RESPONSE, MOST_SLOTS};
 pub struct Reply {
     /// The status word.
     pub word: Word,
+    /// What is lacking where the word is 6982.
+    pub security: Security,
     /// The data: what a READ reads, the template of a SELECT that wants it,
     /// else nothing.
     pub data: Vec<u8>,
@@ -60,9 +63,10 @@ impl Card {
     /// enough.
     pub fn command(&mut self, command: &[u8], state: &State) -> Result<Reply, CommandError> {
         let mut response = [0; LONGEST_RESPONSE];
-        let answer = lent::command(&mut self.image, &mut self.pool, command, &mut response, state)?;
-        let data = response.into_iter().take(answer.data_length).collect();
-        Ok(Reply { word: answer.word, data })
+        let Answer { word, security, data_length } =
+            lent::command(&mut self.image, &mut self.pool, command, &mut response, state)?;
+        let data = response.into_iter().take(data_length).collect();
+        Ok(Reply { word, security, data })
     }
 
     /// Reports on the current directory.

@@ -30,6 +30,9 @@ const MEANINGS: [(u16, &str); 17] = [
 impl Word {
     /// The command had its effect, and there is nothing to add.
     pub const DONE: Word = Word(0x9000);
+    /// Security refused the command; [`crate::Security`] tells whether anything
+    /// opens it.
+    pub const SECURITY: Word = Word(0x6982);
 
     /// Every word that a command can give.
     pub fn all() -> impl Iterator<Item = Word> {

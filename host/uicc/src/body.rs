@@ -111,12 +111,11 @@ impl<'a> Selected<'a> {
     fn play(&mut self, command: &[u8]) -> Result<Vec<u8>, String> {
         let reply = self.card.command(command, self.state);
         let reply = reply.map_err(|error| format!("{}: {error}", self.path))?;
-        match reply.word {
-            word if word.is_success() => Ok(reply.data),
-            word => {
-                Err(format!("{}: {}", self.path, meaning::refused(command, word, self.card.kind())))
-            }
+        if reply.word.is_success() {
+            return Ok(reply.data);
         }
+        let why = meaning::refused(command, &reply, &self.card, self.state);
+        Err(format!("{}: {why}", self.path))
     }
 
     /// The pieces of a part: as many as there are bytes for, else all. Where

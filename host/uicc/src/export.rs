@@ -15,7 +15,7 @@ use model::life_cycle::{is_deactivated, is_terminated, ACTIVATED, DEACTIVATED, T
 
 use crate::arguments::Fresh;
 use crate::fcp::Template;
-use crate::{describe, hex, meaning};
+use crate::{describe, hex};
 use source::{Source, ROOT};
 use target::Target;
 
@@ -103,14 +103,15 @@ impl Exporter<'_> {
         self.target.note(&format!("{name}: {}", template.in_short()));
         let contents = contents::updates(self.source.record(slot), self.source.body(slot));
         let first = self.first_life_cycle(slot, &template, &contents)?;
-        let word = self.target.play(&template.create(first))?;
-        if !word.is_success() {
+        let create = template.create(first);
+        let reply = self.target.play(&create)?;
+        if !reply.word.is_success() {
             let beneath = match self.source.beneath(slot) {
                 0 => String::new(),
                 1 => ", nor the file beneath it".to_string(),
                 many => format!(", nor the {many} files beneath it"),
             };
-            let why = format!("CREATE FILE is answered {word}, {}", word.meaning());
+            let why = self.target.refused(&create, &reply);
             self.lose(format!("{name} does not come back{beneath}: {why}"));
             return Ok(None);
         }
@@ -148,9 +149,9 @@ impl Exporter<'_> {
     fn fill(&mut self, slot: usize, contents: &[Vec<u8>]) -> Result<(), String> {
         let mut why = "no command reaches it".to_string();
         for command in contents {
-            let word = self.target.play(command)?;
-            if !word.is_success() {
-                why = meaning::refused(command, word, self.source.kind());
+            let reply = self.target.play(command)?;
+            if !reply.word.is_success() {
+                why = self.target.refused(command, &reply);
                 break;
             }
         }
@@ -190,9 +191,10 @@ impl Exporter<'_> {
             if instruction != TERMINATE_CARD {
                 self.target.make_current(slot)?;
             }
-            match self.target.play(&command)? {
-                word if word.is_success() => now = after,
-                word => why = meaning::refused(&command, word, self.source.kind()),
+            let reply = self.target.play(&command)?;
+            match reply.word.is_success() {
+                true => now = after,
+                false => why = self.target.refused(&command, &reply),
             }
         }
         if own != now {

@@ -130,6 +130,11 @@ pub fn line(title: &str, value: &str) -> String {
     format!("        {title:<10}  {value}\n")
 }
 
+/// The same with the words of a rule, in several lines if they are long.
+pub fn folded_line(title: &str, words: &str) -> String {
+    line(title, &rule::folded(words, BEFORE_VALUE))
+}
+
 /// The title of a rule's line.
 pub fn title(form: Form) -> &'static str {
     match form {

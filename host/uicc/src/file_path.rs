@@ -82,9 +82,9 @@ fn select(card: &mut Card, identifier: u16, state: &State) -> Result<Vec<u8>, St
     let [high, low] = identifier.to_be_bytes();
     let command = [0x00, 0xA4, 0x00, 0x04, 0x02, high, low, 0x00];
     let reply = card.command(&command, state).map_err(|error| error.to_string())?;
-    match reply.word {
-        word if word.is_success() => Ok(reply.data),
-        word => Err(meaning::refused(&command, word, card.kind())),
+    match reply.word.is_success() {
+        true => Ok(reply.data),
+        false => Err(meaning::refused(&command, &reply, card, state)),
     }
 }
 

@@ -3,9 +3,11 @@
 //! the bodies of files (`read`, `write`), writes the script that makes the files
 //! of a card again (`export`), and explains access rules (`rule`).
 //!
-//! The proved card decides everything, also whether it takes a rule. Only `show`
-//! and `export`, and `read` and `write` to see where they are on a path, read the
-//! records of an image by the model, once the proved card has found it sound.
+//! The proved card decides everything, also whether it takes a rule and whether
+//! anything opens a command that it refused. Only `show` and `export`, `read` and
+//! `write` to see where they are on a path, and the words for what a rule asks
+//! read the records of an image by the model, once the proved card has found it
+//! sound.
 
 #![forbid(unsafe_code)]
 
@@ -23,6 +25,7 @@ mod meaning;
 mod pieces;
 mod play;
 mod pool;
+mod refusal;
 mod rule;
 mod script;
 mod store;

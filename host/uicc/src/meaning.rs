@@ -1,24 +1,36 @@
 //! What a status word says of a command, in words that fit it.
 
-use card::{Kind, Word};
+use card::{Card, Kind, Reply, Security, State, Word};
 
-use crate::describe;
 use crate::pieces::{
     LAST_START, READ_BINARY, READ_MOST, READ_RECORD, UPDATE_BINARY, UPDATE_RECORD,
 };
+use crate::{describe, refusal};
 
 /// The basic channel's class; others are refused before all else.
 const BASIC: u8 = 0x00;
 
-/// The word's meaning. For READ and UPDATE it names what was asked for.
-pub fn of(command: &[u8], word: Word, kind: Kind) -> String {
-    own(command, word, kind).unwrap_or_else(|| word.meaning().to_string())
+/// The word's meaning. For READ and UPDATE it names what was asked for, and where
+/// security refused, it says whether anything opens it.
+pub fn of(command: &[u8], reply: &Reply, kind: Kind) -> String {
+    let word = reply.word;
+    match reply.security {
+        Security::NoRefusal => own(command, word, kind),
+        security => Some(format!("{}: {}", in_short(word), security.meaning())),
+    }
+    .unwrap_or_else(|| word.meaning().to_string())
 }
 
-/// A refusal as a sentence without an end.
-pub fn refused(command: &[u8], word: Word, kind: Kind) -> String {
-    let (name, why) = (describe::command(command), of(command, word, kind));
-    format!("{name} is answered {word}, {why}")
+/// A refusal as a sentence without an end, by the card that refused, in a state.
+/// It is as it was, so that the rules that were asked stand there.
+pub fn refused(command: &[u8], reply: &Reply, card: &Card, state: &State) -> String {
+    let (name, word) = (describe::command(command), reply.word);
+    let why = of(command, reply, card.kind());
+    let rules = match word {
+        Word::SECURITY => refusal::in_short(command, card, state),
+        _ => String::new(),
+    };
+    format!("{name} is answered {word}, {why}{rules}")
 }
 
 fn own(command: &[u8], word: Word, kind: Kind) -> Option<String> {
@@ -75,7 +87,12 @@ mod tests {
     use super::*;
 
     fn told(command: &[u8], word: u16) -> String {
-        of(command, Word(word), Kind::VERSION_3)
+        told_of(command, word, Kind::VERSION_3)
+    }
+
+    fn told_of(command: &[u8], word: u16, kind: Kind) -> String {
+        let reply = Reply { word: Word(word), security: Security::NoRefusal, data: Vec::new() };
+        of(command, &reply, kind)
     }
 
     #[test]
@@ -115,8 +132,22 @@ mod tests {
         }
         let life = "the file is not activated, or a directory above it is terminated";
         assert_eq!(told(update, 0x6985), format!("conditions of use not satisfied: {life}"));
-        let old = of(read, Word(0x6D00), Kind::VERSION_1);
+        let old = told_of(read, 0x6D00, Kind::VERSION_1);
         assert_eq!(old, "unknown instruction: files of a card of version 1 have no bodies");
+    }
+
+    /// A refusal by security says what the card told of it.
+    #[test]
+    fn what_security_lacks_is_told() {
+        for (security, words) in [
+            (Security::Lacking, "lacking, more authentication opens it"),
+            (Security::Closed, "closed, no authentication opens it"),
+            (Security::NoRefusal, "no access rule allows this"),
+        ] {
+            let reply = Reply { word: Word::SECURITY, security, data: Vec::new() };
+            let told = of(&[0x00, 0xB0, 0x00, 0x00, 0x01], &reply, Kind::VERSION_3);
+            assert_eq!(told, format!("security status not satisfied: {words}"));
+        }
     }
 
     /// Every word of every instruction has words, however broken the command.

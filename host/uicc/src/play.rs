@@ -2,12 +2,12 @@
 
 use std::path::Path;
 
-use card::{Card, Reply, State, Word};
+use card::{Card, State, Word};
 
 use crate::arguments::Fresh;
 use crate::pieces::{READ_BINARY, READ_RECORD};
 use crate::script::Step;
-use crate::{describe, dump, fcp, hint, meaning, store, Done};
+use crate::{describe, dump, fcp, hint, meaning, refusal, store, Done};
 
 /// What only a CREATE is answered.
 const WRONG_DATA: Word = Word(0x6A80);
@@ -36,22 +36,23 @@ pub fn on_image(image: &Path, steps: &[Step], state: &State) -> Result<Done, Str
     Ok(Done::saved(format!("{name}\n{told}{name} saved\n"), image))
 }
 
-/// A line for each command, below it what it answered or what is wrong with a
-/// rule, and at the end the current directory.
+/// A line for each command, below it what it answered, what is wrong with a rule
+/// or what would open it, and at the end the current directory.
 fn play(card: &mut Card, steps: &[Step], state: &State) -> Result<String, String> {
     let names: Vec<_> = steps.iter().map(|step| describe::command(&step.command)).collect();
     let width = names.iter().map(String::len).max().unwrap_or(0).max(NARROWEST);
     let mut told = String::new();
     for (Step { line, command }, name) in steps.iter().zip(names) {
         let reply = card.command(command, state);
-        let Reply { word, data } =
-            reply.map_err(|error| format!("line {line}, {name}: {error}"))?;
-        let meaning = meaning::of(command, word, card.kind());
+        let reply = reply.map_err(|error| format!("line {line}, {name}: {error}"))?;
+        let (word, meaning) = (reply.word, meaning::of(command, &reply, card.kind()));
         told += &format!("{line:>4}  {name:<width$}  {word}  {meaning}\n");
-        told += &answered(command, &data);
+        told += &answered(command, &reply.data);
         if word == WRONG_DATA {
             let hint = hint::of_rule(command, card.kind());
             told += &hint.map_or_else(String::new, |(title, why)| fcp::line(title, &why));
+        } else if word == Word::SECURITY {
+            told += &refusal::below(command, card, state);
         }
     }
     let report = card.report().map_err(|error| error.to_string())?;

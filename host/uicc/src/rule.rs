@@ -15,7 +15,8 @@ mod written;
 
 pub use explain::{explain, takers};
 pub use folded::folded;
-pub use words::{words, Owner};
+pub use need::Need;
+pub use words::{needed, words, Owner};
 pub use written::{object, read, Written};
 
 use card::{Form, Rule};
@@ -94,6 +95,15 @@ pub fn of_record(record: &Record) -> Rule<'_> {
     Rule { form, bytes: &record.rule }
 }
 
+/// What the rule of a record belongs to.
+pub fn owner(record: &Record) -> Owner {
+    if record.is_df() {
+        Owner::Directory
+    } else {
+        Owner::File
+    }
+}
+
 /// The groups of a rule of any length, if it is well formed.
 pub fn groups(rule: Rule) -> Result<Vec<Group>, Malformed> {
     match rule.form {
@@ -108,4 +118,4 @@ pub fn bits(rights: u8) -> impl Iterator<Item = u8> {
 }
 
 #[cfg(test)]
-mod tests;
+pub mod tests;

@@ -66,8 +66,7 @@ struct Rules<'a> {
 impl<'a> Rules<'a> {
     /// The number of a file's rule, from 1.
     fn number(&mut self, record: &'a Record) -> usize {
-        let owner = if record.is_df() { Owner::Directory } else { Owner::File };
-        let rule = (owner, rule::of_record(record));
+        let rule = (rule::owner(record), rule::of_record(record));
         *self.numbers.entry(rule).or_insert_with(|| {
             self.rules.push(rule);
             self.rules.len()

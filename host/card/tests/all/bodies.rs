@@ -1,9 +1,9 @@
 //! READ and UPDATE on a card of version 3: what is written is read, where the
 //! words come from, and how long a response they need.
 
-use card::{lent, Answer, Card, CommandError, Kind, Rule, State, Word, LONGEST_RESPONSE};
+use card::{lent, Card, CommandError, Kind, Rule, State, LONGEST_RESPONSE};
 
-use crate::common::{create_open, fresh_of, noise, read, read_record, run, select};
+use crate::common::{create_open, done, fresh_of, noise, read, read_record, run, select};
 use crate::common::{update, update_record};
 
 const THREE: Kind = Kind::VERSION_3;
@@ -113,8 +113,7 @@ fn a_short_response_leaves_everything() {
                 assert_eq!(given, Err(CommandError::ShortResponse), "{le}, {length}");
                 assert_eq!(response, vec![0xA5; length]);
             } else {
-                let answer = Answer { word: Word::DONE, data_length: wanted };
-                assert_eq!(given, Ok(answer), "{le}, {length}");
+                assert_eq!(given, Ok(done(wanted)), "{le}, {length}");
                 let past = vec![0xA5; length - wanted];
                 assert_eq!(response, [vec![0xFF; wanted], past].concat());
             }

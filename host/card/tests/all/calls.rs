@@ -67,6 +67,7 @@ fn a_command_that_fails_says_what_to_do() {
             "has 9 bytes, and this card's has 448",
         ),
         (CommandError::Unknown(9), 9, "build both anew"),
+        (CommandError::UnknownSecurity(3), 0, "the unknown number 3: build both anew"),
     ] {
         assert_eq!(error.answer(), answer);
         assert!(error.to_string().contains(advice), "{error}");

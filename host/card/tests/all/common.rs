@@ -1,6 +1,6 @@
 //! A card to try things on, and commands for it.
 
-use card::{Card, Kind, Rule, State};
+use card::{Answer, Card, Kind, Rule, Security, State, Word};
 
 /// CREATE of the DF 7F10 with a total of 256.
 pub const CREATE_DF: &[u8] = &[
@@ -81,6 +81,11 @@ pub fn with_c6(template: &[u8]) -> Vec<u8> {
     let mut data = [template, &[0xC6, 1, 0x00]].concat();
     data[1] += 3;
     data
+}
+
+/// What a command answers that is done, with so many bytes of data.
+pub fn done(data_length: usize) -> Answer {
+    Answer { word: Word::DONE, security: Security::NoRefusal, data_length }
 }
 
 /// What SELECT with 04 gives.

@@ -8,4 +8,5 @@ mod making;
 mod numbers;
 mod pools;
 mod rules;
+mod security;
 mod templates;

@@ -1,7 +1,7 @@
 //! The bare numbers: each is written by every call, whatever it answers; and the
 //! header's numbers are the wrapper's.
 
-use card::{ffi, largest_total, CommandError, Form, Kind, MakeError};
+use card::{ffi, largest_total, CommandError, Form, Kind, MakeError, Security};
 use card::{FEWEST_SLOTS, HEADER_BYTES, LONGEST_RESPONSE, MOST_SLOTS, RECORD_BYTES};
 
 use crate::common::{fresh_of, read, select, select_told, update, CREATE_EF};
@@ -39,21 +39,22 @@ fn every_number_is_written_on_every_call() {
     assert_eq!(given, (0x6_0000, [0, 0, 0]));
 }
 
-/// A READ tells how many bytes it read, an UPDATE tells nothing.
+/// A READ tells how many bytes it read. An UPDATE that the file's rule has in no
+/// group tells that it is closed.
 #[test]
 fn a_read_tells_its_length() {
     let (mut image, mut pool) = fresh_of(Kind::VERSION_3).into_parts();
-    for (command, length, both, written) in [
-        (CREATE_EF.to_vec(), 0, 0x9000, 0),
-        (read(0, 9), 8, 0x5_0000, 0),
-        (read(0, 9), 9, 0x9000, 9),
-        (read(8, 1), 256, 0x9000, 1),
-        (read(8, 2), 256, 0x6700, 0),
-        (update(0, &[1; 9]), 0, 0x6982, 0),
+    for (command, length, both, numbers) in [
+        (CREATE_EF.to_vec(), 0, 0x9000, [0, 0, 0]),
+        (read(0, 9), 8, 0x5_0000, [0, 0, 0]),
+        (read(0, 9), 9, 0x9000, [9, 0, 0]),
+        (read(8, 1), 256, 0x9000, [1, 0, 0]),
+        (read(8, 2), 256, 0x6700, [0, 0, 0]),
+        (update(0, &[1; 9]), 0, 0x6982, [0, 2, 0]),
     ] {
         let mut response = vec![0; length];
         let given = ffi::command(&mut image, &mut pool, &command, &mut response, FULL, 0);
-        assert_eq!(given, (both, [written, 0, 0]), "{command:02X?}, {length}");
+        assert_eq!(given, (both, numbers), "{command:02X?}, {length}");
     }
 }
 
@@ -85,6 +86,9 @@ fn the_header_has_the_same_numbers() {
         ("HULL_BAD_RULE", answer(MakeError::Rule(Form::Compact).answer())),
         ("HULL_SHORT_RESPONSE", answer(CommandError::ShortResponse.answer())),
         ("HULL_WRONG_POOL", answer(wrong_pool.answer())),
+        ("HULL_NO_SECURITY_REFUSAL", answer(Security::NoRefusal.number())),
+        ("HULL_LACKING", answer(Security::Lacking.number())),
+        ("HULL_CLOSED", answer(Security::Closed.number())),
     ] {
         let line = format!("#define {name} {value}u");
         assert!(HEADER.lines().any(|other| other == line), "{line}");

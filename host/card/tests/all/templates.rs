@@ -3,7 +3,7 @@
 
 use card::{lent, Answer, CommandError, Kind, Rule, State, Word};
 
-use crate::common::{create, fresh, fresh_of, told, with_c6};
+use crate::common::{create, done, fresh, fresh_of, told, with_c6};
 use crate::common::{noise, run, select, select_told, CREATE_DF, CREATE_EF};
 
 /// A directory that answers the longest template of its kind of card: a name
@@ -93,8 +93,7 @@ fn a_response_that_is_too_short_leaves_everything() {
                 assert_eq!(given, Err(CommandError::ShortResponse), "{length} bytes");
                 assert_eq!((&image, response), (&before, paint), "{length} bytes");
             } else {
-                let answer = Answer { word: Word::DONE, data_length: template.len() };
-                assert_eq!(given, Ok(answer), "{length} bytes");
+                assert_eq!(given, Ok(done(template.len())), "{length} bytes");
                 assert_ne!(image, before, "it is selected");
                 assert_eq!(response, [template, &paint[template.len()..]].concat());
             }
@@ -128,7 +127,7 @@ fn what_has_no_data_leaves_the_response() {
             let mut image = fresh().into_image();
             let mut response = vec![0xA5; length];
             let given = lent::command(&mut image, &mut [], &command, &mut response, &State::FULL);
-            let answer = Answer { word: Word(word), data_length: 0 };
+            let answer = Answer { word: Word(word), ..done(0) };
             assert_eq!(given, Ok(answer), "{command:02X?}");
             assert_eq!(response, vec![0xA5; length], "{command:02X?}");
         }

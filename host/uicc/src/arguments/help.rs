@@ -7,7 +7,8 @@ uicc: a test UICC's files, on the proved card
         plays a script on a fresh card, or on IMAGE, which is saved afterwards;
         - is standard input. Below a command's line stands what it answers: a
         file's template (SELECT with P2 04) in words, what READ gives in hex
-        and characters
+        and characters; and, where a rule refuses it (6982), whose rule that
+        is, what it asks for, and what of that is missing
   uicc show IMAGE
         prints the tree of files, each directory's room as a bar, and where in
         the pool the bodies lie

@@ -36,10 +36,6 @@ impl Source {
         Fresh { kind: self.kind, slots: self.card.records.len(), total: root.size, rule }
     }
 
-    pub fn kind(&self) -> Kind {
-        self.kind
-    }
-
     pub fn record(&self, slot: usize) -> &Record {
         self.card.record(slot)
     }

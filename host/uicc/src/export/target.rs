@@ -1,11 +1,11 @@
 //! The fresh card on which files are made, and the lines that make them.
 
-use card::{Card, State, Word};
+use card::{Card, Reply, State};
 use model::{bodies, Card as Decoded};
 
 use super::source::{Source, ROOT};
 use crate::arguments::Fresh;
-use crate::{describe, fcp, hex};
+use crate::{describe, fcp, hex, meaning};
 
 const CREATE: u8 = 0xE0;
 
@@ -41,12 +41,17 @@ impl<'a> Target<'a> {
     }
 
     /// Plays a command, and writes it down if it had its effect.
-    pub fn play(&mut self, command: &[u8]) -> Result<Word, String> {
+    pub fn play(&mut self, command: &[u8]) -> Result<Reply, String> {
         let reply = self.card.command(command, &State::FULL).map_err(|error| error.to_string())?;
         if reply.word.is_success() {
             self.lines += &format!("{}\n", written(command));
         }
-        Ok(reply.word)
+        Ok(reply)
+    }
+
+    /// Why the card refused a command, which is the last one.
+    pub fn refused(&self, command: &[u8], reply: &Reply) -> String {
+        meaning::refused(command, reply, &self.card, &State::FULL)
     }
 
     /// Whether commands would all succeed, one after the other.
@@ -127,7 +132,7 @@ impl<'a> Target<'a> {
     fn select(&mut self, slot: usize) -> Result<(), String> {
         let [high, low] = self.source.record(slot).identifier.to_be_bytes();
         let command = [0x00, 0xA4, 0x00, 0x0C, 0x02, high, low];
-        let word = self.play(&command)?;
+        let word = self.play(&command)?.word;
         if !word.is_success() {
             let name = describe::command(&command);
             return Err(format!("{name} is answered {word} on the fresh card"));

@@ -1,6 +1,43 @@
 //! What suffices for a right, as short as it can be said.
 
+use card::State;
+
 use super::{Condition, Sort};
+
+/// What can be authenticated, each in sixteen environments.
+#[derive(Clone, Copy, PartialEq, Eq, Debug)]
+pub enum Authentication {
+    Messaging,
+    External,
+    User,
+}
+
+impl Authentication {
+    /// Those that an SC byte names, by their bits.
+    const BY_BIT: [(u8, Authentication); 3] = [
+        (0x40, Authentication::Messaging),
+        (0x20, Authentication::External),
+        (0x10, Authentication::User),
+    ];
+
+    fn words(self) -> &'static str {
+        match self {
+            Authentication::Messaging => "secure messaging",
+            Authentication::External => "external authentication",
+            Authentication::User => "user authentication",
+        }
+    }
+
+    /// Whether it is done in an environment.
+    fn is_done(self, environment: u8, state: &State) -> bool {
+        let environments = match self {
+            Authentication::Messaging => state.messaging,
+            Authentication::External => state.external,
+            Authentication::User => state.user,
+        };
+        environments.checked_shr(u32::from(environment)).unwrap_or(0) & 1 == 1
+    }
+}
 
 /// What must be done. `Always`, `Never` and a list of one stand nowhere inside
 /// a list, nor does a list inside one of its own sort, nor a need twice.
@@ -9,7 +46,7 @@ pub enum Need {
     Always,
     Never,
     /// An authentication with its environment.
-    One(&'static str, u8),
+    One(Authentication, u8),
     Any(Vec<Need>),
     All(Vec<Need>),
 }
@@ -34,15 +71,10 @@ impl Need {
             _ if environment == 15 => return Need::Never,
             _ => {}
         }
-        let kinds = [
-            (0x40, "secure messaging"),
-            (0x20, "external authentication"),
-            (0x10, "user authentication"),
-        ];
-        let named: Vec<_> = kinds
+        let named: Vec<_> = Authentication::BY_BIT
             .into_iter()
             .filter(|(bit, _)| byte & bit != 0)
-            .map(|(_, kind)| Need::One(kind, environment))
+            .map(|(_, what)| Need::One(what, environment))
             .collect();
         match byte & 0x80 != 0 && !named.is_empty() {
             true => Need::all(named),
@@ -78,6 +110,20 @@ impl Need {
         only(list, Need::Always, Need::All)
     }
 
+    /// What is still to be done in a state: the need without what is done. No need
+    /// asks that something is missing, so this and no less opens it.
+    pub fn missing(&self, state: &State) -> Need {
+        let each = |needs: &[Need]| -> Vec<Need> {
+            needs.iter().map(|need| need.missing(state)).collect()
+        };
+        match self {
+            Need::One(what, environment) if what.is_done(*environment, state) => Need::Always,
+            Need::Always | Need::Never | Need::One(..) => self.clone(),
+            Need::Any(needs) => Need::any(each(needs)),
+            Need::All(needs) => Need::all(each(needs)),
+        }
+    }
+
     /// In words; a list in another one stands in brackets.
     pub fn words(&self) -> String {
         let bracketed = |need: &Need| match need {
@@ -89,7 +135,7 @@ impl Need {
         match self {
             Need::Always => "always".to_string(),
             Need::Never => "never".to_string(),
-            Need::One(kind, environment) => format!("{kind} {environment}"),
+            Need::One(what, environment) => format!("{} {environment}", what.words()),
             Need::Any(needs) => joined(needs, " or "),
             Need::All(needs) => joined(needs, " and "),
         }

@@ -3,7 +3,8 @@
 mod folding;
 mod malformed;
 mod meaning;
-mod random;
+pub mod random;
+pub mod reading;
 
 use super::*;
 

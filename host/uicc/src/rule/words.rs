@@ -60,6 +60,11 @@ pub fn words(rule: Rule, owner: Owner) -> Result<Vec<String>, Malformed> {
     Ok(parts.iter().map(part).collect())
 }
 
+/// What suffices for a right, a bit of an AM byte.
+pub fn needed(rule: Rule, right: u8) -> Result<Need, Malformed> {
+    Ok(need(&groups(rule)?, right))
+}
+
 /// What suffices for a right.
 fn need(groups: &[Group], right: u8) -> Need {
     let grants = groups.iter().flat_map(|group| &group.grants);

@@ -6,6 +6,7 @@ use model::{Card, Kind, Record};
 
 use crate::cards::{tree, Kept};
 use crate::folder::{Folder, Ran};
+use crate::refusals::closed;
 
 const OPEN: [u8; 8] = [0x7F, 0, 0, 0, 0, 0, 0, 0];
 /// Allows UPDATE, and nothing else.
@@ -107,8 +108,7 @@ fn what_files_hold_comes_back() {
 
 /// What is told as lost of the files below.
 fn losses() -> [String; 7] {
-    let denied = "is answered 6982, security status not satisfied: no access rule allows this";
-    let closed =
+    let asleep =
         "is answered 6985, conditions of use not satisfied: the file is not activated, or a \
                   directory above it is terminated";
     let holds = |name: &str, from: usize| {
@@ -116,14 +116,15 @@ fn losses() -> [String; 7] {
         format!("{what}: UPDATE BINARY from {from} ({} bytes)", 4 - from)
     };
     [
-        format!("{} {denied}", holds("6F01", 1)),
-        format!("{} {closed}", holds("6F02", 0)),
-        format!("{} {closed}", holds("6F03", 0)),
-        format!("{} {closed}", holds("6F04", 0)),
-        format!("{} {denied}", holds("6F05", 0)),
-        format!("{} {denied}", holds("6F06", 0)),
+        format!("{} {}", holds("6F01", 1), closed("6F01, UPDATE")),
+        format!("{} {asleep}", holds("6F02", 0)),
+        format!("{} {asleep}", holds("6F03", 0)),
+        format!("{} {asleep}", holds("6F04", 0)),
+        format!("{} {}", holds("6F05", 0), closed("6F05, UPDATE")),
+        format!("{} {}", holds("6F06", 0), closed("6F06, UPDATE")),
         format!(
-            "6F06 in 3F00 comes back activated (05), not terminated (0C): TERMINATE EF {denied}"
+            "6F06 in 3F00 comes back activated (05), not terminated (0C): TERMINATE EF {}",
+            closed("6F06, TERMINATE")
         ),
     ]
 }

@@ -4,6 +4,7 @@ use model::edition::Edition;
 use model::{Card, Kind, Record};
 
 use crate::folder::Folder;
+use crate::refusals::closed;
 
 const OPEN: [u8; 8] = [0x7F, 0, 0, 0, 0, 0, 0, 0];
 /// Allows nothing.
@@ -110,8 +111,6 @@ fn life_cycles_come_when_the_files_are_made() {
     assert!(script.contains("no command is refused, and all of the card is made again"));
 }
 
-const DENIED: &str = "is answered 6982, security status not satisfied: no access rule allows this";
-
 /// A card with each thing that cannot be made again.
 fn much_to_lose() -> Vec<u8> {
     let mut root = directory(0x3F00, 0x07, &OPEN);
@@ -144,15 +143,18 @@ fn what_is_lost_is_told() {
     let wanted = [
         "7F01 in 3F00 comes back deactivated (04), not deactivated (06): no command writes 06",
         &format!(
-            "6F02 in 7F02 comes back activated (05), not terminated (0C): TERMINATE EF {DENIED}"
+            "6F02 in 7F02 comes back activated (05), not terminated (0C): TERMINATE EF {}",
+            closed("6F02, TERMINATE")
         ),
         &format!(
-            "7F02 in 3F00 comes back activated (05), not deactivated (04): DEACTIVATE FILE {DENIED}"
+            "7F02 in 3F00 comes back activated (05), not deactivated (04): DEACTIVATE FILE {}",
+            closed("7F02, DEACTIVATE")
         ),
-        &format!("6F03 in 7F03 does not come back: CREATE FILE {DENIED}"),
-        &format!("7F04 in 7F03 does not come back: CREATE FILE {DENIED}"),
+        &format!("6F03 in 7F03 does not come back: CREATE FILE 6F03 {}", closed("7F03, CREATE EF")),
+        &format!("7F04 in 7F03 does not come back: CREATE FILE 7F04 {}", closed("7F03, CREATE DF")),
         &format!(
-            "7F05 in 3F00 comes back activated (05), not terminated (0C): TERMINATE DF {DENIED}"
+            "7F05 in 3F00 comes back activated (05), not terminated (0C): TERMINATE DF {}",
+            closed("7F05, TERMINATE")
         ),
         "the descriptor 78 of 3F00 does not come back: uicc new gives another",
         "the name A001 of 3F00 does not come back: uicc new gives none",
@@ -177,7 +179,8 @@ fn an_empty_root_can_lose_its_life_cycle() {
     folder.write("card", card(&[directory(0x3F00, 0x04, &CLOSED)]));
     let ran = folder.uicc(&["export", "card"]);
     let told = "3F00 comes back activated (05), not deactivated (04): DEACTIVATE FILE";
-    assert_eq!((ran.status, ran.err), (4, format!("uicc: card: lost: {told} {DENIED}\n")));
+    let denied = closed("3F00, DEACTIVATE");
+    assert_eq!((ran.status, ran.err), (4, format!("uicc: card: lost: {told} {denied}\n")));
 }
 
 /// A root that lets no file be made, with a tree beneath a directory.
@@ -192,8 +195,9 @@ fn a_directory_that_is_not_made_takes_its_files_along() {
     ];
     folder.write("card", card(&files));
     let ran = folder.uicc(&["export", "card"]);
-    let told = "lost: 7F01 in 3F00 does not come back, nor the file beneath it: CREATE FILE";
-    assert_eq!((ran.status, ran.err), (4, format!("uicc: card: {told} {DENIED}\n")));
+    let told = "lost: 7F01 in 3F00 does not come back, nor the file beneath it: CREATE FILE 7F01";
+    let denied = closed("3F00, CREATE DF");
+    assert_eq!((ran.status, ran.err), (4, format!("uicc: card: {told} {denied}\n")));
     assert!(ran.out.contains("made again:\n# one line below begins with LOST.\n"), "{}", ran.out);
     let commands = parts(&ran.out).0;
     let wanted = [

@@ -14,6 +14,7 @@ mod killed;
 mod lengths;
 mod making_again;
 mod reading;
+mod refusals;
 mod rules;
 mod saving;
 mod scripts;

@@ -182,11 +182,16 @@ fn refusals_are_told_with_the_cards_word() {
     );
     let ran = folder.fed(&["run", "-", "--image", "card"], &files);
     assert_eq!(ran.out.matches("9000").count(), 2, "{}", ran.out);
-    let denied = "is answered 6982, security status not satisfied: no access rule allows this";
+    let denied = "is answered 6982, security status not satisfied: \
+                  lacking, more authentication opens it; rule of 6F01";
     let err = folder.refused(1, &["read", "card", "6F01", "--user", "0000"]);
-    assert!(err.contains(&format!("6F01: READ BINARY from 0 {denied}")), "{err}");
+    let read = format!("6F01: READ BINARY from 0 {denied}, READ: user authentication 1\n");
+    assert!(err.ends_with(&read), "{err}");
     folder.done(&["read", "card", "6F01", "--user", "0002", "--external", "0000"]);
-    let update = format!("6F01: UPDATE BINARY from 0 (3 bytes) {denied} (at byte 0 of the input)");
+    let update = format!(
+        "6F01: UPDATE BINARY from 0 (3 bytes) {denied}, UPDATE: external authentication 1 (at byte \
+         0 of the input)"
+    );
     not_written(&folder, &["6F01", "input", "--external", "FFFD"], &update);
     folder.done(&["write", "card", "6F01", "input", "--external", "0002", "--user", "0000"]);
     let life = "6985, conditions of use not satisfied: the file is not activated";
