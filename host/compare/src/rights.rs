@@ -6,6 +6,7 @@
 use model::edition::{Edition, Version};
 use model::lines::Case as Line;
 use model::rule::Right;
+use model::words::{is_success, SECURITY_NOT_SATISFIED};
 use model::{bodies, rule, Card, Kind, Record, State};
 
 use cases::actions::{bare, delete};
@@ -13,9 +14,11 @@ use cases::template::FileData;
 use cases::Rule;
 
 use crate::outcome::{run, Outcome};
-use crate::subject::Subject;
+use crate::subject::{Subject, Told};
 
 const CHILD: u16 = 0x6F07;
+/// What no vector has: the subject's word and number are no decision.
+const UNDECIDED: char = '?';
 /// READ and UPDATE of the one byte of the child.
 const READ: &[u8] = &[0x00, 0xB0, 0x00, 0x00, 0x01];
 const UPDATE: &[u8] = &[0x00, 0xD6, 0x00, 0x00, 0x01, 0x5A];
@@ -67,17 +70,23 @@ fn decided(subject: &dyn Subject, form: u32, rule: &[u8], state: State) -> Optio
     let rule = Rule { form, bytes: rule.to_vec() };
     let digits = Right::ALL.map(|right| {
         let line = line_of_right(Edition::of(version), right, &rule, state);
-        let granted = matches!(
-            run(subject, &line),
-            Some(Outcome::Command { told, .. }) if model::words::is_success(told.word)
-        );
-        if granted {
-            '0'
-        } else {
-            '1'
+        match run(subject, &line) {
+            Some(Outcome::Command { told, .. }) => digit(told),
+            _ => UNDECIDED,
         }
     });
     Some(format!("E {}", String::from_iter(digits)))
+}
+
+/// The decision that a command's result tells: word and number together.
+fn digit(told: Told) -> char {
+    let Told { word, numbers: [_, security, _], .. } = told;
+    match (is_success(word), word, security) {
+        (true, _, 0) => '0',
+        (_, SECURITY_NOT_SATISFIED, 1) => '1',
+        (_, SECURITY_NOT_SATISFIED, 2) => '2',
+        _ => UNDECIDED,
+    }
 }
 
 /// Whether a subject's maker takes the rule for the root.
@@ -118,6 +127,8 @@ fn line_of_body(edition: Edition, command: &[u8], rule: &Rule, state: State) -> 
     Line::command(&card.encode(), &pool_of(&card), command, &[0x00], state)
 }
 
+/// A rule without a right: it is closed to all, so that beside it the other rule
+/// of DELETE decides, be it lacking or closed.
 fn denying() -> Rule {
     Rule::compact(vec![0x00])
 }

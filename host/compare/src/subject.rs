@@ -10,8 +10,9 @@ pub struct Told {
     pub answer: u32,
     /// The word; 0000 with any answer but 0.
     pub word: u16,
-    /// How many bytes of data stand in the response buffer, and two numbers
-    /// of later tickets, which are 0.
+    /// How many bytes of data stand in the response buffer; what a security
+    /// refusal lacks (02, Ticket 6): 0 there is none, 1 lacking, 2 closed; and a
+    /// number of a later ticket, which is 0.
     pub numbers: [u32; 3],
 }
 
@@ -129,7 +130,8 @@ impl Subject for Model {
     ) -> Told {
         let outcome = model::command(image, pool, command, response, state);
         let data = u32::try_from(outcome.data).unwrap_or(u32::MAX);
-        Told { answer: outcome.answer.into(), word: outcome.word, numbers: [data, 0, 0] }
+        let numbers = [data, outcome.security.into(), 0];
+        Told { answer: outcome.answer.into(), word: outcome.word, numbers }
     }
 
     fn report(&self, image: &[u8]) -> (u32, [u32; 4]) {

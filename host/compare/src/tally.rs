@@ -18,6 +18,10 @@ pub struct Tally {
     pub commands: u64,
     /// Commands that had their effect.
     pub effects: u64,
+    /// Commands that a rule refused and some security state would open.
+    pub lacking: u64,
+    /// Commands that a rule refused for good.
+    pub closed: u64,
     /// Reports, each with a call for soundness.
     pub reports: u64,
     /// Runs of replay.
@@ -43,6 +47,8 @@ impl Tally {
             Outcome::Make { .. } => self.makes += 1,
             Outcome::Command { told, image, .. } => {
                 self.commands += 1;
+                self.lacking += u64::from(told.numbers[1] == 1);
+                self.closed += u64::from(told.numbers[1] == 2);
                 if let (Line::Command { image: came, command, .. }, true) =
                     (line, is_success(told.word))
                 {
@@ -74,6 +80,8 @@ impl std::ops::AddAssign for Tally {
         self.makes += other.makes;
         self.commands += other.commands;
         self.effects += other.effects;
+        self.lacking += other.lacking;
+        self.closed += other.closed;
         self.reports += other.reports;
         self.replays += other.replays;
         self.ledger_steps += other.ledger_steps;
@@ -87,14 +95,14 @@ impl std::ops::AddAssign for Tally {
 
 impl fmt::Display for Tally {
     fn fmt(&self, f: &mut fmt::Formatter<'_>) -> fmt::Result {
-        let Tally { cases, makes, commands, effects, reports, replays, .. } = self;
+        let Tally { cases, makes, commands, effects, lacking, closed, reports, replays, .. } = self;
         let Tally { ledger_steps, templates, reads, updates, packings, made_again, .. } = self;
         write!(
             f,
-            "{cases} cases, {commands} commands ({effects} with effect, {ledger_steps} beside \
-             the ledger, {templates} with a template, {reads} READ, {updates} UPDATE, {packings} \
-             that moved bodies), {made_again} files made again, {makes} makes, {reports} reports, \
-             {replays} replays"
+            "{cases} cases, {commands} commands ({effects} with effect, {lacking} lacking, {closed} \
+             closed, {ledger_steps} beside the ledger, {templates} with a template, {reads} READ, \
+             {updates} UPDATE, {packings} that moved bodies), {made_again} files made again, \
+             {makes} makes, {reports} reports, {replays} replays"
         )
     }
 }

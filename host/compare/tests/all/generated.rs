@@ -37,14 +37,16 @@ fn tally_of(told: &str) -> Tally {
     let number = |part: &str| part.parse().ok();
     let numbers: Vec<u64> =
         counts.split(|c: char| !c.is_ascii_digit()).filter_map(number).collect();
-    let Ok(numbers) = <[u64; 12]>::try_from(numbers) else { panic!("not a tally: {counts}") };
-    let [cases, commands, effects, ledger_steps, templates, reads, updates, packings, ..] = numbers;
-    let [.., made_again, makes, reports, replays] = numbers;
+    let Ok(numbers) = <[u64; 14]>::try_from(numbers) else { panic!("not a tally: {counts}") };
+    let [cases, commands, effects, lacking, closed, ledger_steps, templates, ..] = numbers;
+    let [.., reads, updates, packings, made_again, makes, reports, replays] = numbers;
     Tally {
         cases,
         makes,
         commands,
         effects,
+        lacking,
+        closed,
         reports,
         replays,
         ledger_steps,
@@ -71,8 +73,10 @@ fn a_tally_is_read_as_it_is_told() {
         updates: 10,
         packings: 11,
         made_again: 12,
+        lacking: 13,
+        closed: 14,
     };
-    assert_eq!(tally_of(&format!("seed 13: all agree in 14.0 s: {tally}\n")), tally);
+    assert_eq!(tally_of(&format!("seed 15: all agree in 16.0 s: {tally}\n")), tally);
 }
 
 #[test]
@@ -100,6 +104,7 @@ fn two_hundred_thousand_commands_agree() {
     assert!(tally.commands >= 200_000, "{tally}");
     assert!(tally.effects * 3 > tally.commands, "too few commands had an effect: {tally}");
     assert!(tally.ledger_steps * 5 > tally.commands * 2, "too few beside the ledger: {tally}");
+    assert!(tally.lacking > 5_000 && tally.closed > 20_000, "too few of a sort denied: {tally}");
     assert!(tally.templates > 10_000 && tally.made_again > 4_000, "{tally}");
     assert!(tally.reads > 1_000 && tally.updates > 1_000 && tally.packings > 200, "{tally}");
     let others = [tally.makes, tally.reports, tally.replays];

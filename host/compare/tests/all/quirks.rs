@@ -1,13 +1,15 @@
 //! A reader of expanded rules (02, Ticket 3) that can be made to get one thing
-//! wrong, and cards that read their rules by it.
+//! wrong, and cards that read their rules by it. A decision is one of three
+//! (Ticket 6), here too.
 
 use crate::impostor::{Came, Left, Object};
 use cases::template::{create_command, template};
 use compare::Told;
 use model::edition::{Edition, Version};
 use model::rule::{Condition, Form, Group, Right};
+use model::security::condition;
 use model::soundness::sound_card;
-use model::{compact, objects, Card, Record, State};
+use model::{compact, objects, Card, Decision, Record, State};
 
 /// What is taken for a well-formed rule, and how it decides.
 #[derive(Clone, Copy)]
@@ -112,14 +114,13 @@ impl Quirks {
         }
     }
 
-    /// Whether a condition holds.
-    fn holds(&self, condition: &Condition, state: &State) -> bool {
-        let one = |inside: &[Condition]| inside.iter().any(|c| self.holds(c, state));
-        let all = |inside: &[Condition]| inside.iter().all(|c| self.holds(c, state));
+    /// What a condition decides.
+    fn judge(&self, condition: &Condition, state: &State) -> Decision {
+        let one = |inside: &[Condition]| one_of(inside.iter().map(|c| self.judge(c, state)));
+        let all = |inside: &[Condition]| all_of(inside.iter().map(|c| self.judge(c, state)));
         match condition {
-            Condition::Always => true,
-            Condition::Never => self.never_holds,
-            Condition::Byte(_) => condition.decide(state).is_granted(),
+            Condition::Never if self.never_holds => Decision::Granted,
+            Condition::Always | Condition::Never | Condition::Byte(_) => condition.decide(state),
             Condition::OneOf(inside) if self.one_as_all => all(inside),
             Condition::OneOf(inside) => one(inside),
             Condition::AllOf(inside) if self.all_as_one => one(inside),
@@ -127,19 +128,19 @@ impl Quirks {
         }
     }
 
-    /// Whether the rule grants a right.
-    pub fn decides(&self, rule: &[u8], right: Right, state: &State) -> bool {
+    /// What the rule decides on a right.
+    pub fn decides(&self, rule: &[u8], right: Right, state: &State) -> Decision {
         let groups = self.groups(rule).unwrap_or_default();
         let named = groups.iter().filter(|group| group.rights & right.bit() != 0);
-        let mut granted = named.take(if self.first_group { 1 } else { usize::MAX }).map(|group| {
-            let mut held = group.conditions.iter().map(|c| self.holds(c, state));
+        let counting = named.take(if self.first_group { 1 } else { usize::MAX });
+        one_of(counting.map(|group| {
+            let row = group.conditions.iter().map(|c| self.judge(c, state));
             if self.all_of_a_row {
-                held.all(|held| held)
+                all_of(row)
             } else {
-                held.any(|held| held)
+                one_of(row)
             }
-        });
-        granted.any(|granted| granted)
+        }))
     }
 }
 
@@ -171,6 +172,35 @@ pub fn lenient(came: &Came, left: &mut Left, told: Told, quirks: &Quirks) -> Tol
     taken().map_or(told, |given| left.replace(&given))
 }
 
+/// What opens if one of these does; nothing opens what is none.
+fn one_of(all: impl Iterator<Item = Decision>) -> Decision {
+    all.fold(Decision::Closed, |so_far, one| match (so_far, one) {
+        (Decision::Granted, _) | (_, Decision::Granted) => Decision::Granted,
+        (Decision::Lacking, _) | (_, Decision::Lacking) => Decision::Lacking,
+        _ => Decision::Closed,
+    })
+}
+
+/// What opens if each of these does.
+fn all_of(all: impl Iterator<Item = Decision>) -> Decision {
+    all.fold(Decision::Granted, |so_far, one| match (so_far, one) {
+        (Decision::Closed, _) | (_, Decision::Closed) => Decision::Closed,
+        (Decision::Lacking, _) | (_, Decision::Lacking) => Decision::Lacking,
+        _ => Decision::Granted,
+    })
+}
+
+/// An SC byte that decides so under a state.
+fn byte_for(decision: Decision, state: &State) -> u8 {
+    match decision {
+        Decision::Granted => 0x00,
+        Decision::Closed => 0xFF,
+        Decision::Lacking => (0x10..=0x7F)
+            .find(|&sc| condition(sc, state) == Decision::Lacking)
+            .expect("a rule that lacks something names what this state has not"),
+    }
+}
+
 /// A card on which the expanded rules decide by these quirks.
 pub fn deciding(came: &Came, left: &mut Left, told: Told, quirks: &Quirks) -> Told {
     let Some(card) = sound_card(came.image).filter(|_| came.command.get(1) != Some(&0xA4)) else {
@@ -178,8 +208,8 @@ pub fn deciding(came: &Came, left: &mut Left, told: Told, quirks: &Quirks) -> To
     };
     let mut read = card.clone();
     read.records.iter_mut().filter(|record| is_expanded(record)).for_each(|record| {
-        let granted = |right| quirks.decides(&record.rule, right, came.state);
-        let bytes = Right::ALL.map(|right| if granted(right) { 0x00 } else { 0xFF });
+        let decided = |right| quirks.decides(&record.rule, right, came.state);
+        let bytes = Right::ALL.map(|right| byte_for(decided(right), came.state));
         (record.form, record.rule) = (Form::Compact, [&[0x7F][..], &bytes].concat());
         assert!(compact::groups(&record.rule).is_some());
     });

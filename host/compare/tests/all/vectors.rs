@@ -97,7 +97,8 @@ fn a_wrong_rule_fails_the_vectors() {
     let only = |kind: char| -> String {
         case_lines(&text).filter(|line| line.starts_with(kind)).map(|l| format!("{l}\n")).collect()
     };
-    let denying = Impostor { command: |_, _, _| word(0x6982), ..HONEST };
+    let denying =
+        Impostor { command: |_, _, _| Told { numbers: [0, 2, 0], ..word(0x6982) }, ..HONEST };
     let forgetful = Maker(|version, _| (version, 0));
     let cases: [(&dyn Subject, char); 3] = [(&denying, 'E'), (&forgetful, 'E'), (&forgetful, 'W')];
     for (subject, kind) in cases {

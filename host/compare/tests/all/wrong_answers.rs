@@ -97,7 +97,7 @@ const ANSWERS: [(&str, Spoil); 16] = [
         _ => told,
     }),
     ("has a number of a later ticket", |_, _, told| match told.word {
-        0x6982 => Told { numbers: [0, 1, 0], ..told },
+        0x6982 => Told { numbers: [0, told.numbers[1], 1], ..told },
         _ => told,
     }),
     ("takes 04 without Le", |came, _, told| match came.command {
@@ -128,7 +128,7 @@ fn every_wrong_answer_is_found() {
 }
 
 /// What demand 1 forbids, each with what is complained of.
-const BROKEN: [(&str, Spoil); 9] = [
+const BROKEN: [(&str, Spoil); 13] = [
     ("the image was changed", |_, left, told| {
         if let (0x6A82, Some(byte)) = (told.word, left.image.last_mut()) {
             *byte ^= 1;
@@ -156,7 +156,23 @@ const BROKEN: [(&str, Spoil); 9] = [
         _ => told,
     }),
     ("a number of a later ticket", |_, _, told| match told.word {
-        0x6982 => Told { numbers: [0, 0, 1], ..told },
+        0x6982 => Told { numbers: [0, told.numbers[1], 1], ..told },
+        _ => told,
+    }),
+    ("6982 is told neither lacking nor closed", |_, _, told| match told.numbers {
+        [0, 2, 0] => Told { numbers: [0; 3], ..told },
+        _ => told,
+    }),
+    ("6982 is told neither", |_, _, told| match told.numbers {
+        [0, 1, 0] => Told { numbers: [0, 3, 0], ..told },
+        _ => told,
+    }),
+    ("told of no security refusal", |_, _, told| match told.word {
+        0x6985 => Told { numbers: [0, 1, 0], ..told },
+        _ => told,
+    }),
+    ("lacking or closed is told of no security refusal", |_, _, told| match told.answer {
+        5 => Told { numbers: [0, 2, 0], ..told },
         _ => told,
     }),
     ("data came without an effect", |came, _, told| match told.word {

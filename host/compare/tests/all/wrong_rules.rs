@@ -153,8 +153,8 @@ fn without_a_quirk_nothing_is_wrong() {
             assert_eq!(RIGHT.fits(version, &bytes), fit, "{version:?} {form:?} {bytes:02X?}");
         }
         for right in Right::ALL {
-            let granted = model::rule::decide(Form::Expanded, &bytes, right, &state).is_granted();
-            assert_eq!(RIGHT.decides(&bytes, right, &state), granted, "{bytes:02X?}");
+            let decided = model::rule::decide(Form::Expanded, &bytes, right, &state);
+            assert_eq!(RIGHT.decides(&bytes, right, &state), decided, "{bytes:02X?}");
         }
     }
     let spoils: [Spoil; 3] = [
@@ -165,7 +165,8 @@ fn without_a_quirk_nothing_is_wrong() {
     for command in spoils {
         let honest = Impostor { command, ..HONEST };
         let pair = Pair { card: &honest, model: &Model };
-        for kind in [Kind::Template, Kind::SoundCommand, Kind::DamagedCommand] {
+        let kinds = [Kind::Template, Kind::SoundCommand, Kind::DamagedCommand, Kind::Security];
+        for kind in kinds {
             assert_eq!(found(pair, Some(kind)), None);
         }
     }

@@ -13,7 +13,7 @@ use model::soundness::sound_card;
 use model::template::{self, NewFile};
 use model::vectors::case_lines;
 use model::words::SUCCESS;
-use model::Card;
+use model::{Card, Decision};
 
 /// Wrong templates, each of which a CREATE refuses or makes another file of.
 const TEMPLATES: [(&str, Spoil); 8] = [
@@ -138,15 +138,16 @@ const STRICT: [(&str, Spoil); 4] = [
         }
     }),
     ("both rights are asked for", |came, left, told| {
-        let denied = creation(came, told).is_some_and(|(card, _)| {
+        let decided = creation(came, told).map_or(Decision::Granted, |(card, _)| {
             let directory = card.record(card.current_df);
-            let granted = |right| directory.grants(right, came.state);
-            !(granted(Right::CreateDf) && granted(Right::CreateEf))
+            let both = [Right::CreateDf, Right::CreateEf];
+            Decision::of_all_together(both.map(|right| directory.decide(right, came.state)))
         });
-        if denied {
-            refused(came, left, 0x6982)
-        } else {
-            told
+        match decided {
+            Decision::Granted => told,
+            denied => {
+                Told { numbers: [0, denied.number().into(), 0], ..refused(came, left, 0x6982) }
+            }
         }
     }),
 ];
