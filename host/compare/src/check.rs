@@ -12,13 +12,15 @@ use crate::demand1;
 use crate::demand3::{word_fits, Given, WATCHED};
 use crate::disagreement::Disagreement;
 use crate::ledger::{heard, Ledger as Stated};
+use crate::opened;
 use crate::outcome::{run, Outcome};
 use crate::rights::lines_of_rule;
 use crate::subject::Pair;
 use crate::tally::Tally;
 
-/// Compares card and model on one line, and what both give with demand 1; gives what both give, or
-/// nothing where the card has no call for the line.
+/// Compares card and model on one line, what both give with demand 1, and what the
+/// card refuses for security with what it does under full sets; gives what both
+/// give, or nothing where the card has no call for the line.
 pub fn check_line(
     pair: Pair,
     line: &Line,
@@ -34,6 +36,9 @@ pub fn check_line(
     if let Some(complaint) = demand1::complaint(line, &given) {
         let (line, given) = (line.clone().into(), given.into());
         return Err(Disagreement::Demand1 { line, given, complaint });
+    }
+    if let Some(complaint) = opened::complaint(pair.card, line, &given) {
+        return Err(Disagreement::Opened { line: line.clone().into(), complaint });
     }
     tally.count(line, &given);
     Ok(Some(given))

@@ -36,6 +36,14 @@ pub enum Disagreement {
         /// What demand 1 has against it.
         complaint: String,
     },
+    /// Card and model agree, and what the card does under full sets does not make
+    /// the refusal lacking, or closed.
+    Opened {
+        /// The line.
+        line: Box<Line>,
+        /// What it does.
+        complaint: String,
+    },
     /// Card and model agree, and a file's template does not make it again.
     Again {
         /// The card that holds the file.
@@ -66,6 +74,9 @@ impl fmt::Display for Disagreement {
             }
             Disagreement::Demand1 { line, given, complaint } => {
                 write!(f, "{}\n# both give {given}\n# against demand 1: {complaint}", line.line())
+            }
+            Disagreement::Opened { line, complaint } => {
+                write!(f, "{}\n# told of the refusal: {complaint}", line.line())
             }
             Disagreement::Again { lines, complaint, .. } => {
                 writeln!(f, "# a file is not made again: {complaint}; the calls:")?;

@@ -1,8 +1,8 @@
 //! The proved card against the model (01: "Other cases are run by program and
 //! compared with an independent one"): answer, word, numbers and every byte
-//! of image, pool and response buffer, what demand 1 says of them, demand 3's
-//! two ledgers and what the files hold beside every history, and files made
-//! again by their templates.
+//! of image, pool and response buffer, what demand 1 says of them, what full
+//! sets open of what was refused, demand 3's two ledgers and what the files hold
+//! beside every history, and files made again by their templates.
 //!
 //! A disagreement is shrunk to the smallest case that still shows it, and
 //! told as a line of the vectors, which the program `compare` runs again.
@@ -14,6 +14,7 @@
 //! | a case, line by line, with the ledger | [`check`] |
 //! | how much was compared, what disagrees | [`tally`], [`disagreement`] |
 //! | what demand 1 says of a command | [`demand1`] |
+//! | what lacking and closed mean, by full sets | [`opened`] |
 //! | demand 3's ledger, and what is said of a command with it | [`ledger`], [`demand3`] |
 //! | what the files of a history hold | [`contents`] |
 //! | files made again by their templates | [`again`] |
@@ -32,6 +33,7 @@ pub mod demand3;
 pub mod disagreement;
 pub mod laid;
 pub mod ledger;
+pub mod opened;
 pub mod outcome;
 pub mod pieces;
 pub mod rights;

@@ -19,7 +19,9 @@ const EACH_TRY: usize = 1000;
 /// The smallest disagreement found from this one on.
 pub fn smallest(pair: Pair, found: Disagreement) -> Disagreement {
     match found {
-        Disagreement::Line { line, .. } | Disagreement::Demand1 { line, .. } => {
+        Disagreement::Line { line, .. }
+        | Disagreement::Demand1 { line, .. }
+        | Disagreement::Opened { line, .. } => {
             let shows = |line: &Line| check_line(pair, line, &mut Tally::default()).is_err();
             let line = smallest_line(*line, &shows);
             match check_line(pair, &line, &mut Tally::default()) {
@@ -68,7 +70,9 @@ fn smallest_again(pair: Pair, whole: &Again) -> Option<Disagreement> {
 /// A disagreement that shows in one line is made smaller as that.
 fn smaller_of_another_sort(pair: Pair, found: Disagreement) -> Disagreement {
     match found {
-        Disagreement::Line { .. } | Disagreement::Demand1 { .. } => smallest(pair, found),
+        Disagreement::Line { .. } | Disagreement::Demand1 { .. } | Disagreement::Opened { .. } => {
+            smallest(pair, found)
+        }
         _ => found,
     }
 }

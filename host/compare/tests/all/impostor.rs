@@ -166,9 +166,13 @@ fn found_among(count: usize, pair: Pair, kind: Option<Kind>) -> Option<Disagreem
 /// The line that shows an impostor with this title. What is told of it can be
 /// read again.
 pub fn found_line(title: &str, impostor: &Impostor, kind: Option<Kind>) -> Line {
+    found_line_among(MOST_CASES, title, impostor, kind)
+}
+
+fn found_line_among(count: usize, title: &str, impostor: &Impostor, kind: Option<Kind>) -> Line {
     let pair = Pair { card: impostor, model: &Model };
-    let found = found_among(MOST_CASES, pair, kind);
-    let found = found.unwrap_or_else(|| panic!("not found: {title}, {kind:?}"));
+    let found = found_among(count, pair, kind);
+    let found = found.unwrap_or_else(|| panic!("not found in {count}: {title}, {kind:?}"));
     let told = found.to_string();
     let again: Vec<_> = case_lines(&told).map(Line::parse).collect();
     match found {
@@ -182,7 +186,12 @@ pub fn found_line(title: &str, impostor: &Impostor, kind: Option<Kind>) -> Line 
 
 /// A wrong command is found among all kinds of cases, and told on a small card.
 pub fn found_small(title: &str, command: Spoil) {
-    let line = found_line(title, &Impostor { command, ..HONEST }, None);
+    found_small_within(MOST_CASES, title, command);
+}
+
+/// The same within the first so many cases.
+pub fn found_small_within(count: usize, title: &str, command: Spoil) {
+    let line = found_line_among(count, title, &Impostor { command, ..HONEST }, None);
     let small = match &line {
         Line::Command { response, image, .. } => image.len() <= 272 && response.len() <= 72,
         Line::Replay { input } => input.len() < 40,

@@ -6,6 +6,7 @@ mod again;
 mod generated;
 mod impostor;
 mod impostors;
+mod judge;
 mod large;
 mod ledger;
 mod places;
@@ -18,6 +19,7 @@ mod wrong_bodies;
 mod wrong_places;
 mod wrong_pools;
 mod wrong_rules;
+mod wrong_security;
 mod wrong_templates;
 
 /// Prints a line past the capture of the test harness.

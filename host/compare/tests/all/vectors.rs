@@ -4,6 +4,7 @@
 use std::collections::BTreeMap;
 
 use crate::impostor::{word, Impostor, Maker, HONEST};
+use crate::judge::numbered;
 use crate::say;
 use compare::vectors::check_vectors;
 use compare::{Proved, Subject, Told};
@@ -90,7 +91,8 @@ fn a_wrong_card_fails_the_vectors() {
     assert!(wrong.starts_with("R "), "{wrong}");
 }
 
-/// E and W are asked by other calls, and a wrong answer to those shows.
+/// E and W are asked by other calls, and a wrong answer to those shows; so does a
+/// wrong number.
 #[test]
 fn a_wrong_rule_fails_the_vectors() {
     let text = stored_text().expect("the stored cases are there");
@@ -99,8 +101,24 @@ fn a_wrong_rule_fails_the_vectors() {
     };
     let denying =
         Impostor { command: |_, _, _| Told { numbers: [0, 2, 0], ..word(0x6982) }, ..HONEST };
+    // Lacking and closed exchanged, and neither told.
+    let exchanging = Impostor {
+        command: |_, _, told| match told.numbers[1] {
+            0 => told,
+            number => numbered(told, 3 - number),
+        },
+        ..HONEST
+    };
+    let silent = Impostor { command: |_, _, told| numbered(told, 0), ..HONEST };
     let forgetful = Maker(|version, _| (version, 0));
-    let cases: [(&dyn Subject, char); 3] = [(&denying, 'E'), (&forgetful, 'E'), (&forgetful, 'W')];
+    let cases: [(&dyn Subject, char); 6] = [
+        (&denying, 'E'),
+        (&forgetful, 'E'),
+        (&forgetful, 'W'),
+        (&exchanging, 'C'),
+        (&exchanging, 'E'),
+        (&silent, 'E'),
+    ];
     for (subject, kind) in cases {
         let wrong = check_vectors(subject, &only(kind)).expect_err("a rule is wrong");
         assert!(wrong.starts_with(kind), "{wrong}");
