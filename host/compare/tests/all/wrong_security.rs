@@ -8,7 +8,7 @@ use crate::impostor::{
 };
 use crate::judge::{numbered, telling, Judge, RIGHT};
 use cases::Kind;
-use compare::{Disagreement, Model, Pair, Told};
+use compare::{opened, run, Disagreement, Model, Pair, Told};
 use model::lines::Case as Line;
 use model::rule::Condition;
 use model::vectors::case_lines;
@@ -240,6 +240,27 @@ fn full_sets_find_what_both_sides_tell_wrongly() {
         assert_eq!(again, [Some(*line)], "{title}: {told}");
         assert!(told.len() < 2500, "{title}: {told}");
     }
+}
+
+/// What is closed is told so under full sets too.
+#[test]
+fn a_rule_that_is_closed_under_one_state_alone_is_found() {
+    let wavering = Impostor {
+        command: |came, _, told| match *came.state == State::FULL && told.word == 0x6982 {
+            true => numbered(told, 1),
+            false => told,
+        },
+        ..HONEST
+    };
+    let mut image = vec![0; 16 + 64 * 2];
+    assert_eq!(model::make(&mut image, 1, 64, 0, &[0x00]), 0);
+    let line = Line::command(&image, &[], &[0x00, 0x04, 0x00, 0x00], &[], State::EMPTY);
+    let complaint = |card: &Impostor| {
+        let given = run(card, &line).expect("a command has a call");
+        opened::complaint(card, &line, &given)
+    };
+    assert_eq!(complaint(&wavering).as_deref(), Some("closed, and under full sets it is not"));
+    assert_eq!(complaint(&HONEST), None);
 }
 
 /// And demand 1 finds these.
