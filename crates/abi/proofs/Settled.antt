@@ -22,7 +22,7 @@ each-settles = record {
 
 -- a reply's number, where its answer is 0
 word-only : (r : Reply) → answerNumber r ≡ 0 → packed r ≡ answerWord r
-word-only (Word w n) e = omega arith
+word-only (Word w n d) e = omega arith
 word-only Damaged e = absurd (omega arith)
 word-only Short e = absurd (omega arith)
 word-only WrongPool e = absurd (omega arith)

@@ -5,7 +5,7 @@ use mathlib.Core.List.{List, [], _∷_}
 use Rattle.maker.specs.declared.Edition.{Edition}
 use Rattle.verdict.specs.declared.State.{State}
 use Rattle.card.specs.declared.Reply.{Reply}
-use Rattle.card.specs.Command.{answerNumber, answerWord, answerTold}
+use Rattle.card.specs.Command.{answerNumber, answerWord, answerTold, answerSecurity}
 
 -- the kind of card: its version
 abbrev pub editionOf : ℕ → Edition
@@ -22,7 +22,7 @@ stateOf m e u ch = record {
 abbrev pub packed : Reply → ℕ
 packed r = answerNumber r * 65536 + answerWord r
 
--- what a command tells beside its word: how many bytes of data; two entries are kept for what a security refusal lacks and for the bytes
--- moved (02 Tickets 6 and 8), and are 0
+-- what a command tells beside its word: how many bytes of data, and what a security refusal lacks (02 Ticket 6); one entry is kept for the
+-- bytes moved (02 Ticket 8), and is 0
 abbrev pub toldNumbers : Reply → List ℕ
-toldNumbers r = answerTold r ∷ 0 ∷ 0 ∷ []
+toldNumbers r = answerTold r ∷ answerSecurity r ∷ 0 ∷ []

@@ -12,7 +12,7 @@ use Rattle.maker.specs.Making.{madeNumber, madeOf, leftBy}
 use Rattle.maker.specs.Reporting.{reportedNumber, numbersOf, reportedOf}
 use Rattle.verdict.specs.declared.State.{State}
 use Rattle.card.specs.declared.Reply.the-variants.{Short, WrongPool}
-use Rattle.card.specs.Command.{answerNumber, answerWord, answerTold, replyOf, imageOf, poolOf, responseOf}
+use Rattle.card.specs.Command.{answerNumber, answerWord, answerTold, answerSecurity, replyOf, imageOf, poolOf, responseOf}
 use Rattle.abi.specs.Numbers.{packed, toldNumbers}
 
 abbrev pub HullMake : List ℕ → Edition → ℕ → ℕ → List ℕ → ℕ → List ℕ → Type 0
@@ -44,8 +44,9 @@ pub record EachSettles : Type 0 where
   pub sound : (img : List ℕ) → Settles ℕ (HullSound img)
 
 -- the numbers that C sees (`hull-numbers`): a command on a damaged image gives 65536, one whose data don't fit 327680, one with a pool of a
--- wrong length 393216, each with three zeros, any other its word and how many bytes were told; hull_sound gives 1 for a sound image and 0
--- for any other. Those of hull_make and hull_report are the maker's and the report's (maker/specs, `MakerAnswers`, `ReportAnswers`)
+-- wrong length 393216, each with three zeros, any other its word, how many bytes were told, and 1 or 2 with 6982 or 0 with another word
+-- (card/specs/Security, `NumberExactly`); hull_sound gives 1 for a sound image and 0 for any other. Those of hull_make and hull_report are
+-- the maker's and the report's (maker/specs, `MakerAnswers`, `ReportAnswers`)
 pub record HullNumbers : Type 0 where
   pub damaged : (img pool c : List ℕ) (st : State) (response : List ℕ) (r : ℕ) (left kept answered numbers : List ℕ)
       → HullCommand img pool c st response r left kept answered numbers → soundb img ≡ false
@@ -59,6 +60,6 @@ pub record HullNumbers : Type 0 where
   pub word : (img pool c : List ℕ) (st : State) (response : List ℕ) (r : ℕ) (left kept answered numbers : List ℕ)
       → HullCommand img pool c st response r left kept answered numbers → answerNumber (replyOf img pool c st (length response)) ≡ 0
       → (r ≡ answerWord (replyOf img pool c st (length response)))
-      × (numbers ≡ answerTold (replyOf img pool c st (length response)) ∷ 0 ∷ 0 ∷ [])
+      × (numbers ≡ answerTold (replyOf img pool c st (length response)) ∷ answerSecurity (replyOf img pool c st (length response)) ∷ 0 ∷ [])
   pub sound : (img : List ℕ) (r : ℕ) → HullSound img r → soundb img ≡ true → r ≡ 1
   pub unsound : (img : List ℕ) (r : ℕ) → HullSound img r → soundb img ≡ false → r ≡ 0

@@ -1,7 +1,12 @@
 // The calls as C sees them (include/hullplaiter.h): each wraps one public call and gives 01's numbers, and 02's, for its answer.
 // No call asks anything of its caller, and none keeps anything from call to call.
-ghost use Rattle.abi.specs.Numbers.{editionOf, stateOf};
+ghost use mathlib.Core.Path.{_≡_};
+ghost use Prim.Native.Nat.{_<_};
+ghost use Rattle.access.specs.Decision.{decisionNumber};
+ghost use Rattle.card.specs.Command.{answerTold};
+ghost use Rattle.abi.specs.Numbers.{editionOf, stateOf, packed, toldNumbers};
 ghost use Rattle.abi.specs.Promises.{HullMake, HullCommand, HullReport, HullSound};
+use access::Decision;
 use card::Reply;
 use maker::Edition;
 use maker::Made;
@@ -23,8 +28,52 @@ pub extern "C" fn hull_make(image: &mut [u8], kind: u32, total: u32, form: u32, 
     }
 }
 
-// One command on an image and its pool: 65536 times the answer, plus the word; what it tells at the start of the response, and how many
-// bytes that is in the first of three numbers.
+// 02's number of a decision on security: 0 no refusal, 1 lacking, 2 closed.
+fn number_of(security: Decision) -> u32
+    ensures { λ r. ⌜ r ≡ decisionNumber security ⌝ }
+{
+    match security {
+        Decision::Granted => 0,
+        Decision::Lacking => 1,
+        Decision::Closed => 2,
+    }
+}
+
+// The answer of a reply above the sixteen bits of its word.
+fn packed(reply: Reply) -> u32
+    ensures { λ r. ⌜ r ≡ packed reply ⌝ }
+{
+    match reply {
+        Reply::Word {
+            word,
+            told,
+            security,
+        } => word as u32,
+        Reply::Damaged => 65536,
+        Reply::Short => 327680,
+        Reply::WrongPool => 393216,
+    }
+}
+
+// What a reply tells beside its word: how many bytes of data, what a security refusal lacks, and 0.
+fn told_numbers(reply: Reply) -> [u32; 3]
+    requires { ⌜ answerTold reply < 65536 ⌝ }
+    ensures { λ r. ⌜ r ≡ toldNumbers reply ⌝ }
+{
+    match reply {
+        Reply::Word {
+            word,
+            told,
+            security,
+        } => [told as u32, number_of(security), 0],
+        Reply::Damaged => [0, 0, 0],
+        Reply::Short => [0, 0, 0],
+        Reply::WrongPool => [0, 0, 0],
+    }
+}
+
+// One command on an image and its pool: 65536 times the answer, plus the word; what it tells at the start of the response, and three
+// numbers.
 #[no_mangle]
 pub extern "C" fn hull_command(
     image: &mut [u8],
@@ -50,24 +99,8 @@ pub extern "C" fn hull_command(
         channels: channels,
     };
     let reply = card::command(image, pool, command, response, state);
-    match reply {
-        Reply::Word { word, told } => {
-            *numbers = [told as u32, 0, 0];
-            word as u32
-        }
-        Reply::Damaged => {
-            *numbers = [0, 0, 0];
-            65536
-        }
-        Reply::Short => {
-            *numbers = [0, 0, 0];
-            327680
-        }
-        Reply::WrongPool => {
-            *numbers = [0, 0, 0];
-            393216
-        }
-    }
+    *numbers = told_numbers(reply);
+    packed(reply)
 }
 
 // The report: its answer, and its four numbers in the lent array.

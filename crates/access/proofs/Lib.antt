@@ -1,2 +1,4 @@
 pub mod Fits
 pub mod Alike
+pub mod Decided
+pub mod Lines

@@ -1,12 +1,20 @@
-// Access rules of every form (01 "Descriptor and rules", 02 Ticket 3): the one place where a rule is asked, and where it is
-// judged whether it may stand in a record. A rule comes with the number of its form; whoever asks never looks inside.
+// Access rules of every form (01 "Descriptor and rules", 02 Tickets 3 and 6): the one place where a rule is asked, what a refusal
+// lacks, and whether a rule may stand in a record. A rule comes with the number of its form; whoever asks never looks inside.
 ghost use mathlib.Core.Path.{_≡_};
 ghost use Prim.Native.Nat.{_≤_};
 ghost use lib.ListN.{length};
 ghost use Rattle.rules.specs.Group.{Lengths};
 ghost use Rattle.access.specs.Access.{tagOf, wellFormed, fitsRecord, grantedOf};
+ghost use Rattle.access.specs.Decision.{full, decisionOf, Decides, either};
 use rules::Right;
 use rules::Sets;
+
+// What a rule decides on a right (02 Ticket 6): it grants it; or some security state would open it, and this one does not; or none would.
+pub enum Decision {
+    Granted,
+    Lacking,
+    Closed,
+}
 
 // The forms: the value of tag 8C, the value of tag AB.
 pub const COMPACT: u8 = 0;
@@ -66,7 +74,7 @@ pub fn formed_by(form: u8, rule: &[u8], lengths: &[u8; 256]) -> bool
     false
 }
 
-// What the rule decides on a right, under what has been authenticated. The only way anyone asks a rule.
+// Whether the rule grants a right, under what has been authenticated. The only way anyone asks a rule.
 pub fn granted(form: u8, rule: &[u8], right: Right, sets: Sets) -> bool
     ensures { λ r. ⌜ r ≡ grantedOf form (now (rule .entry)) right sets ⌝ }
 {
@@ -77,4 +85,43 @@ pub fn granted(form: u8, rule: &[u8], right: Right, sets: Sets) -> bool
         return expanded::rule::granted(rule, right, sets);
     }
     false
+}
+
+// All that could be authenticated.
+fn everything() -> Sets
+    ensures { λ r. ⌜ r ≡ full ⌝ }
+{
+    Sets {
+        messaging: 0xFFFF,
+        external: 0xFFFF,
+        user: 0xFFFF,
+    }
+}
+
+// What the rule decides on a right: more authentication never closes it, so where nothing is lacking and it is denied, no state opens it.
+pub fn decide(form: u8, rule: &[u8], right: Right, sets: Sets) -> Decision
+    ensures { λ r. ⌜ (r ≡ decisionOf form (now (rule .entry)) right sets) × Decides form (now (rule .entry)) right sets r ⌝ }
+{
+    if granted(form, rule, right, sets) {
+        return Decision::Granted;
+    }
+    if granted(form, rule, right, everything()) {
+        return Decision::Lacking;
+    }
+    Decision::Closed
+}
+
+// What two rules decide of which one suffices: lacking wins over closed.
+pub fn either(one: Decision, other: Decision) -> Decision
+    ensures { λ r. ⌜ r ≡ either one other ⌝ }
+{
+    match one {
+        Decision::Granted => Decision::Granted,
+        Decision::Lacking => match other {
+            Decision::Granted => Decision::Granted,
+            Decision::Lacking => Decision::Lacking,
+            Decision::Closed => Decision::Lacking,
+        },
+        Decision::Closed => other,
+    }
 }

@@ -21,11 +21,14 @@ use Rattle.verdict.specs.declared.Verdict.{Verdict}
 use Rattle.verdict.specs.declared.Verdict.the-variants.{Refuse, Select, Create, Delete, SetLife, Read, Update}
 use Rattle.verdict.specs.Applied.{wordOf, appliedOf, pooledOf}
 use Rattle.apdu.specs.Apdu.{instruction}
+use Rattle.rules.specs.declared.Sets.{Sets}
+use Rattle.access.specs.Decision.{decisionNumber}
+use Rattle.judge_security.specs.Security.{denialOf}
 use Rattle.judge.specs.Judge.{judgeOf}
 use Rattle.effect.specs.Told.{told}
 use Rattle.card.specs.declared.Reply.{Reply}
 use Rattle.card.specs.declared.Reply.the-variants.{Word, Short, WrongPool}
-use Rattle.card.specs.Command.{answerNumber, answerWord, answerTold, poolFits, fits, dueOf, replyOf, imageOf, poolOf}
+use Rattle.card.specs.Command.{answerNumber, answerWord, answerTold, answerSecurity, poolFits, fits, dueOf, replyOf, imageOf, poolOf}
 use Rattle.card.specs.Command.{responseOf, CommandPromises}
 use Rattle.card.specs.Obeyed.{isOneOf}
 use Rattle.card.specs.Demands.{AllStays, WrongPoolRefused, OlderFit}
@@ -62,7 +65,8 @@ wrong-pool-refused img pool c st response e = (
   (λ k h. go (fits img pool c st (length response)) (rw (e, pool-says img pool .1 k) at h)),
 )
   where
-    go : (b : Bool) → answerNumber (cond b (Word (wordOf (dueOf img pool c st (length response))) (length (told img pool c (dueOf img pool c st (length response))))) Short) ≡ 6 → ⊥
+    go : (b : Bool) → answerNumber (cond b (Word (wordOf (dueOf img pool c st (length response))) (length (told img pool c (dueOf img pool c st (length response))))
+        (denialOf img c (st .sets) (dueOf img pool c st (length response)))) Short) ≡ 6 → ⊥
     go true h = omega arith
     go false h = omega arith
 
@@ -95,8 +99,9 @@ unfolding replyOf
 damaged-tells img pool c st lent e = rw e
 
 -- what the verdict that stands answers, by the two checks
-abbrev pub said : List ℕ → List ℕ → List ℕ → Verdict → Bool → Bool → Reply
-said img pool c due whole fit = cond whole (cond fit (Word (wordOf due) (length (told img pool c due))) Short) WrongPool
+abbrev pub said : List ℕ → List ℕ → List ℕ → Sets → Verdict → Bool → Bool → Reply
+said img pool c x due whole fit =
+    cond whole (cond fit (Word (wordOf due) (length (told img pool c due)) (denialOf img c x due)) Short) WrongPool
 
 -- on a sound image
 module _ (img pool c : List ℕ) (st : State) (lent : ℕ) (sound : Sound img) where
@@ -109,7 +114,7 @@ module _ (img pool c : List ℕ) (st : State) (lent : ℕ) (sound : Sound img) w
   pool-is = rw (sound-says img .1 sound)
 
   pub reply-is : replyOf img pool c st lent
-      ≡ said img pool c (dueOf img pool c st lent) (poolFits img pool) (fits img pool c st lent)
+      ≡ said img pool c (st .sets) (dueOf img pool c st lent) (poolFits img pool) (fits img pool c st lent)
   unfolding replyOf
   reply-is = rw (sound-says img .1 sound)
 
@@ -117,7 +122,7 @@ module _ (img pool c : List ℕ) (st : State) (lent : ℕ) (sound : Sound img) w
   word-is = ap answerWord reply-is ∙ go (poolFits img pool) (fits img pool c st lent) refl refl
     where
       go : (a b : Bool) → poolFits img pool ≡ a → fits img pool c st lent ≡ b
-          → answerWord (said img pool c (dueOf img pool c st lent) a b) ≡ wordOf (dueOf img pool c st lent)
+          → answerWord (said img pool c (st .sets) (dueOf img pool c st lent) a b) ≡ wordOf (dueOf img pool c st lent)
       go true true p q = refl
       go true false p q = sym (ap wordOf (due-unfit img pool c st lent q))
       go false b p q = sym (ap wordOf (due-wrong img pool c st lent p))
@@ -126,10 +131,21 @@ module _ (img pool c : List ℕ) (st : State) (lent : ℕ) (sound : Sound img) w
   told-is = ap answerTold reply-is ∙ go (poolFits img pool) (fits img pool c st lent) refl refl
     where
       go : (a b : Bool) → poolFits img pool ≡ a → fits img pool c st lent ≡ b
-          → answerTold (said img pool c (dueOf img pool c st lent) a b) ≡ length (told img pool c (dueOf img pool c st lent))
+          → answerTold (said img pool c (st .sets) (dueOf img pool c st lent) a b) ≡ length (told img pool c (dueOf img pool c st lent))
       go true true p q = refl
       go true false p q = sym (ap (λ (v : Verdict). length (told img pool c v)) (due-unfit img pool c st lent q))
       go false b p q = sym (ap (λ (v : Verdict). length (told img pool c v)) (due-wrong img pool c st lent p))
+
+  pub security-is : answerSecurity (replyOf img pool c st lent) ≡ decisionNumber (denialOf img c (st .sets) (dueOf img pool c st lent))
+  unfolding denialOf
+  security-is = ap answerSecurity reply-is ∙ go (poolFits img pool) (fits img pool c st lent) refl refl
+    where
+      go : (a b : Bool) → poolFits img pool ≡ a → fits img pool c st lent ≡ b
+          → answerSecurity (said img pool c (st .sets) (dueOf img pool c st lent) a b)
+          ≡ decisionNumber (denialOf img c (st .sets) (dueOf img pool c st lent))
+      go true true p q = refl
+      go true false p q = sym (ap (λ (v : Verdict). decisionNumber (denialOf img c (st .sets) v)) (due-unfit img pool c st lent q))
+      go false b p q = sym (ap (λ (v : Verdict). decisionNumber (denialOf img c (st .sets) v)) (due-wrong img pool c st lent p))
 
 pub response-is : (img pool c : List ℕ) (st : State) (response : List ℕ) → Sound img
     → responseOf img pool c st response ≡ splice response 0 (told img pool c (dueOf img pool c st (length response)))

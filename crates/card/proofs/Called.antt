@@ -16,7 +16,10 @@ use Rattle.sound.proofs.Front.{sound-within}
 use Rattle.verdict.specs.declared.State.{State}
 use Rattle.verdict.specs.declared.Verdict.{Verdict}
 use Rattle.verdict.specs.Applied.{wordOf, appliedOf, pooledOf}
+use Rattle.access.specs.declared.Decision.{Decision}
+use Rattle.access.specs.Decision.{decisionNumber}
 use Rattle.judge.specs.Judge.{judgeOf}
+use Rattle.judge_security.specs.Security.{denialOf}
 use Rattle.fcp.specs.declared.Written.{Written}
 use Rattle.fcp.specs.declared.Written.the-variants.{Done, Short as TooShort}
 use Rattle.fcp.specs.Writing.{Answered}
@@ -46,10 +49,10 @@ root-within img sound = sound-within img sound 0 (omega (arith, sound .header .l
 
 module _ (img pool c : List ℕ) (st : State) {r : Bool} (e : r ≡ soundb img) where
   pub call-damaged : (o : List ℕ) → not r ≡ true → CommandPromises img pool c st o Damaged img pool o
-  unfolding replyOf imageOf poolOf responseOf
+  unfolding replyOf imageOf poolOf responseOf denialOf
   call-damaged o t =
       let z = sym e ∙ not-true r t in
-      record { reply = rw z; image = rw z; pool-is = rw z; response-is = rw z; number = rw z; word = rw z; bytes = rw z; few = omega arith }
+      record { reply = rw z; image = rw z; pool-is = rw z; response-is = rw z; number = rw z; word = rw z; bytes = rw z; security = rw z; few = omega arith }
 
   module _ (t : not r ≡ false) where
     pub call-sound : Sound img
@@ -61,7 +64,7 @@ module _ (img pool c : List ℕ) (st : State) {r : Bool} (e : r ≡ soundb img) 
     -- w is what the test of the pool's length answered
     module _ {w : Bool} (i : w ≡ poolFits img pool) where
       pub call-wrong : (o : List ℕ) → not w ≡ true → CommandPromises img pool c st o WrongPool img pool o
-      unfolding replyOf imageOf poolOf responseOf
+      unfolding replyOf imageOf poolOf responseOf denialOf
       call-wrong o j =
           let p = sym i ∙ not-true w j in
           let z = sym e ∙ not-false r t in
@@ -74,6 +77,7 @@ module _ (img pool c : List ℕ) (st : State) {r : Bool} (e : r ≡ soundb img) 
             number = rw (z, p);
             word = rw (z, d);
             bytes = rw (z, d);
+            security = rw (z, d);
             few = omega arith;
           }
 
@@ -91,7 +95,7 @@ module _ (img pool c : List ℕ) (st : State) {r : Bool} (e : r ≡ soundb img) 
 
           module _ {k : Written} {o y : List ℕ} (a : Answered (told img pool c v) o y k) where
             pub call-short : k ≡ TooShort → CommandPromises img pool c st o Short img pool y
-            unfolding replyOf imageOf poolOf responseOf
+            unfolding replyOf imageOf poolOf responseOf denialOf
             call-short q =
                 let s = due-short img pool c st (length o) ((rw (q, f) at a) .0) in
                 let p = sym i ∙ not-false w j in
@@ -104,26 +108,31 @@ module _ (img pool c : List ℕ) (st : State) {r : Bool} (e : r ≡ soundb img) 
                   number = rw (z, p, s .0);
                   word = rw (z, s .1);
                   bytes = rw (z, s .1);
+                  security = rw (z, s .1);
                   few = omega arith;
                 }
 
-            pub call-done : {m x : ℕ} {after kept : List ℕ} → k ≡ Done m
+            pub call-done : {m x : ℕ} {d : Decision} {after kept : List ℕ} → k ≡ Done m → d ≡ denialOf img c (st .sets) v
                 → (x ≡ wordOf v) × (after ≡ appliedOf img c v) × (kept ≡ pooledOf img pool c v)
-                → CommandPromises img pool c st o (Word x m) after kept y
-            unfolding replyOf imageOf poolOf responseOf
-            call-done {m} q g =
+                → CommandPromises img pool c st o (Word x m d) after kept y
+            unfolding replyOf imageOf poolOf responseOf denialOf
+            call-done {m} {x} {d} q l g =
                 let b = rw (q, f) at a in
                 let s = due-fits img pool c st (length o) fit (b .0) in
                 let p = sym i ∙ not-false w j in
                 let z = sym e ∙ not-false r t in
                 let word = g .0 ∙ ap wordOf f in
+                let denial = l ∙ ap (denialOf img c (st .sets)) f in
                 record {
-                  reply = rw (z, p, s .0, s .1) (ap (λ (u : ℕ). Word u m) word ∙ ap (λ (u : ℕ). Word (wordOf (judgeOf img c st)) u) (b .1 .0));
+                  reply = rw (z, p, s .0, s .1) (ap (λ (u : ℕ). Word u m d) word
+                      ∙ ap (λ (u : ℕ). Word (wordOf (judgeOf img c st)) u d) (b .1 .0)
+                      ∙ ap (λ (u : Decision). Word (wordOf (judgeOf img c st)) (length (told img pool c (judgeOf img c st))) u) denial);
                   image = rw (z, s .1) (g .1 ∙ ap (appliedOf img c) f);
                   pool-is = rw (z, s .1) (g .2 ∙ ap (pooledOf img pool c) f);
                   response-is = rw (z, s .1) (b .1 .1);
                   number = rw (z, p, s .0);
                   word = rw (z, s .1) word;
                   bytes = rw (z, s .1) (b .1 .0);
+                  security = rw (z, s .1) (ap decisionNumber denial);
                   few = omega (arith, b .1 .0, told-few img pool c call-sound fit (judgeOf img c st) (judge-tells img c call-sound st));
                 }

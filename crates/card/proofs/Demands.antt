@@ -14,6 +14,7 @@ use Rattle.laws.specs.Lists.{splice}
 use Rattle.laws.proofs.Says.{and-says}
 use Rattle.laws.proofs.Splices.{splice-nil}
 use Rattle.laws.proofs.Firsts.{first-is}
+use Rattle.rules.specs.declared.Sets.{Sets}
 use Rattle.rules.specs.Life.{isTerminated}
 use Rattle.image.specs.declared.Head.{Head}
 use Rattle.image.specs.Layout.{versionOf, recAt, freeBytes, kindOf, lifeCycleOf, countOf, currentDfOf}
@@ -31,8 +32,10 @@ use Rattle.verdict.specs.declared.Verdict.{Verdict}
 use Rattle.verdict.specs.declared.Verdict.the-variants.{Refuse, Select, Create, Delete, SetLife, Read, Update}
 use Rattle.verdict.specs.Applied.{wordOf, appliedOf, pooledOf}
 use Rattle.judge_target.specs.Steps.{Step, judged, allHold, followed}
+use Rattle.access.specs.declared.Decision.the-variants.{Granted}
 use Rattle.judge.specs.Shared.{sharedSteps}
 use Rattle.judge.specs.Judge.{planFor, judgeFor, judgeOf}
+use Rattle.judge_security.specs.Security.{denialOf}
 use Rattle.effect.specs.Told.{told}
 use Rattle.card.specs.declared.Reply.the-variants.{Word, Short}
 use Rattle.card.specs.Command.{answerWord, PoolFits, fits, dueOf, replyOf}
@@ -43,7 +46,7 @@ use Rattle.card.specs.Demands.{Succeeds, wordsOfTable, RepliesInOrder, S
 use Rattle.card.specs.Demands.{SameButStart, Call, TerminatedStays, TerminatedForGood}
 use Rattle.card.proofs.Steps.{cond-by, judged-append, judged-all, judged-first}
 use Rattle.card.proofs.Tells.{Tells}
-use Rattle.card.proofs.Speaks.{plan-acts, succeeds}
+use Rattle.card.proofs.Speaks.{Acts, plan-acts, succeeds}
 use Rattle.card.proofs.After.{records-after, front-after, current-after, df-after, ef-after}
 use Rattle.card.proofs.Words.{judge-worded}
 use Rattle.card.proofs.Ordered.{Erases, Ordered}
@@ -111,23 +114,45 @@ module _ (img pool c : List ℕ) (st : State) (lent : ℕ) where
       rw (judged-in-order img c st .0 (p .0)) (and-says _ _ .0 (p .1) .0)
 
   -- a refusal with its word, or answer 5
-  refused-as : Sound img → PoolFits img pool → (w : ℕ) → dueOf img pool c st lent ≡ Refuse w → replyOf img pool c st lent ≡ refusal w
+  refused-as : Sound img → PoolFits img pool → (w : ℕ) → dueOf img pool c st lent ≡ Refuse w
+      → replyOf img pool c st lent ≡ refusal img c (st .sets) w
+  unfolding denialOf
   refused-as sound k w e = reply-is img pool c st lent sound ∙ rw (pool-says img pool .1 k) (go (fits img pool c st lent) refl)
     where
       worded : (n : ℕ) → isOneOf n wordsOfTable ≡ true → eqb n 0x0000 ≡ false
       worded n h = ne-eqb n 0x0000 (λ z. false≢true (rw z at h))
 
       go : (b : Bool) → fits img pool c st lent ≡ b
-          → cond b (Word (wordOf (dueOf img pool c st lent)) (length (told img pool c (dueOf img pool c st lent)))) Short ≡ refusal w
+          → cond b (Word (wordOf (dueOf img pool c st lent)) (length (told img pool c (dueOf img pool c st lent)))
+          (denialOf img c (st .sets) (dueOf img pool c st lent))) Short ≡ refusal img c (st .sets) w
       go true q =
           let n = worded w (rw (sym (due-fit img pool c st lent k q) ∙ e) at (judge-worded img c st)) in
           rw (e, n) refl
       go false q = let z : w ≡ 0x0000 = ap wordOf (sym e ∙ due-unfit img pool c st lent q) in rw z refl
 
+own-hold : (img pool c : List ℕ) (st : State) (lent : ℕ) → allHold (allSteps img pool c st lent) ≡ true
+    → allHold (planFor img (countOf img) (currentDfOf img) c st .steps) ≡ true
+own-hold img pool c st lent h =
+    both-hold (sharedSteps img c st) (planFor img (countOf img) (currentDfOf img) c st .steps)
+    (both-hold (stepsOf img c st) (lastStep img pool c st lent ∷ []) h .0) .1
+
+-- an effect that acts was not denied
+acts-granted : (img c : List ℕ) (x : Sets) (v : Verdict) → Acts v → denialOf img c x v ≡ Granted
+unfolding denialOf
+acts-granted img c x (Refuse w) a = absurd a
+acts-granted img c x (Select d e w) a = refl
+acts-granted img c x (Create y) a = refl
+acts-granted img c x (Delete s) a = refl
+acts-granted img c x (SetLife s life) a = refl
+acts-granted img c x (Read at n) a = refl
+acts-granted img c x (Update at) a = refl
+
 pub replies-in-order : RepliesInOrder
 replies-in-order img pool c st response sound k = (
   (λ h. let e = due-in-order img pool c st (length response) k .0 h in (
-    reply-is img pool c st (length response) sound ∙ rw (pool-says img pool .1 k, all-fit img pool c st (length response) h, e) refl,
+    reply-is img pool c st (length response) sound ∙ rw (pool-says img pool .1 k, all-fit img pool c st (length response) h, e)
+    (ap (Word (wordOf (effectOf img c st)) (length (told img pool c (effectOf img c st))))
+    (acts-granted img c (st .sets) (effectOf img c st) (plan-acts img (countOf img) (currentDfOf img) c st (own-hold img pool c st (length response) h)))),
     image-is img pool c st (length response) sound ∙ ap (appliedOf img c) e,
     pool-is img pool c st (length response) sound ∙ ap (pooledOf img pool c) e,
     response-is img pool c st response sound ∙ ap (λ (v : Verdict). splice response 0 (told img pool c v)) e,
@@ -147,12 +172,6 @@ replies-in-order img pool c st response sound k = (
 new-free : (img : List ℕ) (s : ℕ) (h : Head) (name rule : List ℕ) → Creates img s h name rule → kindOf (recAt img s) ≡ 0
 unfolding freeSlot
 new-free img s h name rule k = eqb-true _ _ (first-is (countOf img) (λ t. eqb (viewAt img t .kind) 0) s (k .slot) .here)
-
-own-hold : (img pool c : List ℕ) (st : State) (lent : ℕ) → allHold (allSteps img pool c st lent) ≡ true
-    → allHold (planFor img (countOf img) (currentDfOf img) c st .steps) ≡ true
-own-hold img pool c st lent h =
-    both-hold (sharedSteps img c st) (planFor img (countOf img) (currentDfOf img) c st .steps)
-    (both-hold (stepsOf img c st) (lastStep img pool c st lent ∷ []) h .0) .1
 
 pub succeeds-exactly : SucceedsExactly
 succeeds-exactly img pool c st lent sound fit = (all-hold, succeeded)

@@ -24,3 +24,4 @@ pub mod Pooled
 pub mod Unjudged
 pub mod Lives
 pub mod Versions
+pub mod Security

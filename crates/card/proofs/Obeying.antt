@@ -18,6 +18,7 @@ use Rattle.verdict.specs.Applied.{wordOf, appliedOf, pooledOf}
 use Rattle.judge_target.specs.Steps.{Step, step, allHold, Plan}
 use Rattle.apdu.specs.Apdu.{classByte, instruction, isKnown, wantsAlone, isBody}
 use Rattle.judge.specs.Shared.{laterSteps, sharedSteps}
+use Rattle.access.specs.declared.Decision.the-variants.{Granted}
 use Rattle.judge.specs.Judge.{planFor}
 use Rattle.effect.specs.Told.{told}
 use Rattle.card.specs.declared.Reply.the-variants.{Word}
@@ -49,8 +50,8 @@ module _ (img pool c : List ℕ) (st : State) (response : List ℕ) (sound : Sou
         let g = gives m in
         let tells = ap (told img pool c) effect ∙ g .3 in
         (
-          r .0 ∙ ap (λ (n : ℕ). Word n (length (told img pool c (effectOf img c st)))) (ap wordOf effect ∙ g .0)
-          ∙ ap (λ (l : List ℕ). Word word (length l)) tells,
+          r .0 ∙ ap (λ (n : ℕ). Word n (length (told img pool c (effectOf img c st))) Granted) (ap wordOf effect ∙ g .0)
+          ∙ ap (λ (l : List ℕ). Word word (length l) Granted) tells,
           r .1 ∙ ap (appliedOf img c) effect ∙ g .1,
           r .2 ∙ ap (pooledOf img pool c) effect ∙ g .2,
           r .3 ∙ ap (splice response 0) tells,
@@ -58,7 +59,7 @@ module _ (img pool c : List ℕ) (st : State) (response : List ℕ) (sound : Sou
     refused = λ w f.
         let q = reads-them .first w f in
         let r = replies-in-order img pool c st response sound fit .1 (q .0) in
-        (r .0 ∙ ap refusal (q .1), r .1 .image, r .1 .bodies, r .1 .answered);
+        (r .0 ∙ ap (refusal img c (st .sets)) (q .1), r .1 .image, r .1 .bodies, r .1 .answered);
     always = either-way (allHold (allSteps img pool c st (length response))) refl;
   }
     where

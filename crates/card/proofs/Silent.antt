@@ -67,14 +67,14 @@ others-tell-nothing img pool c st response z a b = go (soundb img) refl
         → (responseOf img pool c st response ≡ response) × (answerTold (replyOf img pool c st n) ≡ 0) × (replyOf img pool c st n ≡ Short → ⊥)
     go true q =
         let sound = sound-says img .0 q in
-        let said-is = reply-is img pool c st n sound ∙ ap (said img pool c (dueOf img pool c st n) (poolFits img pool))
+        let said-is = reply-is img pool c st n sound ∙ ap (said img pool c (st .sets) (dueOf img pool c st n) (poolFits img pool))
         (fits-silent img pool c st n z a b) in (
           response-is img pool c st response sound ∙ ap (splice response 0) (due-none img pool c st n z a b) ∙ splice-nil response 0,
           told-is img pool c st n sound ∙ ap length (due-none img pool c st n z a b),
           (λ e. never (poolFits img pool) (sym said-is ∙ e)),
         )
       where
-        never : (w : Bool) → said img pool c (dueOf img pool c st n) w true ≡ Short → ⊥
+        never : (w : Bool) → said img pool c (st .sets) (dueOf img pool c st n) w true ≡ Short → ⊥
         never true e = omega (arith, ap answerNumber e)
         never false e = omega (arith, ap answerNumber e)
     go false q =
@@ -86,12 +86,12 @@ unfolding replyOf
 long-enough img pool c st lent byte h e = go (soundb img) (poolFits img pool) refl refl e
   where
     go : (s w : Bool) → soundb img ≡ s → poolFits img pool ≡ w
-        → cond s (said img pool c (dueOf img pool c st lent) w (fits img pool c st lent)) Damaged ≡ Short → ⊥
+        → cond s (said img pool c (st .sets) (dueOf img pool c st lent) w (fits img pool c st lent)) Damaged ≡ Short → ⊥
     go true true q p r =
         let sound = sound-says img .0 q in
         let k = pool-says img pool .0 p in
         let few = told-most img pool c sound k byte (judgeOf img c st) (judge-tells img c sound st) in
         let f = due-fits img pool c st lent k (omega (arith, few)) .0 in
-        omega (arith, ap answerNumber (sym (ap (said img pool c (dueOf img pool c st lent) true) f) ∙ r))
+        omega (arith, ap answerNumber (sym (ap (said img pool c (st .sets) (dueOf img pool c st lent) true) f) ∙ r))
     go true false q p r = omega (arith, ap answerNumber r)
     go false w q p r = omega (arith, ap answerNumber r)

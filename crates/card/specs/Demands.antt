@@ -11,6 +11,7 @@ use Rattle.laws.specs.declared.Found.the-variants.{At}
 use Rattle.laws.specs.Lists.{splice}
 use Rattle.laws.specs.Settled.{Settles}
 use Rattle.image.specs.Layout.{hasBodies, formOf, versionOf, recAt, freeBytes, kindOf, countOf, currentDfOf, currentEfOf}
+use Rattle.access.specs.declared.Decision.the-variants.{Granted}
 use Rattle.access.specs.Access.{compact}
 use Rattle.sound.specs.Table.{viewAt}
 use Rattle.sound.specs.Sound.{Sound, soundb}
@@ -140,12 +141,12 @@ StaysCompact = (img pool c : List ℕ) (st : State) (lent s : ℕ) → Sound img
 abbrev pub RepliesInOrder : Type 0
 RepliesInOrder = (img pool c : List ℕ) (st : State) (response : List ℕ) → Sound img → PoolFits img pool
     → (allHold (allSteps img pool c st (length response)) ≡ true
-    → (replyOf img pool c st (length response) ≡ Word (wordOf (effectOf img c st)) (length (told img pool c (effectOf img c st))))
+    → (replyOf img pool c st (length response) ≡ Word (wordOf (effectOf img c st)) (length (told img pool c (effectOf img c st))) Granted)
     × (imageOf img pool c st (length response) ≡ appliedOf img c (effectOf img c st))
     × (poolOf img pool c st (length response) ≡ pooledOf img pool c (effectOf img c st))
     × (responseOf img pool c st response ≡ splice response 0 (told img pool c (effectOf img c st))))
     × (allHold (allSteps img pool c st (length response)) ≡ false
-    → (replyOf img pool c st (length response) ≡ refusal (firstFailing (allSteps img pool c st (length response))))
+    → (replyOf img pool c st (length response) ≡ refusal img c (st .sets) (firstFailing (allSteps img pool c st (length response))))
     × AllStays img pool c st response)
 
 -- Demand 2: the word tells success exactly where all steps hold

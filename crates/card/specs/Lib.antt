@@ -7,3 +7,4 @@ pub mod After
 pub mod Demands
 pub mod Lives
 pub mod Bodies
+pub mod Security

@@ -9,6 +9,7 @@ use Prim.Native.Nat.{ℕ, _+_, _≤_}
 use lib.Dec.{eqb}
 use lib.ListN.{length, getD}
 use Rattle.laws.specs.Lists.{splice}
+use Rattle.rules.specs.declared.Sets.{Sets}
 use Rattle.rules.specs.Descriptor.{df, ef}
 use Rattle.rules.specs.Life.{lifeOf, deactivated, terminated}
 use Rattle.image.specs.declared.Head.{Head}
@@ -24,6 +25,8 @@ use Rattle.create_data.specs.declared.Data.the-variants.{Df, Ef, Bad}
 use Rattle.verdict.specs.declared.State.{State}
 use Rattle.verdict.specs.Applied.{sentData}
 use Rattle.fcp.specs.Template.{templateOf}
+use Rattle.access.specs.declared.Decision.the-variants.{Granted}
+use Rattle.judge_security.specs.Security.{stepJ}
 use Rattle.judge_target.specs.Target.{currentFile, lifeAt, slotIn}
 use Rattle.apdu.specs.Apdu.{classByte, instruction}
 use Rattle.card.specs.declared.Reply.{Reply}
@@ -34,17 +37,17 @@ use Rattle.pool.specs.Bodies.{startAt}
 use Rattle.card.specs.Conditions.{startIn, le, reading, recordAt, readBinaryAsks, updateBinaryAsks, readRecordAsks, updateRecordAsks}
 use Rattle.card.specs.Conditions.{deactivateAsks, terminateEfAsks, terminateDfAsks, terminateCardAsks, found, newOf, namedChild}
 
--- a refusal tells nothing; the one without a word is answer 5
-abbrev pub refusal : ℕ → Reply
-refusal w = cond (eqb w 0x0000) Short (Word w 0)
+-- a refusal tells nothing; the one without a word is answer 5; that of step J says what it decided (02 Ticket 6)
+abbrev pub refusal : List ℕ → List ℕ → Sets → ℕ → Reply
+refusal img c x w = cond (eqb w 0x0000) Short (Word w 0 (cond (eqb w 0x6982) (stepJ img c x) Granted))
 
 pub record Obeys (img pool c : List ℕ) (st : State) (response : List ℕ) (asks : List Ask) (word : ℕ) (left kept answer : List ℕ)
     : Type 0 where
   pub met : Met asks
-      → (replyOf img pool c st (length response) ≡ Word word (length answer)) × (imageOf img pool c st (length response) ≡ left)
+      → (replyOf img pool c st (length response) ≡ Word word (length answer) Granted) × (imageOf img pool c st (length response) ≡ left)
       × (poolOf img pool c st (length response) ≡ kept) × (responseOf img pool c st response ≡ splice response 0 answer)
   pub refused : (w : ℕ) → Refused asks w
-      → (replyOf img pool c st (length response) ≡ refusal w) × (imageOf img pool c st (length response) ≡ img)
+      → (replyOf img pool c st (length response) ≡ refusal img c (st .sets) w) × (imageOf img pool c st (length response) ≡ img)
       × (poolOf img pool c st (length response) ≡ pool) × (responseOf img pool c st response ≡ response)
   -- and there is no third case
   pub always : Met asks ⊎ ((w : ℕ) × Refused asks w)
@@ -169,5 +172,5 @@ abbrev pub OlderHaveNone : Type 0
 OlderHaveNone = (img pool c : List ℕ) (st : State) (response : List ℕ) → Sound img → (versionOf img ≡ 1) ⊎ (versionOf img ≡ 2)
     → 4 ≤ length c → classByte c ≡ 0x00
     → isOneOf (instruction c) (0xB0 ∷ 0xD6 ∷ 0xB2 ∷ 0xDC ∷ []) ≡ true
-    → (replyOf img pool c st (length response) ≡ Word 0x6D00 0) × (imageOf img pool c st (length response) ≡ img)
+    → (replyOf img pool c st (length response) ≡ Word 0x6D00 0 Granted) × (imageOf img pool c st (length response) ≡ img)
     × (poolOf img pool c st (length response) ≡ pool) × (responseOf img pool c st response ≡ response)

@@ -1,17 +1,24 @@
 // The card: one command per call on an image in a lent buffer (01), with file bodies in a second one, the pool (02 Ticket 4), and what it
 // tells in a third (02 Ticket 2). Soundness first, then the pool's length, then judging, then what is told, then the one effect that is
 // due. It answers demands 1 and 2: specs/Command says what a call gives, specs/Demands and specs/Obeyed what the demands ask for.
-// specs/Lives says who writes which life-cycle byte (02 Ticket 1), specs/Bodies what becomes of contents.
+// specs/Lives says who writes which life-cycle byte (02 Ticket 1), specs/Bodies what becomes of contents, specs/Security what a security
+// refusal lacks (02 Ticket 6).
 ghost use mathlib.Core.Path.{_≡_};
 ghost use Rattle.sound.specs.Sound.{Sound};
 ghost use Rattle.card.specs.Command.{poolFits, CommandPromises};
+use access::Decision;
 use fcp::Written;
 use verdict::State;
 
-// What a call answers: the word of a command on a sound image, and how many bytes it told; or that the image is damaged; or that the
-// response is too short for what the command would tell; or that the pool does not have the length of this card's.
+// What a call answers: the word of a command on a sound image, how many bytes it told, and what it lacks where it was refused for security;
+// or that the image is damaged; or that the response is too short for what the command would tell; or that the pool does not have the
+// length of this card's.
 pub enum Reply {
-    Word { word: u16, told: usize },
+    Word {
+        word: u16,
+        told: usize,
+        security: Decision,
+    },
     Damaged,
     Short,
     WrongPool,
@@ -50,9 +57,11 @@ pub fn command(
     let Written::Done(told) = effect::tell::tell(response, image, pool, command, due) else {
         return Reply::Short;
     };
+    let security = judge_security::denial(image, command, state, due);
     let word = effect::apply::apply(image, n, pool, command, due);
     Reply::Word {
         word: word,
         told: told,
+        security: security,
     }
 }

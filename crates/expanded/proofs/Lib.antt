@@ -3,3 +3,4 @@ pub mod Nested
 pub mod Rows
 pub mod Standing
 pub mod Alike
+pub mod Growing

@@ -19,7 +19,7 @@ use verdict::Verdict;
 use verdict::words;
 
 // The right that the EF's rule is asked for.
-fn right_to(reads: bool) -> Right
+pub fn right_to(reads: bool) -> Right
     ensures { λ r. ⌜ r ≡ rightTo reads ⌝ }
 {
     if reads {

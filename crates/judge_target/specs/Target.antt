@@ -12,7 +12,9 @@ use Rattle.rules.specs.declared.Sets.{Sets}
 use Rattle.rules.specs.Descriptor.{df, ef}
 use Rattle.image.specs.declared.Head.{Head}
 use Rattle.image.specs.Layout.{recAt, currentDfOf, currentEfOf, none, lifeCycleOf, formOf, ruleOf}
+use Rattle.access.specs.declared.Decision.{Decision}
 use Rattle.access.specs.Access.{grantedOf}
+use Rattle.access.specs.Decision.{decisionOf}
 use Rattle.sound.specs.Table.{View, viewAt}
 use Rattle.sound.specs.Kinship.{childNamed}
 use Rattle.kinship.specs.Search.{dfNamed}
@@ -35,6 +37,10 @@ lifeAt img s = lifeCycleOf (recAt img s)
 -- the rule of the file in slot s, whatever its form, grants a right
 unfoldable pub allowedAt : List ℕ → ℕ → Right → Sets → Bool
 allowedAt img s right x = grantedOf (formOf (recAt img s)) (ruleOf (recAt img s)) right x
+
+-- .. and what it decides, of three (02 Ticket 6)
+unfoldable pub decisionAt : List ℕ → ℕ → Right → Sets → Decision
+decisionAt img s right x = decisionOf (formOf (recAt img s)) (ruleOf (recAt img s)) right x
 
 -- what a search found
 abbrev pub isFound : Found → Bool

@@ -9,7 +9,8 @@ ghost use Rattle.image.specs.Layout.{Sized, Within};
 ghost use Rattle.sound.specs.Kinship.{childNamed, terminatedAt};
 ghost use Rattle.kinship.specs.Search.{dfNamed};
 ghost use Rattle.judge_target.specs.Judgeable.{Judgeable};
-ghost use Rattle.judge_target.specs.Target.{currentFile, lifeAt, allowedAt, itself, selected};
+ghost use Rattle.judge_target.specs.Target.{currentFile, lifeAt, allowedAt, decisionAt, itself, selected};
+use access::Decision;
 use image::fields;
 use kinship::search;
 use laws::Found;
@@ -24,6 +25,15 @@ pub fn allowed(image: &[u8], n: usize, d: usize, s: usize, right: Right, sets: S
     ensures { λ r. ⌜ r ≡ allowedAt (now (image .entry)) s right sets ⌝ }
 {
     access::granted(fields::form(image, s), fields::rule(image, s), right, sets)
+}
+
+// What the rule of the file in slot s decides on a right.
+pub fn decided(image: &[u8], n: usize, d: usize, s: usize, right: Right, sets: Sets) -> Decision
+    requires { ⌜ Judgeable (now image) n d ⌝ }
+    requires { ⌜ s < n ⌝ }
+    ensures { λ r. ⌜ r ≡ decisionAt (now (image .entry)) s right sets ⌝ }
+{
+    access::decide(fields::form(image, s), fields::rule(image, s), right, sets)
 }
 
 // The current EF, else the current DF.

@@ -19,6 +19,10 @@ use Rattle.verdict.specs.declared.State.{State}
 use Rattle.judge_target.specs.Target.{lifeAt}
 use Rattle.judge_target.proofs.FromSound.{judgeable, selected-stands}
 use Rattle.apdu.specs.Apdu.{sentIdentifier}
+use Rattle.access.specs.declared.Decision.{Decision}
+use Rattle.access.specs.declared.Decision.the-variants.{Granted}
+use Rattle.rules.specs.declared.Sets.{Sets}
+use Rattle.judge_security.specs.Security.{stepJ}
 use Rattle.card.specs.declared.Reply.the-variants.{Word, Short}
 use Rattle.card.specs.Command.{answerNumber, answerTold, poolFits, PoolFits, responseOf}
 use Rattle.card.specs.Conditions.{Met, selectAsks, found}
@@ -30,12 +34,12 @@ use Rattle.card.proofs.Answered.{wrong-pool-refused, response-stays}
 use Rattle.recreation.specs.Recreation.{Told, toldBy, SelectTold}
 
 -- a refusal tells nothing
-refusal-silent : (w : ℕ) → answerTold (refusal w) ≡ 0
-refusal-silent w = go (eqb w 0x0000)
+refusal-silent : (img c : List ℕ) (x : Sets) (w : ℕ) → answerTold (refusal img c x w) ≡ 0
+refusal-silent img c x w = go (eqb w 0x0000) (cond (eqb w 0x6982) (stepJ img c x) Granted)
   where
-    go : (b : Bool) → answerTold (cond b Short (Word w 0)) ≡ 0
-    go true = refl
-    go false = refl
+    go : (b : Bool) (d : Decision) → answerTold (cond b Short (Word w 0 d)) ≡ 0
+    go true d = refl
+    go false d = refl
 
 -- what stands at the start of a response
 take-splice : (l v : List ℕ) → length v ≤ length l → take (length v) (splice l 0 v) ≡ v
@@ -67,7 +71,7 @@ module _ (img pool c : List ℕ) (st : State) (response : List ℕ) (n : ℕ) (s
   -- bytes were told, so all asks are met
   asks-met : Met (selectAsks img c (length response))
   asks-met = ⊎-elim (λ m. m)
-      (λ f. absurd (omega (arith, t .some, ap answerTold (sym (t .reply) ∙ obeyed .refused (f .0) (f .1) .0), refusal-silent (f .0))))
+      (λ f. absurd (omega (arith, t .some, ap answerTold (sym (t .reply) ∙ obeyed .refused (f .0) (f .1) .0), refusal-silent img c (st .sets) (f .0))))
       (obeyed .always)
 
   -- .. and the file was found

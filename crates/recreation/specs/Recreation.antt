@@ -25,6 +25,8 @@ use Rattle.fcp.specs.Again.{Sends, startedAt}
 use Rattle.verdict.specs.declared.State.{State}
 use Rattle.judge_target.specs.Target.{lifeAt, allowedAt, slotIn}
 use Rattle.apdu.specs.Apdu.{instruction}
+use Rattle.access.specs.declared.Decision.{Decision}
+use Rattle.access.specs.declared.Decision.the-variants.{Granted}
 use Rattle.card.specs.declared.Reply.the-variants.{Word}
 use Rattle.card.specs.Command.{PoolFits, replyOf, imageOf, responseOf}
 use Rattle.card.specs.Conditions.{FreeName, found}
@@ -41,7 +43,8 @@ rightOf r = cond (eqb (kindOf r) df) CreateDf CreateEf
 pub record Told (img pool c : List ℕ) (st : State) (response : List ℕ) (n : ℕ) : Type 0 where
   pub select : instruction c ≡ 0xA4
   pub word : ℕ
-  pub reply : replyOf img pool c st (length response) ≡ Word word n
+  pub security : Decision
+  pub reply : replyOf img pool c st (length response) ≡ Word word n security
   pub some : 1 ≤ n
 
 -- what it told, at the start of the response
@@ -90,7 +93,7 @@ MadeAgain = (img pool c : List ℕ) (st : State) (response : List ℕ) (n : ℕ)
     → Bytes img → Sound img → Told img pool c st response n → newLife (lifeCycleOf (recAt img (found img c))) ≡ true
     → Sends (recAt img (found img c)) (toldBy img pool c st response n) sent
     → Sound other → Welcomes img other bodies (recAt img (found img c)) state
-    → (replyOf other bodies (createOf sent) state (length buffer) ≡ Word 0x9000 0)
+    → (replyOf other bodies (createOf sent) state (length buffer) ≡ Word 0x9000 0 Granted)
     × (recAt (imageOf other bodies (createOf sent) state (length buffer)) (newSlot other)
     ≡ splice (startedAt (versionOf img) (recAt img (found img c)) (newStart other (recAt img (found img c)))) 6
     (be16 (currentDfOf other) ++ be16 (viewAt other (currentDfOf other) .level + 1)))

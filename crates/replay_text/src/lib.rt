@@ -86,7 +86,11 @@ fn step(image: &mut [u8], command: &[u8]) -> u16
     let mut none = [0u8; 0];
     let reply = card::command(image, &mut none, command, &mut response[..67], state);
     match reply {
-        Reply::Word { word, told } => word,
+        Reply::Word {
+            word,
+            told,
+            security,
+        } => word,
         Reply::Damaged => 0,
         Reply::Short => 0,
         Reply::WrongPool => 0,
@@ -159,7 +163,13 @@ fn perform(s: &[u8], image: &mut [u8], out: &mut [u8]) -> usize
     ensures { λ r. ⌜ Wrote r (now (out .entry)) (now (out .exit)) (performOf (now (s .entry)) (now (image .entry))) ⌝ }
 {
     let total = numbers::u32_at(s, 7);
-    let made = maker::fresh::make(image, Edition { version: 1 }, total, 0, &[0x7F, 0, 0, 0, 0, 0, 0, 0]);
+    let made = maker::fresh::make(
+        image,
+        Edition { version: 1 },
+        total,
+        0,
+        &[0x7F, 0, 0, 0, 0, 0, 0, 0],
+    );
     match made {
         Made::Done => run(s, image, out),
         Made::BadLength => put_bad(out),

@@ -14,6 +14,7 @@ use Rattle.rows.specs.Templates.{TemplatesTold, FilesRemade}
 use Rattle.rows.specs.Forms.{FormsTold, FormsOpen, FormsJudged, FormsKept, FormsRemade}
 use Rattle.rows.specs.Bodies.{BinaryRead, LongRead, BinaryWritten, RecordsTold, StatesTried, RightsAsked, PoolsLent, BodiesMoved}
 use Rattle.rows.specs.Bodies.{BodiesPacked}
+use Rattle.rows.specs.Security.{DeletesTold, StepsTold, AnswersTold}
 use Rattle.rows.specs.Fresh.{FreshBytes}
 use Rattle.rows.proofs.Opened.{a-call}
 
@@ -109,6 +110,18 @@ bodies-moved x = refl
 pub bodies-packed : BodiesPacked
 unfolding a-call
 bodies-packed x = refl
+
+pub deletes-told : DeletesTold
+unfolding a-call
+deletes-told = (refl, refl, refl, refl, refl)
+
+pub steps-told : StepsTold
+unfolding a-call
+steps-told = (refl, refl, refl, refl, refl, refl, refl)
+
+pub answers-told : AnswersTold
+unfolding a-call
+answers-told = (refl, refl, refl, refl, refl)
 
 pub fresh-bytes : FreshBytes
 unfolding longestRule headBytes field recordBytes freshHeader fresh

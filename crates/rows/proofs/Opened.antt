@@ -13,6 +13,7 @@ use Rattle.expanded.specs.Object.{objectsFrom, objectsOf as objectsIn, every, s
 use Rattle.expanded.specs.Condition.{formedPlain, isTemplate as isNesting, formed, scOf, holdsPlain, holds}
 use Rattle.expanded.specs.Expanded.{isAm, amAfter, inPlace, goesOn, expandedFormed, opens, opensOne, expandedGrants}
 use Rattle.access.specs.Access.{wellFormed, fitsRecord, grantedOf}
+use Rattle.access.specs.Decision.{decisionOf}
 use Rattle.rules.specs.Value.{goodIdentifier, wholeRecords, goodLength}
 use Rattle.create_data.specs.Data.{isTemplate, ruleGood, bothGood, nameGood, newFile, dfOf, sizedEf, efOf, fileOf, dataOf}
 use Rattle.create_data.specs.Form.{lacks, has, onePrivate, oneRule, ruleIn, formIn, firstForm, dfForm, efForm}
@@ -39,7 +40,7 @@ use Rattle.sound.specs.Sound.{headerb, recordsb, currentb, bodiesb, soundb}
 use Rattle.sound.specs.Table.{up, upward, chargeOf, charged}
 use Rattle.kinship.specs.Search.{isDfNamed, dfNamed}
 use Rattle.judge_target.specs.Steps.{followed}
-use Rattle.judge_target.specs.Target.{currentFile, allowedAt, itself, selected}
+use Rattle.judge_target.specs.Target.{currentFile, allowedAt, decisionAt, itself, selected}
 use Rattle.apdu.specs.Apdu.{isTerminate, isKnown, wantsAlone, otherChannel, crowded, wantsTemplate, goodParameters, fitParameters}
 use Rattle.apdu.specs.Apdu.{isBinary, isRecord, isRead, isUpdate, isBody, isOld, isFive, asked}
 use Rattle.apdu.specs.Apdu.{hasData, isSeven, isEight, fitLength, onOtherChannel}
@@ -49,6 +50,7 @@ use Rattle.judge_create.specs.Creation.{takesFiles}
 use Rattle.judge_commands.specs.Commands.{selectWord, selecting, mayDelete}
 use Rattle.judge_bodies.specs.Bodies.{binary, hasRecord, recordwise}
 use Rattle.judge.specs.Judge.{lifePlan, bodyPlan, planFor, judgeFor, judgeOf}
+use Rattle.judge_security.specs.Security.{efDecision, deletion, lifeDecision, decisionFor, stepJ, denialOf}
 use Rattle.card.specs.Command.{poolFits, fits, dueOf, replyOf, imageOf, poolOf, responseOf}
 
 unfoldable pub a-call : Unit {0}
@@ -68,6 +70,6 @@ unfolding part splice sameList implies either allBelow anyBelow firstBelow sumBe
     bodiesb soundb up upward chargeOf charged isDfNamed dfNamed followed currentFile allowedAt itself selected isTerminate isKnown
     wantsAlone otherChannel crowded wantsTemplate goodParameters fitParameters isBinary isRecord isRead isUpdate isBody isOld isFive asked
     hasData isSeven isEight fitLength onOtherChannel takesFiles selectWord selecting mayDelete binary hasRecord recordwise lifePlan
-    bodyPlan planFor judgeFor judgeOf recordBytesOf sizeTag bodyOf templateOf withC6 chosen poolFits fits dueOf replyOf imageOf poolOf
-    responseOf
+    bodyPlan planFor judgeFor judgeOf recordBytesOf sizeTag bodyOf templateOf withC6 chosen decisionOf decisionAt efDecision deletion lifeDecision
+    decisionFor stepJ denialOf poolFits fits dueOf replyOf imageOf poolOf responseOf
 a-call = tt

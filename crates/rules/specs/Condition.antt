@@ -1,5 +1,6 @@
 -- An SC byte against the three sets of the caller (01 "Descriptor and rules", SC).
-use Prim.Native.Nat.{ℕ, _/_, _%_, _^_}
+use Prim.Native.Nat.{ℕ, _/_, _%_, _^_, _<_}
+use mathlib.Core.Path.{_≡_}
 use mathlib.Core.Bool.{Bool, true, false, cond, _&&_, _||_}
 use lib.Dec.{eqb}
 use Rattle.rules.specs.declared.Sets.{Sets}
@@ -36,3 +37,9 @@ holdsOf sc x =
     (cond (eqb (sc % 16) 15) false
     (cond (eqb (sc / 16 % 8) 0) false
     (cond (eqb (sc / 128) 1) (allOf sc x) (oneOf sc x)))))
+
+-- y has each environment that x has, of each kind (02 Ticket 6)
+pub record Wider (x y : Sets) : Type 0 where
+  pub messaging : (n : ℕ) → n < 16 → bit (x .messaging) n ≡ true → bit (y .messaging) n ≡ true
+  pub external : (n : ℕ) → n < 16 → bit (x .external) n ≡ true → bit (y .external) n ≡ true
+  pub user : (n : ℕ) → n < 16 → bit (x .user) n ≡ true → bit (y .user) n ≡ true

@@ -56,9 +56,12 @@ same-length-6 c = search needs
 returns-3 : tie.Need-returns-3
 returns-3 c = search call-short
 
+denial-requires : tie.Need-denial-requires
+denial-requires c κs = (search call-sound, c .before .before .before .before .before .before .before .before .before .before .judge .ensures)
+
 apply-requires : tie.Need-apply-requires
 apply-requires c κs =
-    let j = c .before .before .before .before .before .before .before .before .before .before .before in
+    let j = c .before .before .before .before .before .before .before .before .before .before .before .before .before in
     let w = j .before .before .before .before in
     let r = w .before .before .before .before in
     call-applies _ _ _ _ (r .before .sound .ensures) (r .if1 .left) (w .before .pool-fits .ensures) (w .if2 .left) (j .judge .ensures)
@@ -96,6 +99,7 @@ command-spec =
     same-length-5
     same-length-6
     returns-3
+    denial-requires
     apply-requires
     same-length-7
     same-length-8

@@ -1,0 +1,4 @@
+pub mod Gates
+pub mod Deciding
+pub mod Gated
+pub mod Sure
