@@ -150,6 +150,27 @@ static void moving(void)
     must("where a body starts then", (uint32_t)(image[16 + 64 * 2 + 62] << 8 | image[16 + 64 * 2 + 63]), 0);
 }
 
+/* A refusal whose rule is asked once more to its end, under everything: as deep as it can be, and closed by its last byte; of a
+ * compact rule, which has one group, by all of them. */
+static void closed(void)
+{
+    const uint8_t head[] = {0x00, 0xE0, 0x00, 0x00, 0x00, 0x62, 0x00, 0x82, 0x02, 0x41, 0x21, 0x83, 0x02,
+                            0x6F, 0x07, 0x8A, 0x01, 0x05, made->tag, made->rule_length};
+    const uint8_t tail[] = {0x80, 0x02, 0x00, 0x01}, deactivate[] = {0x00, 0x04, 0x00, 0x00};
+    uint8_t create[sizeof head + HULL_RULE_MOST + sizeof tail];
+    size_t end = sizeof head + made->rule_length, from = made->form == HULL_COMPACT ? 7 : 1;
+    memcpy(create, head, sizeof head);
+    memcpy(create + sizeof head, made->rule, made->rule_length);
+    memset(create + end - from, 0xFF, from);
+    memcpy(create + end, tail, sizeof tail);
+    end += sizeof tail;
+    create[4] = (uint8_t)(end - 5), create[6] = (uint8_t)(end - 7);
+    must("make", run(make), HULL_DONE);
+    must("CREATE of an EF that nobody opens", play(create, end), 0x9000);
+    must("DEACTIVATE of it", play(deactivate, sizeof deactivate), 0x6982);
+    must("what it lacks", numbers[1], HULL_CLOSED);
+}
+
 /* Every call, on a card as deep as it can be. */
 static void calls(void)
 {
@@ -162,6 +183,7 @@ static void calls(void)
     response_length = sizeof response;
     pool_length = made->kind == HULL_VERSION_3 ? sizeof pool : 0;
     if (pool_length > 0) moving();
+    closed();
     must("make", run(make), HULL_DONE);
     for (level = 0; level < 900; level++) must("CREATE of a DF", play(directory, df(directory, level)), 0x9000);
     must("CREATE of an EF", ef(7, 300), 0x9000);

@@ -163,13 +163,7 @@ fn perform(s: &[u8], image: &mut [u8], out: &mut [u8]) -> usize
     ensures { λ r. ⌜ Wrote r (now (out .entry)) (now (out .exit)) (performOf (now (s .entry)) (now (image .entry))) ⌝ }
 {
     let total = numbers::u32_at(s, 7);
-    let made = maker::fresh::make(
-        image,
-        Edition { version: 1 },
-        total,
-        0,
-        &[0x7F, 0, 0, 0, 0, 0, 0, 0],
-    );
+    let made = maker::fresh::make(image, Edition { version: 1 }, total, 0, &[0x7F, 0, 0, 0, 0, 0, 0, 0]);
     match made {
         Made::Done => run(s, image, out),
         Made::BadLength => put_bad(out),
