@@ -3,8 +3,9 @@
 use mathlib.Core.Path.{_≡_}
 use mathlib.Core.Bool.{true, false, cond}
 use mathlib.Core.List.{List, [], _∷_}
+use mathlib.Core.Logic.{_⊎_, _↔_}
 use Prim.Native.Nat.{ℕ}
-use lib.ListN.{length}
+use lib.ListN.{length, getD}
 use Rattle.laws.specs.Settled.{Settles}
 use Rattle.maker.specs.declared.Edition.{Edition}
 use Rattle.sound.specs.Sound.{soundb}
@@ -44,9 +45,9 @@ pub record EachSettles : Type 0 where
   pub sound : (img : List ℕ) → Settles ℕ (HullSound img)
 
 -- the numbers that C sees (`hull-numbers`): a command on a damaged image gives 65536, one whose data don't fit 327680, one with a pool of a
--- wrong length 393216, each with three zeros, any other its word, how many bytes were told, and 1 or 2 with 6982 or 0 with another word
--- (card/specs/Security, `NumberExactly`); hull_sound gives 1 for a sound image and 0 for any other. Those of hull_make and hull_report are
--- the maker's and the report's (maker/specs, `MakerAnswers`, `ReportAnswers`)
+-- wrong length 393216, each with three zeros, any other its word and how many bytes were told; the second number is 1 or 2 exactly with
+-- 6982, and else 0; hull_sound gives 1 for a sound image and 0 for any other. Those of hull_make and hull_report are the maker's and the
+-- report's (maker/specs, `MakerAnswers`, `ReportAnswers`)
 pub record HullNumbers : Type 0 where
   pub damaged : (img pool c : List ℕ) (st : State) (response : List ℕ) (r : ℕ) (left kept answered numbers : List ℕ)
       → HullCommand img pool c st response r left kept answered numbers → soundb img ≡ false
@@ -61,5 +62,8 @@ pub record HullNumbers : Type 0 where
       → HullCommand img pool c st response r left kept answered numbers → answerNumber (replyOf img pool c st (length response)) ≡ 0
       → (r ≡ answerWord (replyOf img pool c st (length response)))
       × (numbers ≡ answerTold (replyOf img pool c st (length response)) ∷ answerSecurity (replyOf img pool c st (length response)) ∷ 0 ∷ [])
+  pub security : (img pool c : List ℕ) (st : State) (response : List ℕ) (r : ℕ) (left kept answered numbers : List ℕ)
+      → HullCommand img pool c st response r left kept answered numbers
+      → (((getD numbers 1 0 ≡ 1) ⊎ (getD numbers 1 0 ≡ 2)) ↔ (r ≡ 0x6982)) × ((r ≡ 0x6982 → ⊥) → getD numbers 1 0 ≡ 0)
   pub sound : (img : List ℕ) (r : ℕ) → HullSound img r → soundb img ≡ true → r ≡ 1
   pub unsound : (img : List ℕ) (r : ℕ) → HullSound img r → soundb img ≡ false → r ≡ 0

@@ -1,5 +1,5 @@
--- Both sides of each line of what a rule decides (02 Ticket 6), computed: rules of either form under some sets, each with 02's number of its
--- decision. Proved in proofs/Lines, `decisions-told`.
+-- Both sides of each line of what a rule decides (02 Ticket 6), computed: rules of either form under some sets, each with 02's number of
+-- its decision. Proved in proofs/Lines, `decisions-told`.
 use Prim.Native.Nat.{ℕ}
 use mathlib.Core.Path.{_≡_}
 use mathlib.Core.List.{List, [], _∷_, _++_}

@@ -2,16 +2,15 @@
 use mathlib.Core.Path.{_≡_, refl, sym, ap, _∙_}
 use mathlib.Core.Bool.{Bool, true, false, cond, not, false≢true}
 use mathlib.Core.List.{List, []}
-use mathlib.Core.Logic.{_⊎_, _↔_, inl, inr, ⊎-elim}
+use mathlib.Core.Logic.{_⊎_, inl, inr, ⊎-elim}
 use Prim.Native.Nat.{ℕ, _≤_}
 use native.Mathlib.Omega.{arith}
-use lib.Dec.{eqb}
 use lib.ListN.{length}
-use borrow.Author.Tests.{eqb-true, eq-eqb, not-true, not-false}
+use borrow.Author.Tests.{eqb-true, eq-eqb, not-true}
 use Rattle.laws.proofs.Says.{same-or}
 use Rattle.rules.specs.declared.Right.the-variants.{DeleteSelf, DeleteChild}
 use Rattle.rules.specs.declared.Sets.{Sets}
-use Rattle.image.specs.Layout.{countOf, currentDfOf}
+use Rattle.image.specs.Layout.{currentDfOf}
 use Rattle.access.specs.declared.Decision.{Decision}
 use Rattle.access.specs.declared.Decision.the-variants.{Granted, Lacking, Closed}
 use Rattle.access.specs.Decision.{IsState, decisionNumber, isGranted, either}
@@ -23,19 +22,18 @@ use Rattle.verdict.specs.declared.Verdict.{Verdict}
 use Rattle.verdict.specs.declared.Verdict.the-variants.{Refuse, Select, Create, Delete, SetLife, Read, Update}
 use Rattle.verdict.specs.Applied.{wordOf}
 use Rattle.verdict.specs.Words.{securityNotSatisfied}
-use Rattle.apdu.specs.Apdu.{instruction}
 use Rattle.judge.specs.Judge.{judgeOf}
 use Rattle.judge_target.specs.Target.{decisionAt}
 use Rattle.judge_security.specs.Security.{isDenied, deletion, decisionFor, stepJ, denialOf, holdsJ, under}
 use Rattle.judge_security.proofs.Gated.{judge-gated, judge-tells}
-use Rattle.judge_security.proofs.Sure.{Sure, step-sure}
+use Rattle.judge_security.proofs.Sure.{step-sure}
 use Rattle.effect.specs.Told.{told}
 use Rattle.card.specs.declared.Reply.{Reply}
 use Rattle.card.specs.declared.Reply.the-variants.{Word, Damaged, Short, WrongPool}
 use Rattle.card.specs.Command.{answerNumber, answerWord, answerSecurity, poolFits, PoolFits, dueOf, replyOf}
 use Rattle.card.specs.Steps.{stepsOf}
 use Rattle.card.specs.Conditions.{namedChild}
-use Rattle.card.specs.Security.{NumberExactly, PassesJ, LacksExactly, OtherStates, DeleteLacks}
+use Rattle.card.specs.Security.{NumberExactly, LacksExactly, OtherStates, DeleteLacks}
 use Rattle.card.proofs.Speaks.{Spoken}
 use Rattle.card.proofs.Due.{pool-says, due-by, due-speaks, due-fits, due-wrong}
 use Rattle.card.proofs.Answered.{damaged-word, word-is, security-is}
@@ -66,7 +64,7 @@ one-or-two Lacking e = inl refl
 one-or-two Closed e = inr refl
 
 -- a reply with that word is answer 0
-word-answers : (r : Reply) → answerWord r ≡ 0x6982 → answerNumber r ≡ 0
+pub word-answers : (r : Reply) → answerWord r ≡ 0x6982 → answerNumber r ≡ 0
 word-answers (Word w n d) e = refl
 word-answers Damaged e = absurd (omega arith)
 word-answers Short e = absurd (omega arith)

@@ -1,7 +1,7 @@
 -- What a security refusal lacks (02 Ticket 6): the number of a call, as statements over what it gives (specs/Command). Each is proved in
 -- proofs/Security under the same name in small letters.
 use mathlib.Core.Path.{_≡_}
-use mathlib.Core.Bool.{true, false}
+use mathlib.Core.Bool.{true}
 use mathlib.Core.List.{List}
 use mathlib.Core.Logic.{_⊎_, _↔_}
 use Prim.Native.Nat.{ℕ}
@@ -36,8 +36,8 @@ LacksExactly = (img pool c : List ℕ) (st : State) (lent : ℕ) → answerWord 
     → ((answerSecurity (replyOf img pool c st lent) ≡ 1) ↔ ((y : Sets) × (IsState y × PassesJ img c st y)))
     × ((answerSecurity (replyOf img pool c st lent) ≡ 2) ↔ ((y : Sets) → PassesJ img c st y → ⊥))
 
--- .. and told by nothing but replies: the same call under another state is refused with another word, or not at all; or it is refused with
--- 6982 under every one
+-- .. and told by nothing but replies: 1 exactly if the same call under some state gives another word (0000 of answer 5 among them), 2
+-- exactly if it gives 6982 under every one
 abbrev pub OtherStates : Type 0
 OtherStates = (img pool c : List ℕ) (st : State) (lent : ℕ) → answerWord (replyOf img pool c st lent) ≡ 0x6982
     → ((answerSecurity (replyOf img pool c st lent) ≡ 1)

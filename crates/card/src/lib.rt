@@ -10,9 +10,9 @@ use access::Decision;
 use fcp::Written;
 use verdict::State;
 
-// What a call answers: the word of a command on a sound image, how many bytes it told, and what it lacks where it was refused for security;
-// or that the image is damaged; or that the response is too short for what the command would tell; or that the pool does not have the
-// length of this card's.
+// What a call answers: the word of a command on a sound image, how many bytes it told, and what it lacks where it was refused for security
+// (with any other word, where no rule was asked too, nothing: Granted); or that the image is damaged; or that the response is too short
+// for what the command would tell; or that the pool does not have the length of this card's.
 pub enum Reply {
     Word {
         word: u16,

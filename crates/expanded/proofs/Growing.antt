@@ -1,5 +1,4 @@
 -- What an expanded rule grants grows with what has been authenticated, however its conditions nest.
-use mathlib.Core.Path.{_≡_}
 use mathlib.Core.Bool.{Bool, true, false}
 use mathlib.Core.List.{List, [], _∷_}
 use Prim.Native.Nat.{ℕ, zero, suc, _/_, _%_}

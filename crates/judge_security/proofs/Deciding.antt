@@ -1,11 +1,11 @@
 -- What the functions of step J find, way out by way out.
-use mathlib.Core.Path.{_≡_, refl, sym, ap, _∙_}
+use mathlib.Core.Path.{_≡_, sym, ap, _∙_}
 use mathlib.Core.Bool.{Bool, true, false, cond, not}
 use mathlib.Core.List.{List}
 use Prim.Native.Nat.{ℕ, _<_, _≤_}
-use lib.Dec.{eqb, leb}
+use lib.Dec.{eqb}
 use lib.ListN.{length}
-use borrow.Author.Tests.{ne-eqb, eq-eqb, leb-true, not-true, not-false}
+use borrow.Author.Tests.{ne-eqb, eq-eqb, not-true, not-false}
 use Rattle.rules.specs.declared.Right.{Right}
 use Rattle.rules.specs.declared.Right.the-variants.{CreateDf, CreateEf}
 use Rattle.rules.specs.declared.Sets.{Sets}
@@ -22,11 +22,11 @@ use Rattle.create_data.specs.declared.Data.the-variants.{Df, Ef, Bad}
 use Rattle.create_data.specs.Data.{dataOf}
 use Rattle.verdict.specs.declared.State.{State}
 use Rattle.verdict.specs.declared.Verdict.{Verdict}
-use Rattle.verdict.specs.declared.Verdict.the-variants.{Refuse, Select, Create, Delete, SetLife, Read, Update}
+use Rattle.verdict.specs.declared.Verdict.the-variants.{Refuse}
 use Rattle.verdict.specs.Applied.{sentData}
 use Rattle.verdict.specs.Words.{securityNotSatisfied}
 use Rattle.judge_target.specs.Judgeable.{Judgeable}
-use Rattle.judge_target.specs.Target.{currentFile, decisionAt, slotIn, rightFor}
+use Rattle.judge_target.specs.Target.{decisionAt, slotIn, rightFor}
 use Rattle.judge_target.proofs.Finding.{slot-found, slot-none}
 use Rattle.judge_target.proofs.FromSound.{child-stands}
 use Rattle.apdu.specs.Apdu.{instruction, sentIdentifier, isRead, fitLength}

@@ -3,7 +3,7 @@ use mathlib.Core.Path.{_≡_, refl, ap, _∙_}
 use mathlib.Core.Bool.{Bool, true, false, cond, not, _||_}
 use mathlib.Core.List.{List, [], _∷_, _++_}
 use Prim.Native.Nat.{ℕ, _≤_}
-use lib.Dec.{eqb, leb}
+use lib.Dec.{eqb}
 use lib.ListN.{length}
 use borrow.Author.Tests.{leb-true}
 use Rattle.laws.proofs.Says.{and-says}
@@ -17,7 +17,7 @@ use Rattle.access.specs.declared.Decision.the-variants.{Granted}
 use Rattle.access.specs.Decision.{isGranted}
 use Rattle.access.proofs.Decided.{granted-stays, either-says}
 use Rattle.sound.specs.Table.{viewAt}
-use Rattle.sound.specs.Kinship.{childNamed, freeSlot}
+use Rattle.sound.specs.Kinship.{childNamed}
 use Rattle.create_data.specs.declared.Data.{Data}
 use Rattle.create_data.specs.declared.Data.the-variants.{Df, Ef, Bad}
 use Rattle.create_data.specs.Data.{dataOf}
@@ -26,12 +26,11 @@ use Rattle.verdict.specs.declared.Verdict.{Verdict}
 use Rattle.verdict.specs.Applied.{sentData}
 use Rattle.verdict.specs.Words.{securityNotSatisfied, conditionsNotSatisfied, notAllowed, notFound, wrongClass, wrongData, wrongInstruction, wrongLength, wrongParameters}
 use Rattle.apdu.specs.Apdu.{instruction, sentIdentifier, selectFile, createFile, deleteFile, activateFile, deactivateFile, terminateEf}
-use Rattle.apdu.specs.Apdu.{terminateDf, isBody, isBinary, isRead, parameters, recordNumber, asked, crowded, otherChannel, fitLength}
-use Rattle.judge_target.specs.Steps.{Step, step, Plan, plan, followed}
+use Rattle.apdu.specs.Apdu.{terminateDf, isBody, isBinary, isRead, crowded, otherChannel, fitLength}
+use Rattle.judge_target.specs.Steps.{Step, step, plan, followed}
 use Rattle.judge_target.specs.Target.{allowedAt, decisionAt, slotIn, isFound, rightFor, describes, creating, currentFile}
 use Rattle.judge_create.specs.Creation.{create}
-use Rattle.judge_commands.specs.Commands.{selecting, select, mayDelete, delete, activate, deactivate, terminateTheEf, terminateTheDf}
-use Rattle.judge_commands.specs.Commands.{terminateTheCard}
+use Rattle.judge_commands.specs.Commands.{selecting, select, mayDelete, delete}
 use Rattle.judge_bodies.specs.Bodies.{rightTo, touching, binary, recordwise}
 use Rattle.judge.specs.Shared.{sharedSteps}
 use Rattle.judge.specs.Judge.{lifePlan, bodyPlan, planFor, judgeFor, judgeOf}

@@ -1,16 +1,16 @@
 -- What step J decides is what was meant of it, over all states: where it is lacking some state grants, where it is closed none does.
-use mathlib.Core.Path.{_≡_, refl, sym, ap, _∙_}
+use mathlib.Core.Path.{_≡_, ap, _∙_}
 use mathlib.Core.Bool.{Bool, true, false, cond, _||_}
 use mathlib.Core.List.{List}
 use mathlib.Core.Logic.{_⊎_, inl, inr, ⊎-elim}
 use Prim.Native.Nat.{ℕ}
 use native.Mathlib.Omega.{arith}
 use lib.Dec.{eqb}
-use Rattle.laws.proofs.Says.{or-says, untrue}
+use Rattle.laws.proofs.Says.{or-says}
 use Rattle.rules.specs.declared.Right.{Right}
 use Rattle.rules.specs.declared.Right.the-variants.{DeleteSelf, Terminate, Activate, Deactivate, DeleteChild}
 use Rattle.rules.specs.declared.Sets.{Sets}
-use Rattle.image.specs.Layout.{versionOf, countOf, currentDfOf, currentEfOf, none, recAt, formOf, ruleOf}
+use Rattle.image.specs.Layout.{versionOf, countOf, currentDfOf, currentEfOf, none}
 use Rattle.access.specs.declared.Decision.{Decision}
 use Rattle.access.specs.declared.Decision.the-variants.{Granted, Lacking, Closed}
 use Rattle.access.specs.Decision.{IsState, decisionNumber, isGranted, either}

@@ -8,12 +8,13 @@ use Rattle.laws.specs.Lists.{splice}
 use Rattle.rules.specs.declared.Sets.{Sets}
 use Rattle.image.specs.Layout.{setLife}
 use Rattle.access.specs.Access.{compact}
+use Rattle.access.specs.Lines.{user1}
 use Rattle.sound.specs.Effects.{fresh}
 use Rattle.create_data.specs.Grammar.{object}
 use Rattle.card.specs.declared.Reply.{Reply}
 use Rattle.card.specs.Command.{answerNumber, answerWord, answerSecurity, replyOf}
 use Rattle.rows.specs.Calls.{with, blank, left, card, selectFile, deactivateFile, terminateEf}
-use Rattle.rows.specs.Rows.{sets, empty}
+use Rattle.rows.specs.Rows.{empty}
 use Rattle.rows.specs.Forms.{createRuled}
 use Rattle.rows.specs.Templates.{askFile}
 
@@ -24,12 +25,8 @@ said r = answerNumber r ∷ answerWord r ∷ answerSecurity r ∷ []
 abbrev pub given : Sets → List ℕ → List ℕ → List ℕ
 given x img c = said (replyOf img (blank img) c (with x) 0)
 
--- user 1
-abbrev pub user1 : Sets
-user1 = sets 0 0 0x0002
-
--- a card whose root creates always and lets children be deleted by one SC byte, with the EF 6F07, which may be deleted by another, deactivated
--- by user 1 and terminated never; a READ of it needs user 1
+-- a card whose root creates always and lets children be deleted by one SC byte, with the EF 6F07, which may be deleted by another,
+-- deactivated by user 1 and terminated never; a READ of it needs user 1
 abbrev pub twoRules : ℕ → ℕ → ℕ → List ℕ
 twoRules v above own =
     left empty (fresh v 3 128 compact (0x07 ∷ 0x00 ∷ 0x00 ∷ above ∷ []))
@@ -47,8 +44,8 @@ DeletesTold =
     × (given empty (twoRules 1 0x11 0x22) deleteIt ≡ 0 ∷ 0x6982 ∷ 1 ∷ [])
     × (given user1 (twoRules 1 0xFF 0x11) deleteIt ≡ 0 ∷ 0x9000 ∷ 0 ∷ [])
 
--- DEACTIVATE lacks user 1, with the life cycle that it asks for and without it; with user 1 it is done, or the life cycle refuses; TERMINATE
--- EF is closed; a file that is not there, and a SELECT, ask no rule
+-- DEACTIVATE lacks user 1, with the life cycle that it asks for and without it; with user 1 it is done, or the life cycle refuses;
+-- TERMINATE EF is closed; a file that is not there, and a SELECT, ask no rule
 abbrev pub StepsTold : Type 0
 StepsTold =
     (given empty (twoRules 1 0xFF 0xFF) deactivateFile ≡ 0 ∷ 0x6982 ∷ 1 ∷ [])

@@ -79,9 +79,13 @@ pub fn command(
     }
 }
 
-/// What answer 0 tells, with the library's number for what a refusal lacks.
+/// What answer 0 tells, with the library's number for what a refusal lacks. Only
+/// a security refusal lacks anything; with another word the number means nothing
+/// that is known.
 fn done(word: Word, lacking: u32, data_length: usize) -> Result<Answer, CommandError> {
-    let security = Security::of_number(lacking).ok_or(CommandError::UnknownSecurity(lacking))?;
+    let known = Security::of_number(lacking);
+    let fits = |security: &Security| *security == Security::NoRefusal || word == Word::SECURITY;
+    let security = known.filter(fits).ok_or(CommandError::UnknownSecurity(lacking))?;
     Ok(Answer { word, security, data_length })
 }
 
@@ -113,5 +117,9 @@ mod tests {
         for number in [3, 0x0001_0000, 0x0100_0002, u32::MAX] {
             assert_eq!(done(word, number, 0), Err(CommandError::UnknownSecurity(number)));
         }
+        for (number, word) in [(1, 0x9000), (2, 0x6985), (1, 0x6981)] {
+            assert_eq!(done(Word(word), number, 0), Err(CommandError::UnknownSecurity(number)));
+        }
+        assert!(done(Word(0x6985), 0, 0).is_ok());
     }
 }

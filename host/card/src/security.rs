@@ -35,8 +35,8 @@ impl Security {
     pub fn meaning(self) -> &'static str {
         match self {
             Security::NoRefusal => "security did not refuse it",
-            Security::Lacking => "lacking, more authentication opens it",
-            Security::Closed => "closed, no authentication opens it",
+            Security::Lacking => "lacking, more authentication opens the rule",
+            Security::Closed => "closed, no authentication opens the rule",
         }
     }
 }

@@ -140,8 +140,8 @@ mod tests {
     #[test]
     fn what_security_lacks_is_told() {
         for (security, words) in [
-            (Security::Lacking, "lacking, more authentication opens it"),
-            (Security::Closed, "closed, no authentication opens it"),
+            (Security::Lacking, "lacking, more authentication opens the rule"),
+            (Security::Closed, "closed, no authentication opens the rule"),
             (Security::NoRefusal, "no access rule allows this"),
         ] {
             let reply = Reply { word: Word::SECURITY, security, data: Vec::new() };

@@ -69,7 +69,8 @@ fn missing(asked: &[Asked], state: &State) -> Option<Need> {
     (missing != whole).then_some(missing)
 }
 
-/// The rules that a command asks on a card.
+/// The rules that a command asks on a card. The records of a sound card hold
+/// rules that can be read, so that none is left out.
 fn asked(command: &[u8], card: &Card) -> Vec<Asked> {
     let Some(card) = Decoded::decode(card.image()) else { return Vec::new() };
     let asked = |(slot, right): (usize, Right)| {

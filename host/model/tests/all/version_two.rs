@@ -66,7 +66,8 @@ fn the_maker_checks_2_then_3_then_4() {
 /// A fresh card of two slots, byte by byte, with a compact rule of 28 bytes, the
 /// version's longest expanded one and a short one.
 pub fn fresh_to_the_byte(version: u32, longest: usize) {
-    for (form, rule) in [(0, "0E000000".repeat(7)), (1, expanded_of(longest)), (1, expanded_of(5))] {
+    for (form, rule) in [(0, "0E000000".repeat(7)), (1, expanded_of(longest)), (1, expanded_of(5))]
+    {
         let rule = bytes(&rule);
         let image = made(version, 2, 64, form, &hex(&rule));
         let head = format!("55465400{version:02X}0002 0000FFFF 0000000000");

@@ -183,7 +183,7 @@ fn refusals_are_told_with_the_cards_word() {
     let ran = folder.fed(&["run", "-", "--image", "card"], &files);
     assert_eq!(ran.out.matches("9000").count(), 2, "{}", ran.out);
     let denied = "is answered 6982, security status not satisfied: \
-                  lacking, more authentication opens it; rule of 6F01";
+                  lacking, more authentication opens the rule; rule of 6F01";
     let err = folder.refused(1, &["read", "card", "6F01", "--user", "0000"]);
     let read = format!("6F01: READ BINARY from 0 {denied}, READ: user authentication 1\n");
     assert!(err.ends_with(&read), "{err}");

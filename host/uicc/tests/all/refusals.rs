@@ -3,13 +3,13 @@
 
 use crate::folder::Folder;
 
-const LACKING: &str = "6982  security status not satisfied: lacking, more authentication opens it";
-const CLOSED: &str = "6982  security status not satisfied: closed, no authentication opens it";
+const LACKING: &str = "6982  security status not satisfied: lacking, more authentication opens the rule";
+const CLOSED: &str = "6982  security status not satisfied: closed, no authentication opens the rule";
 
 /// A sentence about a command that no authentication opens, by a rule.
 pub fn closed(rule: &str) -> String {
     format!(
-        "is answered 6982, security status not satisfied: closed, no authentication opens it; \
+        "is answered 6982, security status not satisfied: closed, no authentication opens the rule; \
          rule of {rule}: never"
     )
 }
@@ -136,6 +136,6 @@ fn a_long_rule_is_readable() {
     }
     let err = folder.refused(1, &[&["read", "card", "6F07"], &NONE[..]].concat());
     let end =
-        "lacking, more authentication opens it; uicc show tells the long rule of 6F07, READ\n";
+        "lacking, more authentication opens the rule; uicc show tells the long rule of 6F07, READ\n";
     assert!(err.ends_with(end), "{err}");
 }
