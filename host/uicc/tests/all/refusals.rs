@@ -3,8 +3,10 @@
 
 use crate::folder::Folder;
 
-const LACKING: &str = "6982  security status not satisfied: lacking, more authentication opens the rule";
-const CLOSED: &str = "6982  security status not satisfied: closed, no authentication opens the rule";
+const LACKING: &str =
+    "6982  security status not satisfied: lacking, more authentication opens the rule";
+const CLOSED: &str =
+    "6982  security status not satisfied: closed, no authentication opens the rule";
 
 /// A sentence about a command that no authentication opens, by a rule.
 pub fn closed(rule: &str) -> String {
