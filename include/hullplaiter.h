@@ -80,7 +80,7 @@ extern "C" {
 #define HULL_COMMAND_NUMBERS 3u
 #define HULL_REPORT_NUMBERS 4u
 
-/* Stack that a call takes at most. The compiled library takes 34976 bytes; the rest is left for other builds of it. */
+/* Stack that a call takes at most. The compiled library takes 39728 bytes; the rest is left for other builds of it. */
 #define HULL_STACK_BYTES 49152u
 
 /* What card the maker makes: today the version of its image. A later version of this library joins a variant to it in
