@@ -44,6 +44,7 @@ static size_t length;
 static uint8_t response[HULL_RESPONSE_MOST];
 static size_t response_length;
 static uint32_t numbers[HULL_COMMAND_NUMBERS];
+static uint32_t slot, place[HULL_RULE_NUMBERS];
 static uint32_t given;
 
 static void make(void)
@@ -60,6 +61,11 @@ static void report(void)
 {
     uint32_t counts[HULL_REPORT_NUMBERS];
     given = hull_report(image, sizeof image, counts);
+}
+
+static void rule(void)
+{
+    given = hull_rule(image, sizeof image, pool_length == 0 ? NULL : pool, pool_length, slot, place);
 }
 
 /* Runs a call on the painted stack; gives what it returned. */
@@ -93,10 +99,10 @@ static uint32_t play(const uint8_t *one, size_t size)
     return run(command);
 }
 
-/* The CREATE of a DF in the current one, with a name and the card's rule. */
+/* The CREATE of a DF in the current one, with a name and the card's rule. The root keeps 512 bytes of room. */
 static size_t df(uint8_t *to, size_t level)
 {
-    uint32_t total = (uint32_t)(64 * (SLOTS - 2 - level));
+    uint32_t total = (uint32_t)(64 * (SLOTS - 2 - level) - 512);
     const uint8_t head[] = {0x00, 0xE0, 0x00, 0x00, 0x00, 0x62, 0x00, 0x82, 0x02, 0x78, 0x21, 0x83, 0x02,
                             (uint8_t)(0x70 + level / 256), (uint8_t)level, 0x84, 0x02, (uint8_t)(0xA0 + level / 256),
                             (uint8_t)level, 0x8A, 0x01, 0x05, made->tag, made->rule_length};
@@ -171,6 +177,36 @@ static void closed(void)
     must("what it lacks", numbers[1], HULL_CLOSED);
 }
 
+/* A file of one record in the root, which is as long as it can be, and so is the expanded rule in it, with one byte of padding:
+ * conditions that never hold, and behind them those of the card's own rule. */
+static void rule_file(void)
+{
+    const uint8_t create[] = {0x00, 0xE0, 0x00, 0x00, 0x18, 0x62, 0x16, 0x82, 0x04, 0x42, 0x21, 0x00, 0xFF, 0x83, 0x02, 0x6F,
+                              0x06, 0x8A, 0x01, 0x05, 0x8C, 0x03, 0x03, 0x00, 0x00, 0x80, 0x02, 0x00, 0xFF};
+    static uint8_t update[5 + 255] = {0x00, 0xDC, 0x01, 0x04, 0xFF, 0x80, 0x01, 0x7F};
+    size_t end = sizeof update - 1, last = end - (made->rule_length - 3u), i;
+    for (i = 8; i < last; i += 2) update[i] = 0x97, update[i + 1] = 0x00;
+    memcpy(update + last, made->rule + 3, made->rule_length - 3u);
+    update[end] = 0xFF;
+    must("CREATE of a rule file", play(create, sizeof create), 0x9000);
+    must("UPDATE of its record", play(update, sizeof update), 0x9000);
+}
+
+/* CREATE of an EF in the deepest DF that refers to a record of a file, a READ of it, and where its rule stands. */
+static void referred(uint8_t identifier, uint8_t named, uint32_t word, uint32_t lacks, uint32_t stands)
+{
+    const uint8_t create[] = {0x00, 0xE0, 0x00, 0x00, 0x16, 0x62, 0x14, 0x82, 0x02, 0x41, 0x21, 0x83, 0x02, 0x6F, identifier,
+                              0x8A, 0x01, 0x05, 0x8B, 0x03, 0x6F, named, 0x01, 0x80, 0x02, 0x00, 0x01};
+    const uint8_t read[] = {0x00, 0xB0, 0x00, 0x00, 0x01};
+    must("CREATE of an EF with a reference", play(create, sizeof create), 0x9000);
+    must("READ by a referred rule", play(read, sizeof read), word);
+    must("what it lacks", numbers[1], lacks);
+    for (slot = SLOTS - 1; image[16 + 64 * slot] == 0; slot--) continue;
+    must("where its rule stands", run(rule), HULL_DONE);
+    must("in which buffer", place[0], stands);
+    must("how many bytes it has", place[2], stands == HULL_IN_POOL ? 254 : 0);
+}
+
 /* Every call, on a card as deep as it can be. */
 static void calls(void)
 {
@@ -185,9 +221,17 @@ static void calls(void)
     if (pool_length > 0) moving();
     closed();
     must("make", run(make), HULL_DONE);
+    if (pool_length > 0) rule_file();
     for (level = 0; level < 900; level++) must("CREATE of a DF", play(directory, df(directory, level)), 0x9000);
     must("CREATE of an EF", ef(7, 300), 0x9000);
-    if (pool_length > 0) body();
+    if (pool_length > 0) {
+        body();
+        referred(8, 6, 0x9000, HULL_NO_SECURITY_REFUSAL, HULL_IN_POOL);
+        referred(9, 0xFE, 0x6982, HULL_CLOSED, HULL_NOWHERE);
+    }
+    slot = 0;
+    must("where the root's rule stands", run(rule), HULL_DONE);
+    must("in its record", place[0], HULL_IN_IMAGE);
     must("report", run(report), HULL_DONE);
     must("sound", run(sound), 1);
     must("an empty command", play(NULL, 0), 0x6700);

@@ -1,8 +1,8 @@
 -- From the case that an answer was found to be, to the number that the definitions give for what was promised.
 use native.Mathlib.Omega.{arith}
-use mathlib.Core.Path.{_≡_, sym, _∙_, ap}
+use mathlib.Core.Path.{_≡_, sym, _∙_, ap, subst}
 use mathlib.Core.List.{List, [], _∷_}
-use Prim.Native.Nat.{ℕ, _<_}
+use Prim.Native.Nat.{ℕ, _-_, _<_, _≤_}
 use Rattle.maker.specs.declared.Edition.{Edition}
 use Rattle.access.specs.declared.Decision.{Decision}
 use Rattle.access.specs.Decision.{decisionNumber}
@@ -12,7 +12,13 @@ use Rattle.card.specs.declared.Reply.the-variants.{Word}
 use Rattle.card.specs.Command.{answerTold, CommandPromises}
 use Rattle.maker.specs.declared.Made.{Made}
 use Rattle.maker.specs.Making.{leftBy}
-use Rattle.abi.specs.Numbers.{packed, toldNumbers}
+use Rattle.referred.specs.declared.Place.{Place}
+use Rattle.referred.specs.declared.Place.the-variants.{Nowhere, InImage, InPool}
+use Rattle.referred.specs.Deciding.{beginOf, endOf, Bounded}
+use Rattle.card.specs.declared.Ruling.{Ruling}
+use Rattle.card.specs.declared.Ruling.the-variants.{At}
+use Rattle.card.specs.Ruling.{RulingBounded}
+use Rattle.abi.specs.Numbers.{packed, toldNumbers, placeNumbers}
 use Rattle.abi.specs.Promises.{HullCommand}
 
 -- r is what a callee answered: the case k, and the value x that it promises
@@ -54,3 +60,29 @@ commanded p f g = record {
   response-is = p .response-is;
   numbers-are = g ∙ ap toldNumbers (p .reply);
 }
+
+-- p is a place, found to be a case of it: its numbers, which are small
+module _ (p : Place) (b : Bounded p) {from to : ℕ} where
+  pub image-order : p ≡ InImage from to → from ≤ to
+  image-order e = omega (arith, ap beginOf e, ap endOf e, b .order)
+
+  pub image-narrow : p ≡ InImage from to → (from < 4294967296) × (to - from < 4294967296)
+  image-narrow e =
+      let f : beginOf p ≡ from = ap beginOf e in
+      let g : endOf p ≡ to = ap endOf e in
+      (omega (arith, f, g, b .order, b .short), omega (arith, f, g, b .order, b .short))
+
+  pub pool-order : p ≡ InPool from to → from ≤ to
+  pool-order e = omega (arith, ap beginOf e, ap endOf e, b .order)
+
+  pub pool-narrow : p ≡ InPool from to → (from < 4294967296) × (to - from < 4294967296)
+  pool-narrow e =
+      let f : beginOf p ≡ from = ap beginOf e in
+      let g : endOf p ≡ to = ap endOf e in
+      (omega (arith, f, g, b .order, b .short), omega (arith, f, g, b .order, b .short))
+
+pub place-case : (p k : Place) {m : List ℕ} → p ≡ k → m ≡ placeNumbers k → m ≡ placeNumbers p
+place-case p k e f = f ∙ ap placeNumbers (sym e)
+
+pub ruling-case : {r : Ruling} {p : Place} → RulingBounded r → r ≡ At p → Bounded p
+ruling-case b e = subst RulingBounded e b

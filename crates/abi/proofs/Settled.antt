@@ -9,6 +9,7 @@ use Rattle.verdict.specs.declared.State.{State}
 use Rattle.card.specs.declared.Reply.{Reply}
 use Rattle.card.specs.declared.Reply.the-variants.{Word, Damaged, Short, WrongPool}
 use Rattle.card.specs.Command.{answerNumber, answerWord, answerSecurity, replyOf}
+use Rattle.card.specs.Ruling.{rulingOf}
 use Rattle.card.proofs.Security.{word-answers, number-exactly}
 use Rattle.laws.proofs.Settling.{settled, both-are, pair-settled}
 use Rattle.abi.specs.Promises.{HullCommand, HullSound, EachSettles, HullNumbers}
@@ -23,6 +24,7 @@ each-settles = record {
       (both-are _ _ (p .1 .1 .1) (k .response-is) (k .numbers-are)))));
   report = λ img. pair-settled _ _;
   sound = λ img. settled (HullSound img) _ (λ x e. e);
+  rule = λ img pool slot. pair-settled _ _;
 }
 
 -- a reply's number, where its answer is 0
@@ -57,7 +59,7 @@ security-told img pool c st o r left kept y numbers p = (
     second = ap (λ (l : List ℕ). getD l 1 0) (p .numbers-are)
 
 pub hull-numbers : HullNumbers
-unfolding replyOf
+unfolding replyOf rulingOf
 hull-numbers = record {
   damaged = λ img pool c st o r left kept y numbers p e. (p .result ∙ rw e, p .numbers-are ∙ rw e);
   short = λ img pool c st o r left kept y numbers p e. (p .result ∙ ap packed e, p .numbers-are ∙ ap toldNumbers e);
@@ -66,4 +68,6 @@ hull-numbers = record {
   security = security-told;
   sound = λ img r p e. p ∙ rw e;
   unsound = λ img r p e. p ∙ rw e;
+  unruled = λ img pool slot r numbers p e. (p .0 ∙ rw e, p .1 ∙ rw e);
+  misruled = λ img pool slot r numbers p e f. (p .0 ∙ rw (e, f), p .1 ∙ rw (e, f));
 }

@@ -1,10 +1,14 @@
 -- How the numbers of a C call stand for what 01 and 02 name: the card that is made, the state that a command is given, and its reply as
 -- one number.
-use Prim.Native.Nat.{ℕ, _+_, _*_}
+use Prim.Native.Nat.{ℕ, _+_, _*_, _-_}
 use mathlib.Core.List.{List, [], _∷_}
 use Rattle.maker.specs.declared.Edition.{Edition}
 use Rattle.verdict.specs.declared.State.{State}
 use Rattle.card.specs.declared.Reply.{Reply}
+use Rattle.card.specs.declared.Ruling.{Ruling}
+use Rattle.card.specs.declared.Ruling.the-variants.{At, Damaged, WrongPool}
+use Rattle.referred.specs.declared.Place.{Place}
+use Rattle.referred.specs.declared.Place.the-variants.{Nowhere, InImage, InPool}
 use Rattle.card.specs.Command.{answerNumber, answerWord, answerTold, answerSecurity}
 
 -- the kind of card: its version
@@ -26,3 +30,14 @@ packed r = answerNumber r * 65536 + answerWord r
 -- bytes moved (02 Ticket 8), and is 0
 abbrev pub toldNumbers : Reply → List ℕ
 toldNumbers r = answerTold r ∷ answerSecurity r ∷ 0 ∷ []
+
+-- where a rule stands (02 Ticket 7): 0 nowhere, 1 in the image, 2 in the pool; its first byte; how many bytes it has
+abbrev pub placeNumbers : Place → List ℕ
+placeNumbers Nowhere = 0 ∷ 0 ∷ 0 ∷ []
+placeNumbers (InImage from to) = 1 ∷ from ∷ (to - from) ∷ []
+placeNumbers (InPool from to) = 2 ∷ from ∷ (to - from) ∷ []
+
+abbrev pub rulingNumbers : Ruling → List ℕ
+rulingNumbers (At p) = placeNumbers p
+rulingNumbers Damaged = 0 ∷ 0 ∷ 0 ∷ []
+rulingNumbers WrongPool = 0 ∷ 0 ∷ 0 ∷ []

@@ -4,13 +4,16 @@ ghost use mathlib.Core.Path.{_≡_};
 ghost use Prim.Native.Nat.{_<_};
 ghost use Rattle.access.specs.Decision.{decisionNumber};
 ghost use Rattle.card.specs.Command.{answerTold};
-ghost use Rattle.abi.specs.Numbers.{editionOf, stateOf, packed, toldNumbers};
-ghost use Rattle.abi.specs.Promises.{HullMake, HullCommand, HullReport, HullSound};
+ghost use Rattle.referred.specs.Deciding.{Bounded};
+ghost use Rattle.abi.specs.Numbers.{editionOf, stateOf, packed, toldNumbers, placeNumbers};
+ghost use Rattle.abi.specs.Promises.{HullMake, HullCommand, HullReport, HullSound, HullRule};
 use access::Decision;
 use card::Reply;
+use card::Ruling;
 use maker::Edition;
 use maker::Made;
 use maker::Reported;
+use referred::Place;
 use rules::Sets;
 use verdict::State;
 
@@ -130,4 +133,38 @@ pub extern "C" fn hull_sound(image: &[u8]) -> u32
         return 1;
     }
     0
+}
+
+// A place as three numbers: 0 nowhere, 1 in the image, 2 in the pool; the first byte; how many there are.
+fn place_numbers(place: Place) -> [u32; 3]
+    requires { ⌜ Bounded place ⌝ }
+    ensures { λ r. ⌜ r ≡ placeNumbers place ⌝ }
+{
+    match place {
+        Place::Nowhere => [0, 0, 0],
+        Place::InImage { from, to } => [1, from as u32, (to - from) as u32],
+        Place::InPool { from, to } => [2, from as u32, (to - from) as u32],
+    }
+}
+
+// Where the rule that decides on the file in a slot stands: the answer, and three numbers in the lent array.
+#[no_mangle]
+pub extern "C" fn hull_rule(image: &[u8], pool: &[u8], slot: u32, numbers: &mut [u32; 3]) -> u32
+    ensures { λ r. ⌜ HullRule (now (image .entry)) (now (pool .entry)) slot r (now (numbers .exit)) ⌝ }
+{
+    let found = card::standing::ruling(image, pool, slot as usize);
+    match found {
+        Ruling::At(place) => {
+            *numbers = place_numbers(place);
+            0
+        }
+        Ruling::Damaged => {
+            *numbers = [0, 0, 0];
+            1
+        }
+        Ruling::WrongPool => {
+            *numbers = [0, 0, 0];
+            6
+        }
+    }
 }

@@ -38,7 +38,7 @@ module _ (v form : ℕ) (rule : List ℕ) where
   pub fits-short : fitsRecord v form rule ≡ true → length rule ≤ longestRule v
   fits-short e = fits-says .0 e .short
 
-  pub fits-form : fitsRecord v form rule ≡ true → form < 2
+  pub fits-form : fitsRecord v form rule ≡ true → form < 3
   fits-form e = omega (arith, fits-says .0 e .known, forms-few v)
 
   -- one test after the other: m is what the version has for a rule, n how many forms

@@ -1,11 +1,12 @@
 -- Both sides of each line of what a rule decides (02 Ticket 6), computed: rules of either form under some sets, each with 02's number of
--- its decision. Proved in proofs/Lines, `decisions-told`.
+-- its decision; then which referred rules are well formed (02 Ticket 7). Proved in proofs/Lines, `decisions-told` and `references-told`.
 use Prim.Native.Nat.{ℕ}
 use mathlib.Core.Path.{_≡_}
+use mathlib.Core.Bool.{true, false}
 use mathlib.Core.List.{List, [], _∷_, _++_}
 use Rattle.rules.specs.declared.Right.the-variants.{Activate, Deactivate}
 use Rattle.rules.specs.declared.Sets.{Sets}
-use Rattle.access.specs.Access.{compact, expanded}
+use Rattle.access.specs.Access.{compact, expanded, referred, wellFormed}
 use Rattle.access.specs.Decision.{full, decisionNumber, decisionOf}
 
 abbrev pub nobody : Sets
@@ -79,3 +80,15 @@ Nested =
 
 abbrev pub DecisionsTold : Type 0
 DecisionsTold = SingleBytes × NeverOpened × SeveralBytes × SingleObjects × Nested
+
+-- a reference has three bytes, and no more or less; asked itself it is closed, whatever they are
+abbrev pub ReferencesTold : Type 0
+ReferencesTold =
+    ((wellFormed referred [] ∷ wellFormed referred (0x6F ∷ 0x06 ∷ []) ∷ wellFormed referred (0x6F ∷ 0x06 ∷ 0x01 ∷ [])
+    ∷ wellFormed referred (0x6F ∷ 0x06 ∷ 0x01 ∷ 0x01 ∷ []) ∷ wellFormed referred (0x00 ∷ 0x00 ∷ 0x00 ∷ [])
+    ∷ [])
+    ≡ false ∷ false ∷ true ∷ false ∷ true ∷ [])
+    × ((decisionNumber (decisionOf referred (0x6F ∷ 0x06 ∷ 0x01 ∷ []) Activate full)
+    ∷ decisionNumber (decisionOf referred (0x10 ∷ 0x00 ∷ 0x00 ∷ []) Activate full)
+    ∷ [])
+    ≡ 2 ∷ 2 ∷ [])

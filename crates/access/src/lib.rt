@@ -1,10 +1,12 @@
-// Access rules of every form (01 "Descriptor and rules", 02 Tickets 3 and 6): the one place where a rule is asked, what a refusal
+// Access rules of every form (01 "Descriptor and rules", 02 Tickets 3, 6 and 7): the one place where a rule is asked, what a refusal
 // lacks, and whether a rule may stand in a record. A rule comes with the number of its form; whoever asks never looks inside.
 ghost use mathlib.Core.Path.{_≡_};
+ghost use mathlib.Core.Bool.{_&&_};
 ghost use Prim.Native.Nat.{_≤_};
+ghost use lib.Dec.{eqb};
 ghost use lib.ListN.{length};
 ghost use Rattle.rules.specs.Group.{Lengths};
-ghost use Rattle.access.specs.Access.{tagOf, wellFormed, fitsRecord, grantedOf};
+ghost use Rattle.access.specs.Access.{referred, tagOf, askedAs, referredFormed, wellFormed, fitsRecord, grantedOf};
 ghost use Rattle.access.specs.Decision.{full, decisionOf, Decides, either};
 use rules::Right;
 use rules::Sets;
@@ -16,10 +18,12 @@ pub enum Decision {
     Closed,
 }
 
-// The forms: the value of tag 8C, the value of tag AB.
+// The forms: the value of tag 8C, of tag AB, of tag 8B.
 pub const COMPACT: u8 = 0;
 
 pub const EXPANDED: u8 = 1;
+
+pub const REFERRED: u8 = 2;
 
 // The tag of the object that a rule stands in.
 pub fn tag_of(form: u8) -> u8
@@ -28,7 +32,30 @@ pub fn tag_of(form: u8) -> u8
     if form == COMPACT {
         return 0x8C;
     }
-    0xAB
+    if form == EXPANDED {
+        return 0xAB;
+    }
+    0x8B
+}
+
+// The form in which the rule that decides is asked: the rule that a referred one names is expanded.
+pub fn asked_as(form: u8) -> u8
+    ensures { λ r. ⌜ r ≡ askedAs form ⌝ }
+{
+    if form == REFERRED {
+        return EXPANDED;
+    }
+    form
+}
+
+// Whether a rule is a referred one and well formed: an identifier and a record number.
+fn is_reference(form: u8, rule: &[u8]) -> bool
+    ensures { λ r. ⌜ r ≡ (eqb form referred && referredFormed (now (rule .entry))) ⌝ }
+{
+    if rule.len() != 3 {
+        return false;
+    }
+    form == REFERRED
 }
 
 // Whether a rule is well formed.
@@ -37,6 +64,9 @@ fn well_formed(form: u8, rule: &[u8]) -> bool
 {
     if form == COMPACT {
         return rules::rule::well_formed(rule);
+    }
+    if is_reference(form, rule) {
+        return true;
     }
     if form == EXPANDED {
         return expanded::rule::well_formed(rule);
@@ -60,7 +90,8 @@ pub fn fits_record(v: u32, form: u8, rule: &[u8]) -> bool
     well_formed(form, rule)
 }
 
-// Whether a rule is well formed, with the table of a compact group's lengths, for a caller that asks often.
+// Whether a rule is well formed, with the table of a compact group's lengths, for a caller that asks often: a compact rule, which most
+// are, is told by one comparison, since the next test is not about the form alone.
 pub fn formed_by(form: u8, rule: &[u8], lengths: &[u8; 256]) -> bool
     requires { ⌜ (1 ≤ length (now rule)) × Lengths (now lengths) ⌝ }
     ensures { λ r. ⌜ r ≡ wellFormed form (now (rule .entry)) ⌝ }
@@ -68,13 +99,17 @@ pub fn formed_by(form: u8, rule: &[u8], lengths: &[u8; 256]) -> bool
     if form == COMPACT {
         return rules::rule::formed_by(rule, lengths);
     }
+    if is_reference(form, rule) {
+        return true;
+    }
     if form == EXPANDED {
         return expanded::rule::well_formed(rule);
     }
     false
 }
 
-// Whether the rule grants a right, under what has been authenticated. The only way anyone asks a rule.
+// Whether the rule grants a right, under what has been authenticated. The only way anyone asks a rule; a referred one is never asked
+// itself, but the rule that it names.
 pub fn granted(form: u8, rule: &[u8], right: Right, sets: Sets) -> bool
     ensures { λ r. ⌜ r ≡ grantedOf form (now (rule .entry)) right sets ⌝ }
 {

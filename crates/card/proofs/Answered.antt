@@ -66,7 +66,7 @@ wrong-pool-refused img pool c st response e = (
 )
   where
     go : (b : Bool) → answerNumber (cond b (Word (wordOf (dueOf img pool c st (length response))) (length (told img pool c (dueOf img pool c st (length response))))
-        (denialOf img c (st .sets) (dueOf img pool c st (length response)))) Short) ≡ 6 → ⊥
+        (denialOf img pool c (st .sets) (dueOf img pool c st (length response)))) Short) ≡ 6 → ⊥
     go true h = omega arith
     go false h = omega arith
 
@@ -101,7 +101,7 @@ damaged-tells img pool c st lent e = rw e
 -- what the verdict that stands answers, by the two checks
 abbrev pub said : List ℕ → List ℕ → List ℕ → Sets → Verdict → Bool → Bool → Reply
 said img pool c x due whole fit =
-    cond whole (cond fit (Word (wordOf due) (length (told img pool c due)) (denialOf img c x due)) Short) WrongPool
+    cond whole (cond fit (Word (wordOf due) (length (told img pool c due)) (denialOf img pool c x due)) Short) WrongPool
 
 -- on a sound image
 module _ (img pool c : List ℕ) (st : State) (lent : ℕ) (sound : Sound img) where
@@ -136,16 +136,16 @@ module _ (img pool c : List ℕ) (st : State) (lent : ℕ) (sound : Sound img) w
       go true false p q = sym (ap (λ (v : Verdict). length (told img pool c v)) (due-unfit img pool c st lent q))
       go false b p q = sym (ap (λ (v : Verdict). length (told img pool c v)) (due-wrong img pool c st lent p))
 
-  pub security-is : answerSecurity (replyOf img pool c st lent) ≡ decisionNumber (denialOf img c (st .sets) (dueOf img pool c st lent))
+  pub security-is : answerSecurity (replyOf img pool c st lent) ≡ decisionNumber (denialOf img pool c (st .sets) (dueOf img pool c st lent))
   unfolding denialOf
   security-is = ap answerSecurity reply-is ∙ go (poolFits img pool) (fits img pool c st lent) refl refl
     where
       go : (a b : Bool) → poolFits img pool ≡ a → fits img pool c st lent ≡ b
           → answerSecurity (said img pool c (st .sets) (dueOf img pool c st lent) a b)
-          ≡ decisionNumber (denialOf img c (st .sets) (dueOf img pool c st lent))
+          ≡ decisionNumber (denialOf img pool c (st .sets) (dueOf img pool c st lent))
       go true true p q = refl
-      go true false p q = sym (ap (λ (v : Verdict). decisionNumber (denialOf img c (st .sets) v)) (due-unfit img pool c st lent q))
-      go false b p q = sym (ap (λ (v : Verdict). decisionNumber (denialOf img c (st .sets) v)) (due-wrong img pool c st lent p))
+      go true false p q = sym (ap (λ (v : Verdict). decisionNumber (denialOf img pool c (st .sets) v)) (due-unfit img pool c st lent q))
+      go false b p q = sym (ap (λ (v : Verdict). decisionNumber (denialOf img pool c (st .sets) v)) (due-wrong img pool c st lent p))
 
 pub response-is : (img pool c : List ℕ) (st : State) (response : List ℕ) → Sound img
     → responseOf img pool c st response ≡ splice response 0 (told img pool c (dueOf img pool c st (length response)))
@@ -207,7 +207,7 @@ only-these-words img pool c st lent e = go (poolFits img pool) (fits img pool c 
         ⊎ ((replyOf img pool c st lent ≡ Short) ⊎ (replyOf img pool c st lent ≡ WrongPool))
     go true true p q = inl (
       ap answerNumber (reply-is img pool c st lent sound) ∙ rw (p, q),
-      rw (word-is img pool c st lent sound, due-fit img pool c st lent (pool-says img pool .0 p) q) (judge-worded img c st),
+      rw (word-is img pool c st lent sound, due-fit img pool c st lent (pool-says img pool .0 p) q) (judge-worded img pool c st),
     )
     go true false p q = inr (inl (reply-is img pool c st lent sound ∙ rw (p, q)))
     go false b p q = inr (inr (reply-is img pool c st lent sound ∙ rw p))
@@ -224,7 +224,7 @@ warns-in-select img pool c st lent = go (soundb img) refl
   where
     go : (b : Bool) → soundb img ≡ b → Warns c (answerWord (replyOf img pool c st lent))
     go true q = rw (word-is img pool c st lent (sound-says img .0 q))
-        (due-by img pool c st lent (λ (v : Verdict). Warns c (wordOf v)) (judge-warns img c st) (no-warning c))
+        (due-by img pool c st lent (λ (v : Verdict). Warns c (wordOf v)) (judge-warns img pool c st) (no-warning c))
     go false q = rw (damaged-word img pool c st lent q) (no-warning c)
 
 -- what is told fits
@@ -232,7 +232,7 @@ told-fits : (img pool c : List ℕ) (st : State) (lent : ℕ) → length (told i
 unfolding dueOf fits
 told-fits img pool c st lent =
     cond-by (λ (v : Verdict). length (told img pool c v) ≤ lent) (poolFits img pool) _ _
-    (λ p. cond-by (λ (v : Verdict). length (told img pool c v) ≤ lent) (leb (length (told img pool c (judgeOf img c st))) lent) _ _
+    (λ p. cond-by (λ (v : Verdict). length (told img pool c v) ≤ lent) (leb (length (told img pool c (judgeOf img pool c st))) lent) _ _
     (λ q. leb-true _ _ q) (λ q. omega arith)) (λ p. omega arith)
 
 pub response-stays : ResponseStays

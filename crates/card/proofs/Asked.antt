@@ -61,10 +61,10 @@ takes-says img d = (
 )
 
 -- J of DELETE
-pub deletes-says : (img : List ℕ) (d s : ℕ) (x : Sets)
-    → (mayDelete img d s x ≡ true) ↔ ((allowedAt img s DeleteSelf x ≡ true) ⊎ (allowedAt img d DeleteChild x ≡ true))
+pub deletes-says : (img pool : List ℕ) (d s : ℕ) (x : Sets)
+    → (mayDelete img pool d s x ≡ true) ↔ ((allowedAt img pool s DeleteSelf x ≡ true) ⊎ (allowedAt img pool d DeleteChild x ≡ true))
 unfolding mayDelete
-deletes-says img d s x = or-says _ _
+deletes-says img pool d s x = or-says _ _
 
 -- L
 pub identifier-free : (img : List ℕ) (d i : ℕ) → (identifierFree (countOf img) (viewAt img) d i ≡ true) ↔ FreeIdentifier img d i

@@ -86,12 +86,12 @@ module _ (img pool c : List ℕ) (st : State) {r : Bool} (e : r ≡ soundb img) 
         fit = pool-says img pool .0 (sym i ∙ not-false w j)
 
         -- v is the verdict that was given, n the slot count, k what telling answered
-        module _ {v : Verdict} (f : v ≡ judgeOf img c st) where
+        module _ {v : Verdict} (f : v ≡ judgeOf img pool c st) where
           pub call-applies : {n : ℕ} → n ≡ countOf img → Applies img n pool c v
-          call-applies g = rw (f, g) (applies img pool call-sound fit c (judgeOf img c st) (judge-tells img c call-sound st))
+          call-applies g = rw (f, g) (applies img pool call-sound fit c (judgeOf img pool c st) (judge-tells img pool c call-sound st))
 
           pub call-tells : CanTell img pool v
-          call-tells = rw f (can-tell img pool c call-sound fit (judgeOf img c st) (judge-tells img c call-sound st))
+          call-tells = rw f (can-tell img pool c call-sound fit (judgeOf img pool c st) (judge-tells img pool c call-sound st))
 
           module _ {k : Written} {o y : List ℕ} (a : Answered (told img pool c v) o y k) where
             pub call-short : k ≡ TooShort → CommandPromises img pool c st o Short img pool y
@@ -112,7 +112,7 @@ module _ (img pool c : List ℕ) (st : State) {r : Bool} (e : r ≡ soundb img) 
                   few = omega arith;
                 }
 
-            pub call-done : {m x : ℕ} {d : Decision} {after kept : List ℕ} → k ≡ Done m → d ≡ denialOf img c (st .sets) v
+            pub call-done : {m x : ℕ} {d : Decision} {after kept : List ℕ} → k ≡ Done m → d ≡ denialOf img pool c (st .sets) v
                 → (x ≡ wordOf v) × (after ≡ appliedOf img c v) × (kept ≡ pooledOf img pool c v)
                 → CommandPromises img pool c st o (Word x m d) after kept y
             unfolding replyOf imageOf poolOf responseOf denialOf
@@ -122,11 +122,11 @@ module _ (img pool c : List ℕ) (st : State) {r : Bool} (e : r ≡ soundb img) 
                 let p = sym i ∙ not-false w j in
                 let z = sym e ∙ not-false r t in
                 let word = g .0 ∙ ap wordOf f in
-                let denial = l ∙ ap (denialOf img c (st .sets)) f in
+                let denial = l ∙ ap (denialOf img pool c (st .sets)) f in
                 record {
                   reply = rw (z, p, s .0, s .1) (ap (λ (u : ℕ). Word u m d) word
-                      ∙ ap (λ (u : ℕ). Word (wordOf (judgeOf img c st)) u d) (b .1 .0)
-                      ∙ ap (λ (u : Decision). Word (wordOf (judgeOf img c st)) (length (told img pool c (judgeOf img c st))) u) denial);
+                      ∙ ap (λ (u : ℕ). Word (wordOf (judgeOf img pool c st)) u d) (b .1 .0)
+                      ∙ ap (λ (u : Decision). Word (wordOf (judgeOf img pool c st)) (length (told img pool c (judgeOf img pool c st))) u) denial);
                   image = rw (z, s .1) (g .1 ∙ ap (appliedOf img c) f);
                   pool-is = rw (z, s .1) (g .2 ∙ ap (pooledOf img pool c) f);
                   response-is = rw (z, s .1) (b .1 .1);
@@ -134,5 +134,5 @@ module _ (img pool c : List ℕ) (st : State) {r : Bool} (e : r ≡ soundb img) 
                   word = rw (z, s .1) word;
                   bytes = rw (z, s .1) (b .1 .0);
                   security = rw (z, s .1) (ap decisionNumber denial);
-                  few = omega (arith, b .1 .0, told-few img pool c call-sound fit (judgeOf img c st) (judge-tells img c call-sound st));
+                  few = omega (arith, b .1 .0, told-few img pool c call-sound fit (judgeOf img pool c st) (judge-tells img pool c call-sound st));
                 }

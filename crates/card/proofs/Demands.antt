@@ -54,13 +54,13 @@ use Rattle.card.proofs.Due.{pool-says, due-tells, due-speaks, due-order
 use Rattle.card.proofs.Answered.{image-is, pool-is, reply-is, word-is, response-is, stays-sound}
 
 -- the verdict: the effect where all steps hold, else a refusal with the word of the first that fails
-pub judged-in-order : (img c : List ℕ) (st : State)
-    → (allHold (stepsOf img c st) ≡ true → judgeOf img c st ≡ effectOf img c st)
-    × (allHold (stepsOf img c st) ≡ false → judgeOf img c st ≡ Refuse (firstFailing (stepsOf img c st)))
+pub judged-in-order : (img pool c : List ℕ) (st : State)
+    → (allHold (stepsOf img pool c st) ≡ true → judgeOf img pool c st ≡ effectOf img pool c st)
+    × (allHold (stepsOf img pool c st) ≡ false → judgeOf img pool c st ≡ Refuse (firstFailing (stepsOf img pool c st)))
 unfolding judgeOf judgeFor followed
-judged-in-order img c st =
-    let e = judged-append (sharedSteps img c st) (planFor img (countOf img) (currentDfOf img) c st .steps) (effectOf img c st) in
-    (λ h. sym e ∙ judged-all (stepsOf img c st) (effectOf img c st) h, λ h. sym e ∙ judged-first (stepsOf img c st) (effectOf img c st) h)
+judged-in-order img pool c st =
+    let e = judged-append (sharedSteps img c st) (planFor img pool (countOf img) (currentDfOf img) c st .steps) (effectOf img pool c st) in
+    (λ h. sym e ∙ judged-all (stepsOf img pool c st) (effectOf img pool c st) h, λ h. sym e ∙ judged-first (stepsOf img pool c st) (effectOf img pool c st) h)
 
 -- a list of steps holds as a whole or not
 all-or-not : (b : Bool) → (b ≡ true) ⊎ (b ≡ false)
@@ -77,45 +77,45 @@ both-hold (s ∷ xs) ys h =
 
 -- the verdict that stands is judged by all steps, the last check among them
 due-judged : (img pool c : List ℕ) (st : State) (lent : ℕ) → PoolFits img pool
-    → dueOf img pool c st lent ≡ judged (allSteps img pool c st lent) (effectOf img c st)
+    → dueOf img pool c st lent ≡ judged (allSteps img pool c st lent) (effectOf img pool c st)
 unfolding dueOf fits
-due-judged img pool c st lent k = rw (pool-says img pool .1 k) (⊎-elim hold fail (all-or-not (allHold (stepsOf img c st))))
+due-judged img pool c st lent k = rw (pool-says img pool .1 k) (⊎-elim hold fail (all-or-not (allHold (stepsOf img pool c st))))
   where
     last : List Step
     last = lastStep img pool c st lent ∷ []
 
-    apart : judged (allSteps img pool c st lent) (effectOf img c st) ≡ judged (stepsOf img c st) (judged last (effectOf img c st))
-    apart = judged-append (stepsOf img c st) last (effectOf img c st)
+    apart : judged (allSteps img pool c st lent) (effectOf img pool c st) ≡ judged (stepsOf img pool c st) (judged last (effectOf img pool c st))
+    apart = judged-append (stepsOf img pool c st) last (effectOf img pool c st)
 
     stands : Verdict → Verdict
     stands v = cond (leb (length (told img pool c v)) lent) v (Refuse 0x0000)
 
-    hold : allHold (stepsOf img c st) ≡ true → stands (judgeOf img c st) ≡ judged (allSteps img pool c st lent) (effectOf img c st)
-    hold h = ap stands (judged-in-order img c st .0 h) ∙ sym (judged-all (stepsOf img c st) (judged last (effectOf img c st)) h) ∙ sym apart
+    hold : allHold (stepsOf img pool c st) ≡ true → stands (judgeOf img pool c st) ≡ judged (allSteps img pool c st lent) (effectOf img pool c st)
+    hold h = ap stands (judged-in-order img pool c st .0 h) ∙ sym (judged-all (stepsOf img pool c st) (judged last (effectOf img pool c st)) h) ∙ sym apart
 
-    fail : allHold (stepsOf img c st) ≡ false → stands (judgeOf img c st) ≡ judged (allSteps img pool c st lent) (effectOf img c st)
+    fail : allHold (stepsOf img pool c st) ≡ false → stands (judgeOf img pool c st) ≡ judged (allSteps img pool c st lent) (effectOf img pool c st)
     fail h =
-        ap stands (judged-in-order img c st .1 h) ∙ rw (le-leb 0 lent (omega arith)) refl
-        ∙ sym (judged-first (stepsOf img c st) (judged last (effectOf img c st)) h) ∙ sym apart
+        ap stands (judged-in-order img pool c st .1 h) ∙ rw (le-leb 0 lent (omega arith)) refl
+        ∙ sym (judged-first (stepsOf img pool c st) (judged last (effectOf img pool c st)) h) ∙ sym apart
 
 module _ (img pool c : List ℕ) (st : State) (lent : ℕ) where
-  pub due-in-order : PoolFits img pool → (allHold (allSteps img pool c st lent) ≡ true → dueOf img pool c st lent ≡ effectOf img c st)
+  pub due-in-order : PoolFits img pool → (allHold (allSteps img pool c st lent) ≡ true → dueOf img pool c st lent ≡ effectOf img pool c st)
       × (allHold (allSteps img pool c st lent) ≡ false → dueOf img pool c st lent ≡ Refuse (firstFailing (allSteps img pool c st lent)))
   due-in-order k =
       let e = due-judged img pool c st lent k in
       let steps = allSteps img pool c st lent in
-      ((λ h. e ∙ judged-all steps (effectOf img c st) h), (λ h. e ∙ judged-first steps (effectOf img c st) h))
+      ((λ h. e ∙ judged-all steps (effectOf img pool c st) h), (λ h. e ∙ judged-first steps (effectOf img pool c st) h))
 
   -- where all hold, the last check does
   all-fit : allHold (allSteps img pool c st lent) ≡ true → fits img pool c st lent ≡ true
   unfolding fits
   all-fit h =
-      let p = both-hold (stepsOf img c st) (lastStep img pool c st lent ∷ []) h in
-      rw (judged-in-order img c st .0 (p .0)) (and-says _ _ .0 (p .1) .0)
+      let p = both-hold (stepsOf img pool c st) (lastStep img pool c st lent ∷ []) h in
+      rw (judged-in-order img pool c st .0 (p .0)) (and-says _ _ .0 (p .1) .0)
 
   -- a refusal with its word, or answer 5
   refused-as : Sound img → PoolFits img pool → (w : ℕ) → dueOf img pool c st lent ≡ Refuse w
-      → replyOf img pool c st lent ≡ refusal img c (st .sets) w
+      → replyOf img pool c st lent ≡ refusal img pool c (st .sets) w
   unfolding denialOf
   refused-as sound k w e = reply-is img pool c st lent sound ∙ rw (pool-says img pool .1 k) (go (fits img pool c st lent) refl)
     where
@@ -124,35 +124,35 @@ module _ (img pool c : List ℕ) (st : State) (lent : ℕ) where
 
       go : (b : Bool) → fits img pool c st lent ≡ b
           → cond b (Word (wordOf (dueOf img pool c st lent)) (length (told img pool c (dueOf img pool c st lent)))
-          (denialOf img c (st .sets) (dueOf img pool c st lent))) Short ≡ refusal img c (st .sets) w
+          (denialOf img pool c (st .sets) (dueOf img pool c st lent))) Short ≡ refusal img pool c (st .sets) w
       go true q =
-          let n = worded w (rw (sym (due-fit img pool c st lent k q) ∙ e) at (judge-worded img c st)) in
+          let n = worded w (rw (sym (due-fit img pool c st lent k q) ∙ e) at (judge-worded img pool c st)) in
           rw (e, n) refl
       go false q = let z : w ≡ 0x0000 = ap wordOf (sym e ∙ due-unfit img pool c st lent q) in rw z refl
 
 own-hold : (img pool c : List ℕ) (st : State) (lent : ℕ) → allHold (allSteps img pool c st lent) ≡ true
-    → allHold (planFor img (countOf img) (currentDfOf img) c st .steps) ≡ true
+    → allHold (planFor img pool (countOf img) (currentDfOf img) c st .steps) ≡ true
 own-hold img pool c st lent h =
-    both-hold (sharedSteps img c st) (planFor img (countOf img) (currentDfOf img) c st .steps)
-    (both-hold (stepsOf img c st) (lastStep img pool c st lent ∷ []) h .0) .1
+    both-hold (sharedSteps img c st) (planFor img pool (countOf img) (currentDfOf img) c st .steps)
+    (both-hold (stepsOf img pool c st) (lastStep img pool c st lent ∷ []) h .0) .1
 
 -- an effect that acts was not denied
-acts-granted : (img c : List ℕ) (x : Sets) (v : Verdict) → Acts v → denialOf img c x v ≡ Granted
+acts-granted : (img pool c : List ℕ) (x : Sets) (v : Verdict) → Acts v → denialOf img pool c x v ≡ Granted
 unfolding denialOf
-acts-granted img c x (Refuse w) a = absurd a
-acts-granted img c x (Select d e w) a = refl
-acts-granted img c x (Create y) a = refl
-acts-granted img c x (Delete s) a = refl
-acts-granted img c x (SetLife s life) a = refl
-acts-granted img c x (Read at n) a = refl
-acts-granted img c x (Update at) a = refl
+acts-granted img pool c x (Refuse w) a = absurd a
+acts-granted img pool c x (Select d e w) a = refl
+acts-granted img pool c x (Create y) a = refl
+acts-granted img pool c x (Delete s) a = refl
+acts-granted img pool c x (SetLife s life) a = refl
+acts-granted img pool c x (Read at n) a = refl
+acts-granted img pool c x (Update at) a = refl
 
 pub replies-in-order : RepliesInOrder
 replies-in-order img pool c st response sound k = (
   (λ h. let e = due-in-order img pool c st (length response) k .0 h in (
     reply-is img pool c st (length response) sound ∙ rw (pool-says img pool .1 k, all-fit img pool c st (length response) h, e)
-    (ap (Word (wordOf (effectOf img c st)) (length (told img pool c (effectOf img c st))))
-    (acts-granted img c (st .sets) (effectOf img c st) (plan-acts img (countOf img) (currentDfOf img) c st (own-hold img pool c st (length response) h)))),
+    (ap (Word (wordOf (effectOf img pool c st)) (length (told img pool c (effectOf img pool c st))))
+    (acts-granted img pool c (st .sets) (effectOf img pool c st) (plan-acts img pool (countOf img) (currentDfOf img) c st (own-hold img pool c st (length response) h)))),
     image-is img pool c st (length response) sound ∙ ap (appliedOf img c) e,
     pool-is img pool c st (length response) sound ∙ ap (pooledOf img pool c) e,
     response-is img pool c st response sound ∙ ap (λ (v : Verdict). splice response 0 (told img pool c v)) e,
@@ -183,7 +183,7 @@ succeeds-exactly img pool c st lent sound fit = (all-hold, succeeded)
     all-hold h =
         let e = due-in-order img pool c st lent fit .0 h in
         rw (word, e)
-        (succeeds (effectOf img c st) (plan-acts img (countOf img) (currentDfOf img) c st (own-hold img pool c st lent h))
+        (succeeds (effectOf img pool c st) (plan-acts img pool (countOf img) (currentDfOf img) c st (own-hold img pool c st lent h))
         (rw e at (due-speaks img pool c st lent)))
 
     succeeded : Succeeds (answerWord (replyOf img pool c st lent)) → allHold (allSteps img pool c st lent) ≡ true

@@ -46,22 +46,22 @@ pool-says img pool = (
 
 module _ (img pool c : List ℕ) (st : State) (lent : ℕ) where
   -- what holds of the judged verdict, and of a refusal, holds of it
-  pub due-by : (P : Verdict → Type 0) → P (judgeOf img c st) → P (Refuse 0x0000) → P (dueOf img pool c st lent)
+  pub due-by : (P : Verdict → Type 0) → P (judgeOf img pool c st) → P (Refuse 0x0000) → P (dueOf img pool c st lent)
   unfolding dueOf
   due-by P judged refused =
       cond-by P (poolFits img pool) _ _ (λ p. cond-by P (fits img pool c st lent) _ _ (λ q. judged) (λ q. refused)) (λ p. refused)
 
   pub due-tells : Sound img → Tells img c (dueOf img pool c st lent)
-  due-tells sound = due-by (Tells img c) (judge-tells img c sound st) tt
+  due-tells sound = due-by (Tells img c) (judge-tells img pool c sound st) tt
 
   pub due-speaks : Spoken (dueOf img pool c st lent)
-  due-speaks = due-by Spoken (judge-speaks img c st) (⊎-elim (λ e. omega arith) (λ f. ⊎-elim (λ e. omega arith) (λ e. omega arith) f))
+  due-speaks = due-by Spoken (judge-speaks img pool c st) (⊎-elim (λ e. omega arith) (λ f. ⊎-elim (λ e. omega arith) (λ e. omega arith) f))
 
   pub due-ordered : Ordered img c (dueOf img pool c st lent)
-  due-ordered = due-by (Ordered img c) (judge-ordered img c st) tt
+  due-ordered = due-by (Ordered img c) (judge-ordered img pool c st) tt
 
   -- by the two checks
-  pub due-fit : PoolFits img pool → fits img pool c st lent ≡ true → dueOf img pool c st lent ≡ judgeOf img c st
+  pub due-fit : PoolFits img pool → fits img pool c st lent ≡ true → dueOf img pool c st lent ≡ judgeOf img pool c st
   unfolding dueOf
   due-fit k q = rw (pool-says img pool .1 k, q)
 
@@ -78,12 +78,12 @@ module _ (img pool c : List ℕ) (st : State) (lent : ℕ) where
   due-wrong q = rw q
 
   -- by what is told
-  pub due-fits : PoolFits img pool → length (told img pool c (judgeOf img c st)) ≤ lent
-      → (fits img pool c st lent ≡ true) × (dueOf img pool c st lent ≡ judgeOf img c st)
+  pub due-fits : PoolFits img pool → length (told img pool c (judgeOf img pool c st)) ≤ lent
+      → (fits img pool c st lent ≡ true) × (dueOf img pool c st lent ≡ judgeOf img pool c st)
   unfolding fits
   due-fits k h = let q = le-leb _ _ h in (q, due-fit k q)
 
-  pub due-short : lent < length (told img pool c (judgeOf img c st)) → (fits img pool c st lent ≡ false) × (dueOf img pool c st lent ≡ Refuse 0x0000)
+  pub due-short : lent < length (told img pool c (judgeOf img pool c st)) → (fits img pool c st lent ≡ false) × (dueOf img pool c st lent ≡ Refuse 0x0000)
   unfolding fits
   due-short h = let q = lt-leb _ _ h in (q, due-unfit q)
 

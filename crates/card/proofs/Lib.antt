@@ -25,3 +25,5 @@ pub mod Unjudged
 pub mod Lives
 pub mod Versions
 pub mod Security
+pub mod Rules
+pub mod Ruled

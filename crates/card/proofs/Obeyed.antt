@@ -107,8 +107,8 @@ select-obeys img pool c st response sound fit e =
 pub create-obeys : CreateObeys
 unfolding planFor isKnown isOld isBody isBinary isRecord wantsAlone isTerminate part
 create-obeys img pool c st response sound fit e =
-    obeys-silent img pool c st response sound fit (create img (countOf img) (currentDfOf img) (sentData c) (st .sets)) (rw e)
-    (createAsks img c st) _ _ _
+    obeys-silent img pool c st response sound fit (create img pool (countOf img) (currentDfOf img) (sentData c) (st .sets)) (rw e)
+    (createAsks img pool c st) _ _ _
     (create-silent (dataOf (versionOf img) (sentData c)))
     (opens img c st 0xE0 e refl _ _
     (reads-ask _ _ _ _ _ _ (alone-says c st 0xE0 e refl) refl
@@ -141,21 +141,21 @@ create-obeys img pool c st response sound fit e =
 pub delete-obeys : DeleteObeys
 unfolding planFor isKnown isOld isBody isBinary isRecord wantsAlone isTerminate
 delete-obeys img pool c st response sound fit e =
-    obeys-silent img pool c st response sound fit (delete img (countOf img) (currentDfOf img) (sentIdentifier c) (st .sets)) (rw e)
-    (deleteAsks img c st) _ _ _ refl
+    obeys-silent img pool c st response sound fit (delete img pool (countOf img) (currentDfOf img) (sentIdentifier c) (st .sets)) (rw e)
+    (deleteAsks img pool c st) _ _ _ refl
     (opens img c st 0xE4 e refl _ _
     (reads-ask _ _ _ _ _ _ (alone-says c st 0xE4 e refl) refl
     (reads-ask _ _ _ _ _ _ (parameters-say c st 0xE4 e refl (bodiless 0xE4 refl)) refl
     (reads-ask _ _ _ _ _ _ (delete-length c e) refl
     (reads-ask _ _ _ _ _ _ ((λ h. h), (λ h. h)) refl
-    (reads-ask _ _ _ _ _ _ (deletes-says img (currentDfOf img) _ (st .sets)) refl
+    (reads-ask _ _ _ _ _ _ (deletes-says img pool (currentDfOf img) _ (st .sets)) refl
     reads-none))))))
     (λ m. (refl, refl, refl))
 
 pub activate-obeys : ActivateObeys
 unfolding planFor lifePlan isKnown isOld isBody isBinary isRecord wantsAlone isTerminate
 activate-obeys img pool c st response sound fit e =
-    obeys-silent img pool c st response sound fit (activate img (currentFile img) (st .sets)) (rw e) (activateAsks img c st) _ _ _ refl
+    obeys-silent img pool c st response sound fit (activate img pool (currentFile img) (st .sets)) (rw e) (activateAsks img pool c st) _ _ _ refl
     (opens-anyway img c st 0x44 e refl refl refl refl refl refl _ _
     (reads-ask _ _ _ _ _ _ ((λ h. h), (λ h. h)) refl
     (reads-ask _ _ _ _ _ _ (none-says img (currentFile img)) refl
@@ -166,7 +166,7 @@ activate-obeys img pool c st response sound fit e =
 pub deactivate-obeys : DeactivateObeys
 unfolding planFor lifePlan isKnown isOld isBody isBinary isRecord wantsAlone isTerminate
 deactivate-obeys img pool c st response sound fit e =
-    obeys-silent img pool c st response sound fit (deactivate img (currentFile img) (st .sets)) (rw e) (deactivateAsks img c st) _ _ _ refl
+    obeys-silent img pool c st response sound fit (deactivate img pool (currentFile img) (st .sets)) (rw e) (deactivateAsks img pool c st) _ _ _ refl
     (opens-anyway img c st 0x04 e refl refl refl refl refl refl _ _
     (reads-ask _ _ _ _ _ _ ((λ h. h), (λ h. h)) refl
     (reads-ask _ _ _ _ _ _ (none-says img (currentFile img)) refl
@@ -177,7 +177,7 @@ deactivate-obeys img pool c st response sound fit e =
 pub terminate-ef-obeys : TerminateEfObeys
 unfolding planFor lifePlan isKnown isOld isBody isBinary isRecord wantsAlone isTerminate
 terminate-ef-obeys img pool c st response sound fit e =
-    obeys-silent img pool c st response sound fit (terminateTheEf img (currentEfOf img) (st .sets)) (rw e) (terminateEfAsks img c st) _ _ _ refl
+    obeys-silent img pool c st response sound fit (terminateTheEf img pool (currentEfOf img) (st .sets)) (rw e) (terminateEfAsks img pool c st) _ _ _ refl
     (opens-alone img c st 0xE8 e refl refl refl refl refl refl _ _
     (reads-ask _ _ _ _ _ _ (is-not-says _ _) refl
     (reads-ask _ _ _ _ _ _ ((λ h. h), (λ h. h)) refl
@@ -188,7 +188,7 @@ terminate-ef-obeys img pool c st response sound fit e =
 pub terminate-df-obeys : TerminateDfObeys
 unfolding planFor lifePlan isKnown isOld isBody isBinary isRecord wantsAlone isTerminate
 terminate-df-obeys img pool c st response sound fit e =
-    obeys-silent img pool c st response sound fit (terminateTheDf img (currentDfOf img) (st .sets)) (rw e) (terminateDfAsks img c st) _ _ _ refl
+    obeys-silent img pool c st response sound fit (terminateTheDf img pool (currentDfOf img) (st .sets)) (rw e) (terminateDfAsks img pool c st) _ _ _ refl
     (opens-alone img c st 0xE6 e refl refl refl refl refl refl _ _
     (reads-ask _ _ _ _ _ _ ((λ h. h), (λ h. h)) refl
     (reads-ask _ _ _ _ _ _ (is-not-says _ _) refl
@@ -199,7 +199,7 @@ terminate-df-obeys img pool c st response sound fit e =
 pub terminate-card-obeys : TerminateCardObeys
 unfolding planFor lifePlan isKnown isOld isBody isBinary isRecord wantsAlone isTerminate
 terminate-card-obeys img pool c st response sound fit e =
-    obeys-silent img pool c st response sound fit (terminateTheCard img (st .sets)) (rw e) (terminateCardAsks img c st) _ _ _ refl
+    obeys-silent img pool c st response sound fit (terminateTheCard img pool (st .sets)) (rw e) (terminateCardAsks img pool c st) _ _ _ refl
     (opens-alone img c st 0xFE e refl refl refl refl refl refl _ _
     (reads-ask _ _ _ _ _ _ ((λ h. h), (λ h. h)) refl
     reads-none))
@@ -244,7 +244,7 @@ unknown v i h = go (eqb v 3) h
 
 pub others-refused : OthersRefused
 others-refused img pool c st response sound fit h =
-    obeys img pool c st response sound fit (planFor img (countOf img) (currentDfOf img) c st) refl (unknownAsks c) 0x6D00 img pool []
+    obeys img pool c st response sound fit (planFor img pool (countOf img) (currentDfOf img) c st) refl (unknownAsks c) 0x6D00 img pool []
     (reads-ask _ _ _ _ _ _ (le-says _ _) refl
     (reads-ask _ _ _ _ _ _ (channel-says (classByte c)) refl
     (reads-ask _ _ _ _ _ _ (eq-says _ _) refl

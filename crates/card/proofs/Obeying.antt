@@ -34,7 +34,7 @@ use Rattle.card.proofs.Demands.{replies-in-order}
 
 -- a command with this plan, whose steps read as these asks, and whose effect gives this word and image where all hold
 module _ (img pool c : List ℕ) (st : State) (response : List ℕ) (sound : Sound img) (fit : PoolFits img pool) (p : Plan)
-    (is : planFor img (countOf img) (currentDfOf img) c st ≡ p) where
+    (is : planFor img pool (countOf img) (currentDfOf img) c st ≡ p) where
   -- its last step, by what the effect tells
   unfoldable pub final : Step
   final = step (leb (length (told img pool c (p .effect))) (length response)) 0x0000
@@ -50,7 +50,7 @@ module _ (img pool c : List ℕ) (st : State) (response : List ℕ) (sound : Sou
         let g = gives m in
         let tells = ap (told img pool c) effect ∙ g .3 in
         (
-          r .0 ∙ ap (λ (n : ℕ). Word n (length (told img pool c (effectOf img c st))) Granted) (ap wordOf effect ∙ g .0)
+          r .0 ∙ ap (λ (n : ℕ). Word n (length (told img pool c (effectOf img pool c st))) Granted) (ap wordOf effect ∙ g .0)
           ∙ ap (λ (l : List ℕ). Word word (length l) Granted) tells,
           r .1 ∙ ap (appliedOf img c) effect ∙ g .1,
           r .2 ∙ ap (pooledOf img pool c) effect ∙ g .2,
@@ -59,7 +59,7 @@ module _ (img pool c : List ℕ) (st : State) (response : List ℕ) (sound : Sou
     refused = λ w f.
         let q = reads-them .first w f in
         let r = replies-in-order img pool c st response sound fit .1 (q .0) in
-        (r .0 ∙ ap (refusal img c (st .sets)) (q .1), r .1 .image, r .1 .bodies, r .1 .answered);
+        (r .0 ∙ ap (refusal img pool c (st .sets)) (q .1), r .1 .image, r .1 .bodies, r .1 .answered);
     always = either-way (allHold (allSteps img pool c st (length response))) refl;
   }
     where
@@ -69,7 +69,7 @@ module _ (img pool c : List ℕ) (st : State) (response : List ℕ) (sound : Sou
           ((sharedSteps img c st ++ q .steps) ++ (step (leb (length (told img pool c (q .effect))) (length response)) 0x0000 ∷ [])) asks)
           (sym is) reads
 
-      effect : effectOf img c st ≡ p .effect
+      effect : effectOf img pool c st ≡ p .effect
       effect = ap (λ (x : Plan). x .effect) is
 
       either-way : (b : Bool) → allHold (allSteps img pool c st (length response)) ≡ b → Met asks ⊎ ((w : ℕ) × Refused asks w)

@@ -72,7 +72,7 @@ alive : (img : List ℕ) (t : ℕ) → (terminatedUp img t ≡ true → ⊥) →
 unfolding terminatedUp upward up
 alive img t z e = z (any-at (λ k. terminatedAt img (up (viewAt img) k t)) (suc (viewAt img t .level)) 0 (omega arith) e)
 
-module _ (img c : List ℕ) (st : State) where
+module _ (img pool c : List ℕ) (st : State) where
   refused : (w : ℕ) → anyWord w ≡ true → Ordered img c (Refuse w)
   refused w k = tt
 
@@ -98,7 +98,7 @@ module _ (img c : List ℕ) (st : State) where
       (λ q. (b, q, ap (λ (j : ℕ). startOf (recAt img (currentEfOf img)) + j) e, refl))
       (λ q. (b, q, ap (λ (j : ℕ). startOf (recAt img (currentEfOf img)) + j) e))
 
-  body-ordered : isBody (instruction c) ≡ true → (x : Sets) → Ordered img c (followed (bodyPlan img c x))
+  body-ordered : isBody (instruction c) ≡ true → (x : Sets) → Ordered img c (followed (bodyPlan img pool c x))
   unfolding bodyPlan binary recordwise
   body-ordered b x =
       cond-by (λ (p : Plan). Ordered img c (followed p)) (isBinary (instruction c)) _ _
@@ -110,7 +110,7 @@ module _ (img c : List ℕ) (st : State) where
   OrderedThen : Plan → Type 0
   OrderedThen p = Ordered img c (followed p)
 
-  plan-ordered : (terminatedAt img 0 ≡ true → ⊥) → Ordered img c (followed (planFor img (countOf img) (currentDfOf img) c st))
+  plan-ordered : (terminatedAt img 0 ≡ true → ⊥) → Ordered img c (followed (planFor img pool (countOf img) (currentDfOf img) c st))
   unfolding planFor lifePlan OrderedThen
   plan-ordered root =
       chosen-by OrderedThen (instruction c) _ _ _ (λ e. followed-by (Ordered img c) anyWord refused _ refl (λ a. selecting-ordered e _ _))
@@ -134,7 +134,7 @@ module _ (img c : List ℕ) (st : State) where
       (λ z. followed-by (Ordered img c) anyWord refused _ refl
       (λ a. (not-create, ends (instruction c) not-activate not-deactivate, root, not-body))))))))))
 
-  pub judge-ordered : Ordered img c (judgeOf img c st)
+  pub judge-ordered : Ordered img c (judgeOf img pool c st)
   unfolding judgeOf judgeFor
   judge-ordered =
       judged-by (Ordered img c) anyWord refused (sharedSteps img c st) _ refl

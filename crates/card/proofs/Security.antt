@@ -82,9 +82,9 @@ module _ (img pool c : List ℕ) (st : State) (lent : ℕ) where
   due-denied : answerWord (replyOf img pool c st lent) ≡ 0x6982 → isDenied (dueOf img pool c st lent) ≡ true
   due-denied e = word-denies (dueOf img pool c st lent) (due-speaks img pool c st lent) (sym (word-is img pool c st lent (word-sound e)) ∙ e)
 
-  judge-denied : isDenied (dueOf img pool c st lent) ≡ true → isDenied (judgeOf img c st) ≡ true
+  judge-denied : isDenied (dueOf img pool c st lent) ≡ true → isDenied (judgeOf img pool c st) ≡ true
   judge-denied =
-      due-by img pool c st lent (λ v. isDenied v ≡ true → isDenied (judgeOf img c st) ≡ true) (λ e. e) (λ e. absurd (false≢true e))
+      due-by img pool c st lent (λ v. isDenied v ≡ true → isDenied (judgeOf img pool c st) ≡ true) (λ e. e) (λ e. absurd (false≢true e))
 
   pool-there : isDenied (dueOf img pool c st lent) ≡ true → PoolFits img pool
   pool-there d = pool-says img pool .0 (go (poolFits img pool) refl)
@@ -94,19 +94,19 @@ module _ (img pool c : List ℕ) (st : State) (lent : ℕ) where
       go false q = absurd (false≢true (sym (ap isDenied (due-wrong img pool c st lent q)) ∙ d))
 
   -- and back
-  judge-says : Sound img → PoolFits img pool → isDenied (judgeOf img c st) ≡ true → answerWord (replyOf img pool c st lent) ≡ 0x6982
+  judge-says : Sound img → PoolFits img pool → isDenied (judgeOf img pool c st) ≡ true → answerWord (replyOf img pool c st lent) ≡ 0x6982
   judge-says sound fit d =
-      let v = denied-is (judgeOf img c st) d in
-      let few : length (told img pool c (judgeOf img c st)) ≤ lent = omega (arith, ap (λ (u : Verdict). length (told img pool c u)) v) in
+      let v = denied-is (judgeOf img pool c st) d in
+      let few : length (told img pool c (judgeOf img pool c st)) ≤ lent = omega (arith, ap (λ (u : Verdict). length (told img pool c u)) v) in
       word-is img pool c st lent sound ∙ ap wordOf (due-fits img pool c st lent fit few .1 ∙ v)
 
   -- what a refused call tells
   tells-step : answerWord (replyOf img pool c st lent) ≡ 0x6982
-      → answerSecurity (replyOf img pool c st lent) ≡ decisionNumber (stepJ img c (st .sets))
+      → answerSecurity (replyOf img pool c st lent) ≡ decisionNumber (stepJ img pool c (st .sets))
   unfolding denialOf
   tells-step e =
       security-is img pool c st lent (word-sound e)
-      ∙ ap (λ (b : Bool). decisionNumber (cond b (stepJ img c (st .sets)) Granted)) (due-denied e)
+      ∙ ap (λ (b : Bool). decisionNumber (cond b (stepJ img pool c (st .sets)) Granted)) (due-denied e)
 
   -- what any other tells
   tells-none : (answerWord (replyOf img pool c st lent) ≡ 0x6982 → ⊥) → answerSecurity (replyOf img pool c st lent) ≡ 0
@@ -114,7 +114,7 @@ module _ (img pool c : List ℕ) (st : State) (lent : ℕ) where
   tells-none z = go (soundb img) refl
     where
       undenied : Sound img → (b : Bool) → isDenied (dueOf img pool c st lent) ≡ b
-          → decisionNumber (cond b (stepJ img c (st .sets)) Granted) ≡ 0
+          → decisionNumber (cond b (stepJ img pool c (st .sets)) Granted) ≡ 0
       undenied sound true q = absurd (z (word-is img pool c st lent sound ∙ ap wordOf (denied-is (dueOf img pool c st lent) q)))
       undenied sound false q = refl
 
@@ -124,33 +124,33 @@ module _ (img pool c : List ℕ) (st : State) (lent : ℕ) where
 
   -- step J, once it has refused
   module _ (e : answerWord (replyOf img pool c st lent) ≡ 0x6982) where
-    denied : isDenied (judgeOf img c (under st (st .sets))) ≡ true
+    denied : isDenied (judgeOf img pool c (under st (st .sets))) ≡ true
     denied = judge-denied (due-denied e)
 
-    step-refused : isGranted (stepJ img c (st .sets)) ≡ false
-    step-refused = not-true (isGranted (stepJ img c (st .sets))) (sym (judge-gated img c st (st .sets) (st .sets) denied) ∙ denied)
+    step-refused : isGranted (stepJ img pool c (st .sets)) ≡ false
+    step-refused = not-true (isGranted (stepJ img pool c (st .sets))) (sym (judge-gated img pool c st (st .sets) (st .sets) denied) ∙ denied)
 
-    step-holds : (y : Sets) → holdsJ (stepsOf img c (under st y)) ≡ isGranted (stepJ img c y)
-    step-holds y = judge-tells img c st (st .sets) y denied
+    step-holds : (y : Sets) → holdsJ (stepsOf img pool c (under st y)) ≡ isGranted (stepJ img pool c y)
+    step-holds y = judge-tells img pool c st (st .sets) y denied
 
-    step-again : (y : Sets) → isDenied (judgeOf img c (under st y)) ≡ not (isGranted (stepJ img c y))
-    step-again y = judge-gated img c st (st .sets) y denied
+    step-again : (y : Sets) → isDenied (judgeOf img pool c (under st y)) ≡ not (isGranted (stepJ img pool c y))
+    step-again y = judge-gated img pool c st (st .sets) y denied
 
     -- some state would open it; none would
-    opened : answerSecurity (replyOf img pool c st lent) ≡ 1 → (y : Sets) × (IsState y × (isGranted (stepJ img c y) ≡ true))
-    opened q = step-sure img c .lacking (st .sets) (lacking-number (stepJ img c (st .sets)) (sym (tells-step e) ∙ q))
+    opened : answerSecurity (replyOf img pool c st lent) ≡ 1 → (y : Sets) × (IsState y × (isGranted (stepJ img pool c y) ≡ true))
+    opened q = step-sure img pool c .lacking (st .sets) (lacking-number (stepJ img pool c (st .sets)) (sym (tells-step e) ∙ q))
 
-    shut : answerSecurity (replyOf img pool c st lent) ≡ 2 → (y : Sets) → isGranted (stepJ img c y) ≡ false
-    shut q = step-sure img c .closed (st .sets) (closed-number (stepJ img c (st .sets)) (sym (tells-step e) ∙ q))
+    shut : answerSecurity (replyOf img pool c st lent) ≡ 2 → (y : Sets) → isGranted (stepJ img pool c y) ≡ false
+    shut q = step-sure img pool c .closed (st .sets) (closed-number (stepJ img pool c (st .sets)) (sym (tells-step e) ∙ q))
 
     one-two : (answerSecurity (replyOf img pool c st lent) ≡ 1) ⊎ (answerSecurity (replyOf img pool c st lent) ≡ 2)
-    one-two = rw (tells-step e) (one-or-two (stepJ img c (st .sets)) step-refused)
+    one-two = rw (tells-step e) (one-or-two (stepJ img pool c (st .sets)) step-refused)
 
     -- .. and back
-    is-one : (y : Sets) → isGranted (stepJ img c y) ≡ true → answerSecurity (replyOf img pool c st lent) ≡ 1
+    is-one : (y : Sets) → isGranted (stepJ img pool c y) ≡ true → answerSecurity (replyOf img pool c st lent) ≡ 1
     is-one y g = ⊎-elim (λ q. q) (λ q. absurd (false≢true (sym (shut q y) ∙ g))) one-two
 
-    is-two : ((y : Sets) → isGranted (stepJ img c y) ≡ true → ⊥) → answerSecurity (replyOf img pool c st lent) ≡ 2
+    is-two : ((y : Sets) → isGranted (stepJ img pool c y) ≡ true → ⊥) → answerSecurity (replyOf img pool c st lent) ≡ 2
     is-two z = ⊎-elim (λ q. absurd (z (opened q .0) (opened q .1 .1))) (λ q. q) one-two
 
 pub number-exactly : NumberExactly
@@ -195,18 +195,18 @@ other-states img pool c st lent e = (
     fit : PoolFits img pool
     fit = pool-there img pool c st lent (due-denied img pool c st lent e)
 
-    denied-says : (y : Sets) → isGranted (stepJ img c y) ≡ false → answerWord (replyOf img pool c (under st y) lent) ≡ 0x6982
+    denied-says : (y : Sets) → isGranted (stepJ img pool c y) ≡ false → answerWord (replyOf img pool c (under st y) lent) ≡ 0x6982
     denied-says y g = judge-says img pool c (under st y) lent sound fit (step-again img pool c st lent e y ∙ ap not g)
 
-    granted-says : (y : Sets) → isGranted (stepJ img c y) ≡ true → answerWord (replyOf img pool c (under st y) lent) ≡ 0x6982 → ⊥
+    granted-says : (y : Sets) → isGranted (stepJ img pool c y) ≡ true → answerWord (replyOf img pool c (under st y) lent) ≡ 0x6982 → ⊥
     granted-says y g w =
         let d = judge-denied img pool c (under st y) lent (due-denied img pool c (under st y) lent w) in
         false≢true (sym (ap not g) ∙ sym (step-again img pool c st lent e y) ∙ d)
 
-    says-granted : (y : Sets) → (answerWord (replyOf img pool c (under st y) lent) ≡ 0x6982 → ⊥) → isGranted (stepJ img c y) ≡ true
-    says-granted y z = go (isGranted (stepJ img c y)) refl
+    says-granted : (y : Sets) → (answerWord (replyOf img pool c (under st y) lent) ≡ 0x6982 → ⊥) → isGranted (stepJ img pool c y) ≡ true
+    says-granted y z = go (isGranted (stepJ img pool c y)) refl
       where
-        go : (b : Bool) → isGranted (stepJ img c y) ≡ b → isGranted (stepJ img c y) ≡ true
+        go : (b : Bool) → isGranted (stepJ img pool c y) ≡ b → isGranted (stepJ img pool c y) ≡ true
         go true q = q
         go false q = absurd (z (denied-says y q))
 
@@ -224,12 +224,12 @@ delete-lacks img pool c st lent i e = (
 )
   where
     own : Decision
-    own = decisionAt img (namedChild img c) DeleteSelf (st .sets)
+    own = decisionAt img pool (namedChild img c) DeleteSelf (st .sets)
 
     above : Decision
-    above = decisionAt img (currentDfOf img) DeleteChild (st .sets)
+    above = decisionAt img pool (currentDfOf img) DeleteChild (st .sets)
 
-    step-is : stepJ img c (st .sets) ≡ either own above
+    step-is : stepJ img pool c (st .sets) ≡ either own above
     step-is = rw i
 
     told-is : answerSecurity (replyOf img pool c st lent) ≡ decisionNumber (either own above)

@@ -42,16 +42,16 @@ silent img pool c (Update at) o z a b = refl
 -- .. so the last check passes, and the verdict stands as judged
 module _ (img pool c : List ℕ) (st : State) (lent : ℕ) (z : instruction c ≡ 0xA4 → getD c 3 0 ≡ 0x04 → ⊥)
     (a : instruction c ≡ 0xB0 → ⊥) (b : instruction c ≡ 0xB2 → ⊥) where
-  none-told : told img pool c (judgeOf img c st) ≡ []
-  none-told = silent img pool c (judgeOf img c st) (judge-ordered img c st) z a b
+  none-told : told img pool c (judgeOf img pool c st) ≡ []
+  none-told = silent img pool c (judgeOf img pool c st) (judge-ordered img pool c st) z a b
 
   fits-silent : fits img pool c st lent ≡ true
   unfolding fits
   fits-silent =
-      let few : length (told img pool c (judgeOf img c st)) ≤ lent = omega (arith, ap length none-told) in
+      let few : length (told img pool c (judgeOf img pool c st)) ≤ lent = omega (arith, ap length none-told) in
       le-leb _ _ few
 
-  pub due-silent : PoolFits img pool → dueOf img pool c st lent ≡ judgeOf img c st
+  pub due-silent : PoolFits img pool → dueOf img pool c st lent ≡ judgeOf img pool c st
   due-silent k = due-fit img pool c st lent k fits-silent
 
   due-none : told img pool c (dueOf img pool c st lent) ≡ []
@@ -90,7 +90,7 @@ long-enough img pool c st lent byte h e = go (soundb img) (poolFits img pool) re
     go true true q p r =
         let sound = sound-says img .0 q in
         let k = pool-says img pool .0 p in
-        let few = told-most img pool c sound k byte (judgeOf img c st) (judge-tells img c sound st) in
+        let few = told-most img pool c sound k byte (judgeOf img pool c st) (judge-tells img pool c sound st) in
         let f = due-fits img pool c st lent k (omega (arith, few)) .0 in
         omega (arith, ap answerNumber (sym (ap (said img pool c (st .sets) (dueOf img pool c st lent) true) f) ∙ r))
     go true false q p r = omega (arith, ap answerNumber r)

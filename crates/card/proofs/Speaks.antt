@@ -67,20 +67,20 @@ creating-spoken img d s (Ef x) h = tt
 abbrev pub Speaks : Plan → Type 0
 Speaks p = (allWords refusal (p .steps) ≡ true) × (allHold (p .steps) ≡ true → Spoken (p .effect))
 
-body-speaks : (img c : List ℕ) (x : Sets) → Speaks (bodyPlan img c x)
+body-speaks : (img pool c : List ℕ) (x : Sets) → Speaks (bodyPlan img pool c x)
 unfolding bodyPlan binary recordwise
-body-speaks img c x =
+body-speaks img pool c x =
     cond-by Speaks (isBinary (instruction c)) _ _ (λ q. (refl, λ a. touching-by Spoken (isRead (instruction c)) _ _ tt tt))
     (λ q. (refl, λ a. touching-by Spoken (isRead (instruction c)) _ _ tt tt))
 
-plan-speaks : (img : List ℕ) (n d : ℕ) (c : List ℕ) (st : State) → Speaks (planFor img n d c st)
+plan-speaks : (img pool : List ℕ) (n d : ℕ) (c : List ℕ) (st : State) → Speaks (planFor img pool n d c st)
 unfolding planFor lifePlan
-plan-speaks img n d c st =
+plan-speaks img pool n d c st =
     chosen-by Speaks (instruction c) _ _ _ (λ e. (refl, λ a. selecting-spoken img d _))
     (λ z. chosen-by Speaks (instruction c) _ _ _ (λ e.
     (refl, λ a. creating-spoken img d _ (dataOf (versionOf img) (sentData c)) (and-says _ _ .0 a .0)))
     (λ z. chosen-by Speaks (instruction c) _ _ _ (λ e. (refl, λ a. tt))
-    (λ z. cond-by Speaks (isBody (instruction c)) _ _ (λ b. body-speaks img c (st .sets))
+    (λ z. cond-by Speaks (isBody (instruction c)) _ _ (λ b. body-speaks img pool c (st .sets))
     (λ z. chosen-by Speaks (instruction c) _ _ _ (λ e. (refl, λ a. tt))
     (λ z. chosen-by Speaks (instruction c) _ _ _ (λ e. (refl, λ a. tt))
     (λ z. chosen-by Speaks (instruction c) _ _ _ (λ e. (refl, λ a. tt))
@@ -89,10 +89,10 @@ plan-speaks img n d c st =
 refused : (w : ℕ) → refusal w ≡ true → Spoken (Refuse w)
 refused w r = no-success w r
 
-pub judge-speaks : (img c : List ℕ) (st : State) → Spoken (judgeOf img c st)
+pub judge-speaks : (img pool c : List ℕ) (st : State) → Spoken (judgeOf img pool c st)
 unfolding judgeOf judgeFor
-judge-speaks img c st =
-    let p = plan-speaks img (countOf img) (currentDfOf img) c st in
+judge-speaks img pool c st =
+    let p = plan-speaks img pool (countOf img) (currentDfOf img) c st in
     judged-by Spoken refusal refused (sharedSteps img c st) _ refl (λ a. followed-by Spoken refusal refused _ (p .0) (p .1))
 
 -- an effect that acts: no refusal
@@ -113,22 +113,22 @@ creating-acts img d s Bad h = absurd (false≢true h)
 creating-acts img d s (Df x) h = tt
 creating-acts img d s (Ef x) h = tt
 
-body-acts : (img c : List ℕ) (x : Sets) → ActsThen (bodyPlan img c x)
+body-acts : (img pool c : List ℕ) (x : Sets) → ActsThen (bodyPlan img pool c x)
 unfolding bodyPlan binary recordwise
-body-acts img c x =
+body-acts img pool c x =
     cond-by ActsThen (isBinary (instruction c)) _ _ (λ q a. touching-by Acts (isRead (instruction c)) _ _ tt tt)
     (λ q a. touching-by Acts (isRead (instruction c)) _ _ tt tt)
 
-pub plan-acts : (img : List ℕ) (n d : ℕ) (c : List ℕ) (st : State) → allHold (planFor img n d c st .steps) ≡ true
-    → Acts (planFor img n d c st .effect)
+pub plan-acts : (img pool : List ℕ) (n d : ℕ) (c : List ℕ) (st : State) → allHold (planFor img pool n d c st .steps) ≡ true
+    → Acts (planFor img pool n d c st .effect)
 unfolding planFor lifePlan selecting
-plan-acts img n d c st =
+plan-acts img pool n d c st =
     chosen-by ActsThen (instruction c) _ _ _
     (λ e a. cond-by Acts (eqb (viewAt img (slotIn (selected img n d _)) .kind) df) _ _ (λ q. tt) (λ q. tt))
     (λ z. chosen-by ActsThen (instruction c) _ _ _
     (λ e a. creating-acts img d _ (dataOf (versionOf img) (sentData c)) (and-says _ _ .0 a .0))
     (λ z. chosen-by ActsThen (instruction c) _ _ _ (λ e a. tt)
-    (λ z. cond-by ActsThen (isBody (instruction c)) _ _ (λ b. body-acts img c (st .sets))
+    (λ z. cond-by ActsThen (isBody (instruction c)) _ _ (λ b. body-acts img pool c (st .sets))
     (λ z. chosen-by ActsThen (instruction c) _ _ _ (λ e a. tt)
     (λ z. chosen-by ActsThen (instruction c) _ _ _ (λ e a. tt)
     (λ z. chosen-by ActsThen (instruction c) _ _ _ (λ e a. tt)

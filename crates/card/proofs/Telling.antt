@@ -86,7 +86,7 @@ pub found-at : (f : Found) → isFound f ≡ true → f ≡ At (slotIn f)
 found-at (At s) e = refl
 found-at Nothing e = absurd (false≢true e)
 
-module _ (img c : List ℕ) (sound : Sound img) where
+module _ (img pool c : List ℕ) (sound : Sound img) where
   refused : (w : ℕ) → anyWord w ≡ true → Tells img c (Refuse w)
   refused w k = tt
 
@@ -148,7 +148,7 @@ module _ (img c : List ℕ) (sound : Sound img) where
             ef-child = λ z. ⊎-elim (λ k. absurd (eqb-false _ _ q k)) (λ k. k .1) (reachable x s e);
           })
 
-  delete-tells : (x : ℕ) (sets : Sets) → Tells img c (followed (delete img (countOf img) (currentDfOf img) x sets))
+  delete-tells : (x : ℕ) (sets : Sets) → Tells img c (followed (delete img pool (countOf img) (currentDfOf img) x sets))
   unfolding childNamed
   delete-tells x sets = followed-by (Tells img c) anyWord refused _ refl (λ a. found (found-at _ (and-says _ _ .0 a .0)))
     where
@@ -162,7 +162,7 @@ module _ (img c : List ℕ) (sound : Sound img) where
 
   -- the steps of CREATE, all held: the slot is the lowest free one
   module _ (right : Right) (i : ℕ) (name : List ℕ) (z : ℕ) (sets : Sets)
-      (a : allHold (admission img (countOf img) (currentDfOf img) right i name z sets) ≡ true) where
+      (a : allHold (admission img pool (countOf img) (currentDfOf img) right i name z sets) ≡ true) where
     admitted : (identifierFree (countOf img) (viewAt img) (currentDfOf img) i ≡ true)
         × ((nameFree (countOf img) (viewAt img) name ≡ true) × (fitsRoom (countOf img) (viewAt img) (currentDfOf img) z ≡ true))
     admitted =
@@ -182,7 +182,7 @@ module _ (img c : List ℕ) (sound : Sound img) where
     record-tells : (kind : ℕ) (right : Right) (x : NewFile) → GoodFile (versionOf img) (sentData c) x → x .name .end - x .name .start ≤ 16
         → GoodRecord (versionOf img) (newHead img (currentDfOf img) kind x) (bytesAt (sentData c) (x .name))
         (bytesAt (sentData c) (x .rule))
-        → allHold (admission img (countOf img) (currentDfOf img) right (x .identifier) (bytesAt (sentData c) (x .name)) (x .size) sets)
+        → allHold (admission img pool (countOf img) (currentDfOf img) right (x .identifier) (bytesAt (sentData c) (x .name)) (x .size) sets)
         ≡ true
         → Tells img c (Create (newRecord img (currentDfOf img) (slotIn (freeSlot (countOf img) (viewAt img))) kind x))
     record-tells kind right x g short good h =
@@ -212,7 +212,7 @@ module _ (img c : List ℕ) (sound : Sound img) where
     new-tells : (new : Data) → Good (versionOf img) (sentData c) new
         → allHold
         (step (describes new) 0x6A80
-        ∷ admission img (countOf img) (currentDfOf img) (rightFor new) (newIdentifier new) (newName (sentData c) new) (newSize new)
+        ∷ admission img pool (countOf img) (currentDfOf img) (rightFor new) (newIdentifier new) (newName (sentData c) new) (newSize new)
         sets)
         ≡ true
         → Tells img c (creating img (currentDfOf img) (slotIn (freeSlot (countOf img) (viewAt img))) new)
@@ -240,7 +240,7 @@ module _ (img c : List ℕ) (sound : Sound img) where
       formed = g .file .rule;
     }) h
 
-    create-tells : Tells img c (followed (create img (countOf img) (currentDfOf img) (sentData c) sets))
+    create-tells : Tells img c (followed (create img pool (countOf img) (currentDfOf img) (sentData c) sets))
     create-tells = followed-by (Tells img c) anyWord refused _ refl 
         (λ a. new-tells (dataOf (versionOf img) (sentData c)) (good (versionOf img) (sentData c)) a)
 
@@ -248,7 +248,7 @@ module _ (img c : List ℕ) (sound : Sound img) where
   current-file : Stands img (countOf img) (currentFile img)
   current-file = current-stands img (countOf img) (currentDfOf img) (currentFile img) (judgeable img sound) refl refl
 
-  life-tells : (i : ℕ) (sets : Sets) → Tells img c (followed (lifePlan img (currentDfOf img) i sets))
+  life-tells : (i : ℕ) (sets : Sets) → Tells img c (followed (lifePlan img pool (currentDfOf img) i sets))
   unfolding lifePlan
   life-tells i sets =
       chosen-by (λ (p : Plan). Tells img c (followed p)) i _ _ _
@@ -263,7 +263,7 @@ module _ (img c : List ℕ) (sound : Sound img) where
       (λ z. followed-by (Tells img c) anyWord refused _ refl (λ a. (judgeable img sound .root, terminated-known))))))
 
   plan-tells : fitLength c ≡ true → isKnown (versionOf img) (instruction c) ≡ true → (st : State)
-      → Tells img c (followed (planFor img (countOf img) (currentDfOf img) c st))
+      → Tells img c (followed (planFor img pool (countOf img) (currentDfOf img) c st))
   unfolding planFor
   plan-tells fit known st =
       chosen-by (λ (p : Plan). Tells img c (followed p)) (instruction c) _ _ _ (λ e. select-tells _)
@@ -271,10 +271,10 @@ module _ (img c : List ℕ) (sound : Sound img) where
       (λ e. create-tells (create-long c fit refl e) (st .sets))
       (λ z. chosen-by (λ (p : Plan). Tells img c (followed p)) (instruction c) _ _ _ (λ e. delete-tells _ (st .sets))
       (λ z. cond-by (λ (p : Plan). Tells img c (followed p)) (isBody (instruction c)) _ _
-      (λ b. body-tells img c sound (known-bodies (versionOf img) (instruction c) b known) fit b (st .sets))
+      (λ b. body-tells img pool c sound (known-bodies (versionOf img) (instruction c) b known) fit b (st .sets))
       (λ z. life-tells (instruction c) (st .sets)))))
 
-  pub judge-tells : (st : State) → Tells img c (judgeOf img c st)
+  pub judge-tells : (st : State) → Tells img c (judgeOf img pool c st)
   unfolding judgeOf judgeFor
   judge-tells st = judged-by (Tells img c) anyWord refused (sharedSteps img c st) _ refl
       (λ a. plan-tells (fit a) ((simp and-says at a) .1 .1 .1 .0) st)

@@ -23,7 +23,8 @@ use Rattle.verdict.specs.Applied.{sentData, wordOf, appliedOf, pooledOf}
 use Rattle.judge_target.specs.Steps.{Step, Plan}
 use Rattle.apdu.specs.Apdu.{classByte, instruction, lc, isTerminate, isOld, isKnown, wantsAlone, isBody, isBinary, isRecord, isRead, isUpdate}
 use Rattle.apdu.specs.Apdu.{fitParameters, goodParameters, parameters, hasData, isFive, fitLength, recordNumber, asked}
-use Rattle.judge_bodies.specs.Bodies.{binary, hasRecord, recordwise}
+use Rattle.pool.specs.Records.{hasRecord}
+use Rattle.judge_bodies.specs.Bodies.{binary, recordwise}
 use Rattle.judge.specs.Judge.{bodyPlan, planFor}
 use Rattle.effect.specs.Told.{told}
 use Rattle.card.specs.Conditions.{startIn, secondIn, le, reading, recordAt, readBinaryAsks, updateBinaryAsks, readRecordAsks, updateRecordAsks}
@@ -128,7 +129,7 @@ module _ (img pool c : List ℕ) (st : State) (sound : Sound img) (third : versi
 pub read-binary-obeys : ReadBinaryObeys
 unfolding planFor bodyPlan binary isOld isTerminate isBody isBinary isRecord isRead isUpdate wantsAlone final asked u16At startAt
 read-binary-obeys img pool c st response sound fit third e =
-    obeys img pool c st response sound fit (binary img (currentEfOf img) true (startIn c) (le c) (st .sets)) (rw e)
+    obeys img pool c st response sound fit (binary img pool (currentEfOf img) true (startIn c) (le c) (st .sets)) (rw e)
     (readBinaryAsks img pool c st (length response)) _ _ _ _
     (opens img c st 0xB0 e (knows img pool c st sound third 0xB0 refl refl) _ _
     (reads-skip _ _ _ _ (calm c st 0xB0 e refl)
@@ -148,8 +149,8 @@ read-binary-obeys img pool c st response sound fit third e =
 pub update-binary-obeys : UpdateBinaryObeys
 unfolding planFor bodyPlan binary isOld isTerminate isBody isBinary isRecord isRead isUpdate wantsAlone asked u16At startAt
 update-binary-obeys img pool c st response sound fit third e =
-    obeys-silent img pool c st response sound fit (binary img (currentEfOf img) false (startIn c) (lc c) (st .sets)) (rw e)
-    (updateBinaryAsks img c st) _ _ _ refl
+    obeys-silent img pool c st response sound fit (binary img pool (currentEfOf img) false (startIn c) (lc c) (st .sets)) (rw e)
+    (updateBinaryAsks img pool c st) _ _ _ refl
     (opens img c st 0xD6 e (knows img pool c st sound third 0xD6 refl refl) _ _
     (reads-skip _ _ _ _ (calm c st 0xD6 e refl)
     (reads-ask _ _ _ _ _ _ (binary-parameters c 0xD6 e refl refl) refl
@@ -167,7 +168,7 @@ update-binary-obeys img pool c st response sound fit third e =
 pub read-record-obeys : ReadRecordObeys
 unfolding planFor bodyPlan recordwise isOld isTerminate isBody isBinary isRecord isRead isUpdate wantsAlone final asked startAt
 read-record-obeys img pool c st response sound fit third e =
-    obeys img pool c st response sound fit (recordwise img (currentEfOf img) true (getD c 2 0) (le c) (st .sets)) (rw e)
+    obeys img pool c st response sound fit (recordwise img pool (currentEfOf img) true (getD c 2 0) (le c) (st .sets)) (rw e)
     (readRecordAsks img pool c st (length response)) _ _ _ _
     (opens img c st 0xB2 e (knows img pool c st sound third 0xB2 refl refl) _ _
     (reads-skip _ _ _ _ (calm c st 0xB2 e refl)
@@ -187,8 +188,8 @@ read-record-obeys img pool c st response sound fit third e =
 pub update-record-obeys : UpdateRecordObeys
 unfolding planFor bodyPlan recordwise isOld isTerminate isBody isBinary isRecord isRead isUpdate wantsAlone asked startAt
 update-record-obeys img pool c st response sound fit third e =
-    obeys-silent img pool c st response sound fit (recordwise img (currentEfOf img) false (getD c 2 0) (lc c) (st .sets)) (rw e)
-    (updateRecordAsks img c st) _ _ _ refl
+    obeys-silent img pool c st response sound fit (recordwise img pool (currentEfOf img) false (getD c 2 0) (lc c) (st .sets)) (rw e)
+    (updateRecordAsks img pool c st) _ _ _ refl
     (opens img c st 0xDC e (knows img pool c st sound third 0xDC refl refl) _ _
     (reads-skip _ _ _ _ (calm c st 0xDC e refl)
     (reads-ask _ _ _ _ _ _ (record-parameters c 0xDC e refl refl refl) refl

@@ -20,7 +20,8 @@ use Rattle.verdict.specs.Applied.{sentData}
 use Rattle.judge_target.specs.Steps.{Plan, followed}
 use Rattle.apdu.specs.Apdu.{instruction, lc, isOld, isTerminate, isKnown, isBody, isBinary, isRecord, isRead, isUpdate, hasData, isFive}
 use Rattle.apdu.specs.Apdu.{fitLength, parameters, recordNumber, asked}
-use Rattle.judge_bodies.specs.Bodies.{touching, binary, hasRecord, recordwise}
+use Rattle.pool.specs.Records.{hasRecord}
+use Rattle.judge_bodies.specs.Bodies.{touching, binary, recordwise}
 use Rattle.judge.specs.Judge.{bodyPlan}
 use Rattle.card.specs.Touching.{placeOf}
 use Rattle.card.proofs.Steps.{cond-by, followed-by, anyWord}
@@ -62,7 +63,7 @@ updates c fit = one-of-four (λ j. instruction c ≡ j → (eqb j 0xB0 || eqb j 
     (λ e r. absurd (false≢true (sym r)))
     (λ e r. (unfold fitLength isUpdate in rw e at fit))
 
-module _ (img c : List ℕ) (sound : Sound img) (has : hasBodies (versionOf img) ≡ true) (fit : fitLength c ≡ true)
+module _ (img pool c : List ℕ) (sound : Sound img) (has : hasBodies (versionOf img) ≡ true) (fit : fitLength c ≡ true)
     (b : isBody (instruction c) ≡ true) where
   r : List ℕ
   r = recAt img (currentEfOf img)
@@ -110,7 +111,7 @@ module _ (img c : List ℕ) (sound : Sound img) (has : hasBodies (versionOf img)
   refused : (w : ℕ) → anyWord w ≡ true → Tells img c (Refuse w)
   refused w k = tt
 
-  pub body-tells : (x : Sets) → Tells img c (followed (bodyPlan img c x))
+  pub body-tells : (x : Sets) → Tells img c (followed (bodyPlan img pool c x))
   unfolding bodyPlan binary recordwise hasRecord
   body-tells x = cond-by (λ (p : Plan). Tells img c (followed p)) (isBinary (instruction c)) _ _
       (λ q. followed-by (Tells img c) anyWord refused _ refl (λ a.

@@ -21,13 +21,17 @@ use Rattle.verdict.specs.declared.State.{State}
 use Rattle.verdict.specs.declared.Verdict.{Verdict}
 use Rattle.verdict.specs.declared.Verdict.the-variants.{Refuse, Select, Create, Delete, SetLife, Read, Update}
 use Rattle.verdict.specs.Applied.{pooledOf, appliedOf, wordOf}
+use Rattle.judge_target.specs.Target.{ruleAt}
 use Rattle.judge.specs.Judge.{judgeOf}
+use Rattle.judge.proofs.Alike.{judge-alike}
+use Rattle.judge_security.proofs.Alike.{denial-alike}
 use Rattle.effect.specs.Told.{told}
 use Rattle.card.specs.Command.{poolFits, fits, dueOf, replyOf, imageOf, poolOf}
-use Rattle.card.specs.Bodies.{OlderPoolStays, BytesUnjudged}
+use Rattle.card.specs.Bodies.{OlderPoolStays, OnlyRulesJudged, OwnRulesUnjudged, BytesUnjudged}
+use Rattle.card.proofs.Rules.{own-alike, bodies-alike}
 use Rattle.card.proofs.Steps.{cond-by}
 use Rattle.card.proofs.Tells.{Tells, some-bodies}
-use Rattle.card.proofs.Due.{due-tells}
+use Rattle.card.proofs.Due.{pool-says, due-tells}
 use Rattle.card.proofs.Answered.{pool-is, damaged-kept}
 
 -- where no slot has a body, nothing is written
@@ -73,8 +77,23 @@ older-pool-stays img pool c st lent z = go (soundb img) refl
         pool-is img pool c st lent sound
         ∙ verdict-stays img pool c sound (ne-eqb (versionOf img) 3 z) (dueOf img pool c st lent) (due-tells img pool c st lent sound)
 
--- what is told is as long, whatever the pool holds
-module _ (img pool other c : List ℕ) (st : State) (lent : ℕ) (same : length pool ≡ length other) where
+fit-alike : (img pool other : List ℕ) → length pool ≡ length other → poolFits img pool ≡ poolFits img other
+unfolding poolFits
+fit-alike img pool other same = rw same
+
+both-damaged : (img pool other c : List ℕ) (st : State) (lent : ℕ) → soundb img ≡ false
+    → (replyOf img pool c st lent ≡ replyOf img other c st lent) × (imageOf img pool c st lent ≡ imageOf img other c st lent)
+unfolding replyOf imageOf
+both-damaged img pool other c st lent e = (rw e, rw e)
+
+both-wrong : (img pool other c : List ℕ) (st : State) (lent : ℕ) → soundb img ≡ true → poolFits img pool ≡ false → poolFits img other ≡ false
+    → (replyOf img pool c st lent ≡ replyOf img other c st lent) × (imageOf img pool c st lent ≡ imageOf img other c st lent)
+unfolding replyOf imageOf dueOf
+both-wrong img pool other c st lent e p q = (rw (e, p, q), rw (e, p, q))
+
+-- what is told is as long, whatever the pool holds; and where the same rules stand in two pools, all is alike
+module _ (img pool other c : List ℕ) (st : State) (lent : ℕ) (same : length pool ≡ length other)
+    (rules : (s : ℕ) → ruleAt img pool s ≡ ruleAt img other s) where
   part-alike : (at n : ℕ) → length (part pool at n) ≡ length (part other at n)
   unfolding part
   part-alike at n = rw (length-take, length-take, length-drop, length-drop, same)
@@ -89,25 +108,53 @@ module _ (img pool other c : List ℕ) (st : State) (lent : ℕ) (same : length 
   told-alike (Update at) = refl
 
   pool-alike : poolFits img pool ≡ poolFits img other
-  unfolding poolFits
-  pool-alike = rw same
+  pool-alike = fit-alike img pool other same
+
+  verdict-alike : judgeOf img pool c st ≡ judgeOf img other c st
+  verdict-alike = judge-alike img pool other c st rules
 
   fits-alike : fits img pool c st lent ≡ fits img other c st lent
   unfolding fits
-  fits-alike = ap (λ (n : ℕ). leb n lent) (told-alike (judgeOf img c st))
+  fits-alike =
+      ap (λ (n : ℕ). leb n lent)
+      (told-alike (judgeOf img pool c st) ∙ ap (λ (v : Verdict). length (told img other c v)) verdict-alike)
 
   due-alike : dueOf img pool c st lent ≡ dueOf img other c st lent
   unfolding dueOf
-  due-alike = rw (pool-alike, fits-alike)
+  due-alike = rw (pool-alike, fits-alike, verdict-alike)
 
+  all-alike : (replyOf img pool c st lent ≡ replyOf img other c st lent) × (imageOf img pool c st lent ≡ imageOf img other c st lent)
+  unfolding replyOf imageOf
+  all-alike = (
+    rw (
+      pool-alike,
+      fits-alike,
+      due-alike,
+      told-alike (dueOf img other c st lent),
+      denial-alike img pool other c (st .sets) (dueOf img other c st lent) rules,
+    ),
+    rw due-alike,
+  )
+
+pub only-rules-judged : OnlyRulesJudged
+only-rules-judged img pool other same rules c st lent = all-alike img pool other c st lent same rules
+
+pub own-rules-unjudged : OwnRulesUnjudged
+own-rules-unjudged img pool other same own = only-rules-judged img pool other same (own-alike img pool other own)
+
+-- a damaged image and a pool of a wrong length are answered alike; else the bodies have the rules
 pub bytes-unjudged : BytesUnjudged
-unfolding replyOf imageOf
-bytes-unjudged img pool other c st lent same = (
-  rw (
-    pool-alike img pool other c st lent same,
-    fits-alike img pool other c st lent same,
-    due-alike img pool other c st lent same,
-    told-alike img pool other c st lent same (dueOf img other c st lent),
-  ),
-  rw (due-alike img pool other c st lent same),
-)
+bytes-unjudged img pool other same bodies c st lent = go (soundb img) (poolFits img pool) refl refl
+  where
+    alike : Sound img → poolFits img pool ≡ true
+        → (replyOf img pool c st lent ≡ replyOf img other c st lent) × (imageOf img pool c st lent ≡ imageOf img other c st lent)
+    alike sound q =
+        only-rules-judged img pool other same
+        (bodies-alike img pool other sound (pool-says img pool .0 q) (pool-says img other .0 (sym (fit-alike img pool other same) ∙ q)) bodies)
+        c st lent
+
+    go : (a b : Bool) → soundb img ≡ a → poolFits img pool ≡ b
+        → (replyOf img pool c st lent ≡ replyOf img other c st lent) × (imageOf img pool c st lent ≡ imageOf img other c st lent)
+    go false b p q = both-damaged img pool other c st lent p
+    go true true p q = alike (sound-says img .0 p) q
+    go true false p q = both-wrong img pool other c st lent p q (sym (fit-alike img pool other same) ∙ q)

@@ -45,7 +45,7 @@ pub record Worded (c : List ℕ) (v : Verdict) : Type 0 where
   pub word : isOneOf (wordOf v) wordsOfTable ≡ true
   pub warns : warning (wordOf v) ≡ true → instruction c ≡ 0xA4
 
-module _ (img c : List ℕ) (st : State) where
+module _ (img pool c : List ℕ) (st : State) where
   refused : (w : ℕ) → refuses w ≡ true → Worded c (Refuse w)
   refused w k =
       let p = and-says (ours w) (not (warning w)) .0 k in
@@ -74,14 +74,14 @@ module _ (img c : List ℕ) (st : State) where
   WordedThen : Plan → Type 0
   WordedThen p = Worded c (followed p)
 
-  body-worded : (x : Sets) → Worded c (followed (bodyPlan img c x))
+  body-worded : (x : Sets) → Worded c (followed (bodyPlan img pool c x))
   unfolding bodyPlan binary recordwise WordedThen
   body-worded x =
       cond-by WordedThen (isBinary (instruction c)) _ _
       (λ q. followed-by (Worded c) refuses refused _ refl (λ a. touching-by (Worded c) (isRead (instruction c)) _ _ (plain _ refl) (plain _ refl)))
       (λ q. followed-by (Worded c) refuses refused _ refl (λ a. touching-by (Worded c) (isRead (instruction c)) _ _ (plain _ refl) (plain _ refl)))
 
-  plan-worded : (n d : ℕ) → Worded c (followed (planFor img n d c st))
+  plan-worded : (n d : ℕ) → Worded c (followed (planFor img pool n d c st))
   unfolding planFor lifePlan WordedThen
   plan-worded n d =
       chosen-by WordedThen (instruction c) _ _ _ (λ e. followed-by (Worded c) refuses refused _ refl (λ a. selecting-worded e d _))
@@ -95,12 +95,12 @@ module _ (img c : List ℕ) (st : State) where
       (λ z. chosen-by WordedThen (instruction c) _ _ _ (λ e. followed-by (Worded c) refuses refused _ refl (λ a. plain _ refl))
       (λ z. followed-by (Worded c) refuses refused _ refl (λ a. plain _ refl)))))))))
 
-  judge-said : Worded c (judgeOf img c st)
+  judge-said : Worded c (judgeOf img pool c st)
   unfolding judgeOf judgeFor
   judge-said = judged-by (Worded c) refuses refused (sharedSteps img c st) _ refl (λ a. plan-worded (countOf img) (currentDfOf img))
 
-  pub judge-worded : isOneOf (wordOf (judgeOf img c st)) wordsOfTable ≡ true
+  pub judge-worded : isOneOf (wordOf (judgeOf img pool c st)) wordsOfTable ≡ true
   judge-worded = judge-said .word
 
-  pub judge-warns : (wordOf (judgeOf img c st) ≡ 0x6283) ⊎ (wordOf (judgeOf img c st) ≡ 0x6285) → instruction c ≡ 0xA4
+  pub judge-warns : (wordOf (judgeOf img pool c st) ≡ 0x6283) ⊎ (wordOf (judgeOf img pool c st) ≡ 0x6285) → instruction c ≡ 0xA4
   judge-warns h = judge-said .warns (or-says _ _ .1 (⊎-elim (λ e. inl (eq-eqb _ _ e)) (λ e. inr (or-says _ _ .1 (inl (eq-eqb _ _ e)))) h))

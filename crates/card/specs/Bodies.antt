@@ -9,7 +9,8 @@ use lib.ListN.{length, getD, replicate}
 use Rattle.laws.specs.Lists.{part, splice}
 use Rattle.laws.specs.Walks.{anyBelow}
 use Rattle.rules.specs.Descriptor.{ef}
-use Rattle.image.specs.Layout.{hasBodies, versionOf, countOf, currentEfOf, none, recAt, kindOf, sizeOf}
+use Rattle.image.specs.Layout.{hasBodies, versionOf, countOf, currentEfOf, none, recAt, kindOf, formOf, sizeOf}
+use Rattle.access.specs.Access.{referred}
 use Rattle.pool.specs.Bodies.{startAt, bodyAt, bodyBytes}
 use Rattle.pool.specs.Packed.{holds}
 use Rattle.sound.specs.Table.{viewAt}
@@ -17,7 +18,7 @@ use Rattle.sound.specs.Kinship.{freeSlot}
 use Rattle.sound.specs.Sound.{Sound, poolLength}
 use Rattle.verdict.specs.declared.State.{State}
 use Rattle.verdict.specs.Applied.{sentData}
-use Rattle.judge_target.specs.Target.{slotIn}
+use Rattle.judge_target.specs.Target.{slotIn, ruleAt}
 use Rattle.apdu.specs.Apdu.{instruction, asked}
 use Rattle.card.specs.Touching.{placeOf}
 use Rattle.card.specs.Command.{answerWord, PoolFits, replyOf, imageOf, poolOf, responseOf}
@@ -80,7 +81,23 @@ OtherBytes = (img pool c : List ℕ) (st : State) (lent q : ℕ) → Sound img �
 abbrev pub OlderPoolStays : Type 0
 OlderPoolStays = (img pool c : List ℕ) (st : State) (lent : ℕ) → (versionOf img ≡ 3 → ⊥) → poolOf img pool c st lent ≡ pool
 
--- of the pool only the length is judged: what it holds changes neither the answer, the word and the count, nor a byte of the image
-abbrev pub BytesUnjudged : Type 0
-BytesUnjudged = (img pool other c : List ℕ) (st : State) (lent : ℕ) → length pool ≡ length other
+-- two pools of one length give the same answer, word, count and number, and the same image
+abbrev pub JudgedAlike : List ℕ → List ℕ → List ℕ → Type 0
+JudgedAlike img pool other = (c : List ℕ) (st : State) (lent : ℕ)
     → (replyOf img pool c st lent ≡ replyOf img other c st lent) × (imageOf img pool c st lent ≡ imageOf img other c st lent)
+
+-- of the pool only the length is judged, and the rules that stand in it (02 Ticket 7): where the same rule decides on every slot, what else
+-- it holds changes nothing
+abbrev pub OnlyRulesJudged : Type 0
+OnlyRulesJudged = (img pool other : List ℕ) → length pool ≡ length other → ((s : ℕ) → ruleAt img pool s ≡ ruleAt img other s)
+    → JudgedAlike img pool other
+
+-- .. so where every rule stands in its file's own record, only the length is
+abbrev pub OwnRulesUnjudged : Type 0
+OwnRulesUnjudged = (img pool other : List ℕ) → length pool ≡ length other → ((s : ℕ) → formOf (recAt img s) ≡ referred → ⊥)
+    → JudgedAlike img pool other
+
+-- .. and on every card bytes in no body are not judged
+abbrev pub BytesUnjudged : Type 0
+BytesUnjudged = (img pool other : List ℕ) → length pool ≡ length other
+    → ((s : ℕ) → s < countOf img → bodyBytes img pool s ≡ bodyBytes img other s) → JudgedAlike img pool other

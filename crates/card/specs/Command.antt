@@ -59,12 +59,12 @@ PoolFits img pool = hasBodies (versionOf img) ≡ true → length pool ≡ poolL
 
 -- the last check: what the verdict tells fits the response
 unfoldable pub fits : List ℕ → List ℕ → List ℕ → State → ℕ → Bool
-fits img pool c st lent = leb (length (told img pool c (judgeOf img c st))) lent
+fits img pool c st lent = leb (length (told img pool c (judgeOf img pool c st))) lent
 
 -- the verdict that stands: where one of these two checks fails, a refusal without a word
 unfoldable pub dueOf : List ℕ → List ℕ → List ℕ → State → ℕ → Verdict
 dueOf img pool c st lent =
-    cond (poolFits img pool) (cond (fits img pool c st lent) (judgeOf img c st) (Refuse 0x0000)) (Refuse 0x0000)
+    cond (poolFits img pool) (cond (fits img pool c st lent) (judgeOf img pool c st) (Refuse 0x0000)) (Refuse 0x0000)
 
 -- the longest data on a card of a version: a template, or what one READ asks for
 unfoldable pub longestAnswer : ℕ → ℕ
@@ -76,7 +76,8 @@ replyOf img pool c st lent =
     let due : Verdict = dueOf img pool c st lent in
     cond (soundb img)
     (cond (poolFits img pool)
-    (cond (fits img pool c st lent) (Word (wordOf due) (length (told img pool c due)) (denialOf img c (st .sets) due)) Short) WrongPool)
+    (cond (fits img pool c st lent)
+    (Word (wordOf due) (length (told img pool c due)) (denialOf img pool c (st .sets) due)) Short) WrongPool)
     Damaged
 
 unfoldable pub imageOf : List ℕ → List ℕ → List ℕ → State → ℕ → List ℕ
@@ -102,6 +103,6 @@ pub record CommandPromises (img pool c : List ℕ) (st : State) (response : List
   pub word : answerWord r ≡ cond (soundb img) (wordOf (dueOf img pool c st (length response))) 0x0000
   pub bytes : answerTold r ≡ cond (soundb img) (length (told img pool c (dueOf img pool c st (length response)))) 0
   pub security : answerSecurity r
-      ≡ cond (soundb img) (decisionNumber (denialOf img c (st .sets) (dueOf img pool c st (length response)))) 0
+      ≡ cond (soundb img) (decisionNumber (denialOf img pool c (st .sets) (dueOf img pool c st (length response)))) 0
   -- so few that every number holds them
   pub few : answerTold r < 65536

@@ -113,14 +113,14 @@ FreeName img name = (name ≡ [] → ⊥) → (s : ℕ) → s < countOf img → 
 abbrev pub newOf : List ℕ → List ℕ → Data
 newOf img c = dataOf (versionOf img) (sentData c)
 
-abbrev pub createAsks : List ℕ → List ℕ → State → List Ask
-createAsks img c st =
+abbrev pub createAsks : List ℕ → List ℕ → List ℕ → State → List Ask
+createAsks img pool c st =
     knownAsks img c
     (alone st                                                                                        -- E
     ∷ parametersAre c 0x00 0x00                                                                      -- F
     ∷ ask ((1 ≤ lc c) × (length c ≡ 5 + lc c)) 0x6700                                                -- G
     ∷ ask (DfData (versionOf img) (sentData c) ⊎ EfData (versionOf img) (sentData c)) 0x6A80         -- H
-    ∷ ask (allowedAt img (currentDfOf img) (rightFor (newOf img c)) (st .sets) ≡ true) 0x6982           -- J
+    ∷ ask (allowedAt img pool (currentDfOf img) (rightFor (newOf img c)) (st .sets) ≡ true) 0x6982           -- J
     ∷ ask ((lifeOf (lifeAt img (currentDfOf img)) ≡ deactivated → ⊥) × NoneTerminated img (currentDfOf img)) 0x6985   -- K
     ∷ ask (FreeIdentifier img (currentDfOf img) (newIdentifier (newOf img c))) 0x6A89                -- L
     ∷ ask (FreeName img (newName (sentData c) (newOf img c))) 0x6A8A
@@ -131,67 +131,67 @@ createAsks img c st =
 abbrev pub namedChild : List ℕ → List ℕ → ℕ
 namedChild img c = slotIn (childNamed (countOf img) (viewAt img) (currentDfOf img) (sentIdentifier c))
 
-abbrev pub deleteAsks : List ℕ → List ℕ → State → List Ask
-deleteAsks img c st =
+abbrev pub deleteAsks : List ℕ → List ℕ → List ℕ → State → List Ask
+deleteAsks img pool c st =
     knownAsks img c
     (alone st                                                                                        -- E
     ∷ parametersAre c 0x00 0x00                                                                      -- F
     ∷ ask ((length c ≡ 7) × (lc c ≡ 2)) 0x6700                                                       -- G
     ∷ ask (isFound (childNamed (countOf img) (viewAt img) (currentDfOf img) (sentIdentifier c)) ≡ true) 0x6A82   -- I
-    ∷ ask ((allowedAt img (namedChild img c) DeleteSelf (st .sets) ≡ true)
-      ⊎ (allowedAt img (currentDfOf img) DeleteChild (st .sets) ≡ true)) 0x6982                      -- J
+    ∷ ask ((allowedAt img pool (namedChild img c) DeleteSelf (st .sets) ≡ true)
+      ⊎ (allowedAt img pool (currentDfOf img) DeleteChild (st .sets) ≡ true)) 0x6982                      -- J
     ∷ [])
 
-abbrev pub activateAsks : List ℕ → List ℕ → State → List Ask
-activateAsks img c st =
+abbrev pub activateAsks : List ℕ → List ℕ → List ℕ → State → List Ask
+activateAsks img pool c st =
     knownAsks img c
     (parametersAre c 0x00 0x00                                                                       -- F
     ∷ fourBytes c                                                                                    -- G
-    ∷ ask (allowedAt img (currentFile img) Activate (st .sets) ≡ true) 0x6982                        -- J
+    ∷ ask (allowedAt img pool (currentFile img) Activate (st .sets) ≡ true) 0x6982                        -- J
     ∷ ask (NoneTerminated img (currentFile img)) 0x6985                                              -- K
     ∷ ask ((lifeOf (lifeAt img (currentFile img)) ≡ creation)
       ⊎ ((lifeOf (lifeAt img (currentFile img)) ≡ initialisation) ⊎ (lifeOf (lifeAt img (currentFile img)) ≡ deactivated))) 0x6985
     ∷ [])
 
-abbrev pub deactivateAsks : List ℕ → List ℕ → State → List Ask
-deactivateAsks img c st =
+abbrev pub deactivateAsks : List ℕ → List ℕ → List ℕ → State → List Ask
+deactivateAsks img pool c st =
     knownAsks img c
     (parametersAre c 0x00 0x00                                                                       -- F
     ∷ fourBytes c                                                                                    -- G
-    ∷ ask (allowedAt img (currentFile img) Deactivate (st .sets) ≡ true) 0x6982                      -- J
+    ∷ ask (allowedAt img pool (currentFile img) Deactivate (st .sets) ≡ true) 0x6982                      -- J
     ∷ ask (NoneTerminated img (currentFile img)) 0x6985                                              -- K
     ∷ ask (lifeOf (lifeAt img (currentFile img)) ≡ activated) 0x6985
     ∷ [])
 
-abbrev pub terminateEfAsks : List ℕ → List ℕ → State → List Ask
-terminateEfAsks img c st =
+abbrev pub terminateEfAsks : List ℕ → List ℕ → List ℕ → State → List Ask
+terminateEfAsks img pool c st =
     knownAsks img c
     (alone st                                                                                        -- E
     ∷ parametersAre c 0x00 0x00                                                                      -- F
     ∷ fourBytes c                                                                                    -- G
     ∷ ask (currentEfOf img ≡ none → ⊥) 0x6986                                                        -- I
-    ∷ ask (allowedAt img (currentEfOf img) Terminate (st .sets) ≡ true) 0x6982                       -- J
+    ∷ ask (allowedAt img pool (currentEfOf img) Terminate (st .sets) ≡ true) 0x6982                       -- J
     ∷ ask (NoneTerminated img (currentEfOf img)) 0x6985                                              -- K
     ∷ [])
 
-abbrev pub terminateDfAsks : List ℕ → List ℕ → State → List Ask
-terminateDfAsks img c st =
+abbrev pub terminateDfAsks : List ℕ → List ℕ → List ℕ → State → List Ask
+terminateDfAsks img pool c st =
     knownAsks img c
     (alone st                                                                                        -- E
     ∷ parametersAre c 0x00 0x00                                                                      -- F
     ∷ fourBytes c                                                                                    -- G
-    ∷ ask (allowedAt img (currentDfOf img) Terminate (st .sets) ≡ true) 0x6982                       -- J
+    ∷ ask (allowedAt img pool (currentDfOf img) Terminate (st .sets) ≡ true) 0x6982                       -- J
     ∷ ask (currentDfOf img ≡ 0 → ⊥) 0x6985                                                           -- K
     ∷ ask (NoneTerminated img (currentDfOf img)) 0x6985
     ∷ [])
 
-abbrev pub terminateCardAsks : List ℕ → List ℕ → State → List Ask
-terminateCardAsks img c st =
+abbrev pub terminateCardAsks : List ℕ → List ℕ → List ℕ → State → List Ask
+terminateCardAsks img pool c st =
     knownAsks img c
     (alone st                                                                                        -- E
     ∷ parametersAre c 0x00 0x00                                                                      -- F
     ∷ fourBytes c                                                                                    -- G
-    ∷ ask (allowedAt img 0 Terminate (st .sets) ≡ true) 0x6982                                       -- J
+    ∷ ask (allowedAt img pool 0 Terminate (st .sets) ≡ true) 0x6982                                       -- J
     ∷ [])
 
 -- READ and UPDATE (02 Ticket 4) are about the current EF: its record
@@ -199,10 +199,10 @@ abbrev pub currentEf : List ℕ → List ℕ
 currentEf img = recAt img (currentEfOf img)
 
 -- I, J and K of all four: there is one, its rule's b1 or b2 grants it, it is activated and nothing above it is terminated
-abbrev pub bodyAsks : List ℕ → State → Right → List Ask → List Ask
-bodyAsks img st right rest =
+abbrev pub bodyAsks : List ℕ → List ℕ → State → Right → List Ask → List Ask
+bodyAsks img pool st right rest =
     ask (currentEfOf img ≡ none → ⊥) 0x6986                                                          -- I
-    ∷ ask (allowedAt img (currentEfOf img) right (st .sets) ≡ true) 0x6982                           -- J
+    ∷ ask (allowedAt img pool (currentEfOf img) right (st .sets) ≡ true) 0x6982                           -- J
     ∷ ask (lifeOf (lifeAt img (currentEfOf img)) ≡ activated) 0x6985                                 -- K
     ∷ ask (NoneTerminated img (currentEfOf img)) 0x6985
     ∷ rest
@@ -250,26 +250,26 @@ readBinaryAsks img pool c st lent =
     knownAsks img c
     (ask (startIn c < 0x8000) 0x6B00                                                                 -- F
     ∷ ask (length c ≡ 5) 0x6700                                                                      -- G
-    ∷ bodyAsks img st ReadBody (binaryAsks img (startIn c) (le c) (fitsResponse (reading img pool (startIn c) (le c)) lent)))
+    ∷ bodyAsks img pool st ReadBody (binaryAsks img (startIn c) (le c) (fitsResponse (reading img pool (startIn c) (le c)) lent)))
 
-abbrev pub updateBinaryAsks : List ℕ → List ℕ → State → List Ask
-updateBinaryAsks img c st =
+abbrev pub updateBinaryAsks : List ℕ → List ℕ → List ℕ → State → List Ask
+updateBinaryAsks img pool c st =
     knownAsks img c
     (ask (startIn c < 0x8000) 0x6B00                                                                 -- F
     ∷ ask ((1 ≤ lc c) × (length c ≡ 5 + lc c)) 0x6700                                                -- G
-    ∷ bodyAsks img st UpdateBody (binaryAsks img (startIn c) (lc c) []))
+    ∷ bodyAsks img pool st UpdateBody (binaryAsks img (startIn c) (lc c) []))
 
 abbrev pub readRecordAsks : List ℕ → List ℕ → List ℕ → State → ℕ → List Ask
 readRecordAsks img pool c st lent =
     knownAsks img c
     (ask (secondIn c ≡ 0x04) 0x6B00                                                                  -- F
     ∷ ask (length c ≡ 5) 0x6700                                                                      -- G
-    ∷ bodyAsks img st ReadBody
+    ∷ bodyAsks img pool st ReadBody
     (recordAsks img (getD c 2 0) (le c) (fitsResponse (reading img pool (recordAt img (getD c 2 0)) (le c)) lent)))
 
-abbrev pub updateRecordAsks : List ℕ → List ℕ → State → List Ask
-updateRecordAsks img c st =
+abbrev pub updateRecordAsks : List ℕ → List ℕ → List ℕ → State → List Ask
+updateRecordAsks img pool c st =
     knownAsks img c
     (ask (secondIn c ≡ 0x04) 0x6B00                                                                  -- F
     ∷ ask ((1 ≤ lc c) × (length c ≡ 5 + lc c)) 0x6700                                                -- G
-    ∷ bodyAsks img st UpdateBody (recordAsks img (getD c 2 0) (lc c) []))
+    ∷ bodyAsks img pool st UpdateBody (recordAsks img (getD c 2 0) (lc c) []))

@@ -59,8 +59,8 @@ OlderFit = (img pool : List ℕ) → (versionOf img ≡ 1) ⊎ (versionOf img �
 -- .. a sound one with its pool is answer 0, or 5 with word 0000 where the response is shorter than what the command tells
 abbrev pub SoundAnswered : Type 0
 SoundAnswered = (img pool c : List ℕ) (st : State) (lent : ℕ) → soundb img ≡ true → PoolFits img pool
-    → (length (told img pool c (judgeOf img c st)) ≤ lent → answerNumber (replyOf img pool c st lent) ≡ 0)
-    × (lent < length (told img pool c (judgeOf img c st))
+    → (length (told img pool c (judgeOf img pool c st)) ≤ lent → answerNumber (replyOf img pool c st lent) ≡ 0)
+    × (lent < length (told img pool c (judgeOf img pool c st))
     → (answerNumber (replyOf img pool c st lent) ≡ 5) × (answerWord (replyOf img pool c st lent) ≡ 0x0000))
 
 -- 9000, 6283 or 6285
@@ -141,12 +141,13 @@ StaysCompact = (img pool c : List ℕ) (st : State) (lent s : ℕ) → Sound img
 abbrev pub RepliesInOrder : Type 0
 RepliesInOrder = (img pool c : List ℕ) (st : State) (response : List ℕ) → Sound img → PoolFits img pool
     → (allHold (allSteps img pool c st (length response)) ≡ true
-    → (replyOf img pool c st (length response) ≡ Word (wordOf (effectOf img c st)) (length (told img pool c (effectOf img c st))) Granted)
-    × (imageOf img pool c st (length response) ≡ appliedOf img c (effectOf img c st))
-    × (poolOf img pool c st (length response) ≡ pooledOf img pool c (effectOf img c st))
-    × (responseOf img pool c st response ≡ splice response 0 (told img pool c (effectOf img c st))))
+    → (replyOf img pool c st (length response)
+    ≡ Word (wordOf (effectOf img pool c st)) (length (told img pool c (effectOf img pool c st))) Granted)
+    × (imageOf img pool c st (length response) ≡ appliedOf img c (effectOf img pool c st))
+    × (poolOf img pool c st (length response) ≡ pooledOf img pool c (effectOf img pool c st))
+    × (responseOf img pool c st response ≡ splice response 0 (told img pool c (effectOf img pool c st))))
     × (allHold (allSteps img pool c st (length response)) ≡ false
-    → (replyOf img pool c st (length response) ≡ refusal img c (st .sets) (firstFailing (allSteps img pool c st (length response))))
+    → (replyOf img pool c st (length response) ≡ refusal img pool c (st .sets) (firstFailing (allSteps img pool c st (length response))))
     × AllStays img pool c st response)
 
 -- Demand 2: the word tells success exactly where all steps hold

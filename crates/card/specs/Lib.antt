@@ -8,3 +8,5 @@ pub mod Demands
 pub mod Lives
 pub mod Bodies
 pub mod Security
+pub mod Ruling
+pub mod Rules

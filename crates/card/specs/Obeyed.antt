@@ -38,8 +38,8 @@ use Rattle.card.specs.Conditions.{startIn, le, reading, recordAt, readBi
 use Rattle.card.specs.Conditions.{deactivateAsks, terminateEfAsks, terminateDfAsks, terminateCardAsks, found, newOf, namedChild}
 
 -- a refusal tells nothing; the one without a word is answer 5; that of step J says what it decided (02 Ticket 6)
-abbrev pub refusal : List ℕ → List ℕ → Sets → ℕ → Reply
-refusal img c x w = cond (eqb w 0x0000) Short (Word w 0 (cond (eqb w 0x6982) (stepJ img c x) Granted))
+abbrev pub refusal : List ℕ → List ℕ → List ℕ → Sets → ℕ → Reply
+refusal img pool c x w = cond (eqb w 0x0000) Short (Word w 0 (cond (eqb w 0x6982) (stepJ img pool c x) Granted))
 
 pub record Obeys (img pool c : List ℕ) (st : State) (response : List ℕ) (asks : List Ask) (word : ℕ) (left kept answer : List ℕ)
     : Type 0 where
@@ -47,7 +47,7 @@ pub record Obeys (img pool c : List ℕ) (st : State) (response : List ℕ) (ask
       → (replyOf img pool c st (length response) ≡ Word word (length answer) Granted) × (imageOf img pool c st (length response) ≡ left)
       × (poolOf img pool c st (length response) ≡ kept) × (responseOf img pool c st response ≡ splice response 0 answer)
   pub refused : (w : ℕ) → Refused asks w
-      → (replyOf img pool c st (length response) ≡ refusal img c (st .sets) w) × (imageOf img pool c st (length response) ≡ img)
+      → (replyOf img pool c st (length response) ≡ refusal img pool c (st .sets) w) × (imageOf img pool c st (length response) ≡ img)
       × (poolOf img pool c st (length response) ≡ pool) × (responseOf img pool c st response ≡ response)
   -- and there is no third case
   pub always : Met asks ⊎ ((w : ℕ) × Refused asks w)
@@ -96,35 +96,35 @@ filling img pool (Ef x) = filled img pool (newHead img ef x)
 
 abbrev pub CreateObeys : Type 0
 CreateObeys = (img pool c : List ℕ) (st : State) (response : List ℕ) → Sound img → PoolFits img pool → instruction c ≡ 0xE0
-    → Obeys img pool c st response (createAsks img c st) 0x9000
+    → Obeys img pool c st response (createAsks img pool c st) 0x9000
     (creating img (sentData c) (slotIn (freeSlot (countOf img) (viewAt img))) (newOf img c)) (filling img pool (newOf img c)) []
 
 -- DELETE: the child and all beneath it become zero records, their bytes of the pool 00; a deleted current EF becomes none
 abbrev pub DeleteObeys : Type 0
 DeleteObeys = (img pool c : List ℕ) (st : State) (response : List ℕ) → Sound img → PoolFits img pool → instruction c ≡ 0xE4
-    → Obeys img pool c st response (deleteAsks img c st) 0x9000 (deleted img (namedChild img c))
+    → Obeys img pool c st response (deleteAsks img pool c st) 0x9000 (deleted img (namedChild img c))
     (wiped img pool (namedChild img c)) []
 
 -- the life-cycle commands write one byte, and say 9000
 abbrev pub ActivateObeys : Type 0
 ActivateObeys = (img pool c : List ℕ) (st : State) (response : List ℕ) → Sound img → PoolFits img pool → instruction c ≡ 0x44
-    → Obeys img pool c st response (activateAsks img c st) 0x9000 (setLife img (currentFile img) 0x05) pool []
+    → Obeys img pool c st response (activateAsks img pool c st) 0x9000 (setLife img (currentFile img) 0x05) pool []
 
 abbrev pub DeactivateObeys : Type 0
 DeactivateObeys = (img pool c : List ℕ) (st : State) (response : List ℕ) → Sound img → PoolFits img pool → instruction c ≡ 0x04
-    → Obeys img pool c st response (deactivateAsks img c st) 0x9000 (setLife img (currentFile img) 0x04) pool []
+    → Obeys img pool c st response (deactivateAsks img pool c st) 0x9000 (setLife img (currentFile img) 0x04) pool []
 
 abbrev pub TerminateEfObeys : Type 0
 TerminateEfObeys = (img pool c : List ℕ) (st : State) (response : List ℕ) → Sound img → PoolFits img pool → instruction c ≡ 0xE8
-    → Obeys img pool c st response (terminateEfAsks img c st) 0x9000 (setLife img (currentEfOf img) 0x0C) pool []
+    → Obeys img pool c st response (terminateEfAsks img pool c st) 0x9000 (setLife img (currentEfOf img) 0x0C) pool []
 
 abbrev pub TerminateDfObeys : Type 0
 TerminateDfObeys = (img pool c : List ℕ) (st : State) (response : List ℕ) → Sound img → PoolFits img pool → instruction c ≡ 0xE6
-    → Obeys img pool c st response (terminateDfAsks img c st) 0x9000 (setLife img (currentDfOf img) 0x0C) pool []
+    → Obeys img pool c st response (terminateDfAsks img pool c st) 0x9000 (setLife img (currentDfOf img) 0x0C) pool []
 
 abbrev pub TerminateCardObeys : Type 0
 TerminateCardObeys = (img pool c : List ℕ) (st : State) (response : List ℕ) → Sound img → PoolFits img pool → instruction c ≡ 0xFE
-    → Obeys img pool c st response (terminateCardAsks img c st) 0x9000 (setLife img 0 0x0C) pool []
+    → Obeys img pool c st response (terminateCardAsks img pool c st) 0x9000 (setLife img 0 0x0C) pool []
 
 -- READ and UPDATE, on a card that has bodies (02 Ticket 4): a READ tells bytes of the current EF's body, an UPDATE overwrites them with its
 -- data; nothing else changes
@@ -136,7 +136,7 @@ ReadBinaryObeys = (img pool c : List ℕ) (st : State) (response : List ℕ) →
 abbrev pub UpdateBinaryObeys : Type 0
 UpdateBinaryObeys = (img pool c : List ℕ) (st : State) (response : List ℕ) → Sound img → PoolFits img pool → versionOf img ≡ 3
     → instruction c ≡ 0xD6
-    → Obeys img pool c st response (updateBinaryAsks img c st) 0x9000 img
+    → Obeys img pool c st response (updateBinaryAsks img pool c st) 0x9000 img
     (splice pool (startAt img (currentEfOf img) + startIn c) (sentData c)) []
 
 abbrev pub ReadRecordObeys : Type 0
@@ -148,7 +148,7 @@ ReadRecordObeys = (img pool c : List ℕ) (st : State) (response : List ℕ) →
 abbrev pub UpdateRecordObeys : Type 0
 UpdateRecordObeys = (img pool c : List ℕ) (st : State) (response : List ℕ) → Sound img → PoolFits img pool → versionOf img ≡ 3
     → instruction c ≡ 0xDC
-    → Obeys img pool c st response (updateRecordAsks img c st) 0x9000 img
+    → Obeys img pool c st response (updateRecordAsks img pool c st) 0x9000 img
     (splice pool (startAt img (currentEfOf img) + recordAt img (getD c 2 0)) (sentData c)) []
 
 -- a number is one of a list

@@ -26,15 +26,15 @@ NumberExactly = (img pool c : List ℕ) (st : State) (lent : ℕ)
     × ((answerWord (replyOf img pool c st lent) ≡ 0x6982 → ⊥) → answerSecurity (replyOf img pool c st lent) ≡ 0)
 
 -- step J of this command on this image passes, had just these sets been authenticated
-abbrev pub PassesJ : List ℕ → List ℕ → State → Sets → Type 0
-PassesJ img c st y = holdsJ (stepsOf img c (under st y)) ≡ true
+abbrev pub PassesJ : List ℕ → List ℕ → List ℕ → State → Sets → Type 0
+PassesJ img pool c st y = holdsJ (stepsOf img pool c (under st y)) ≡ true
 
 -- WHAT THE NUMBER SAYS of a call that is refused with 6982, whatever the command: 1 exactly if some state would have made step J pass, 2
 -- exactly if none would
 abbrev pub LacksExactly : Type 0
 LacksExactly = (img pool c : List ℕ) (st : State) (lent : ℕ) → answerWord (replyOf img pool c st lent) ≡ 0x6982
-    → ((answerSecurity (replyOf img pool c st lent) ≡ 1) ↔ ((y : Sets) × (IsState y × PassesJ img c st y)))
-    × ((answerSecurity (replyOf img pool c st lent) ≡ 2) ↔ ((y : Sets) → PassesJ img c st y → ⊥))
+    → ((answerSecurity (replyOf img pool c st lent) ≡ 1) ↔ ((y : Sets) × (IsState y × PassesJ img pool c st y)))
+    × ((answerSecurity (replyOf img pool c st lent) ≡ 2) ↔ ((y : Sets) → PassesJ img pool c st y → ⊥))
 
 -- .. and told by nothing but replies: 1 exactly if the same call under some state gives another word (0000 of answer 5 among them), 2
 -- exactly if it gives 6982 under every one
@@ -48,8 +48,8 @@ OtherStates = (img pool c : List ℕ) (st : State) (lent : ℕ) → answerWord (
 abbrev pub DeleteLacks : Type 0
 DeleteLacks = (img pool c : List ℕ) (st : State) (lent : ℕ) → instruction c ≡ 0xE4 → answerWord (replyOf img pool c st lent) ≡ 0x6982
     → ((answerSecurity (replyOf img pool c st lent) ≡ 1)
-    ↔ ((decisionAt img (namedChild img c) DeleteSelf (st .sets) ≡ Lacking)
-    ⊎ (decisionAt img (currentDfOf img) DeleteChild (st .sets) ≡ Lacking)))
+    ↔ ((decisionAt img pool (namedChild img c) DeleteSelf (st .sets) ≡ Lacking)
+    ⊎ (decisionAt img pool (currentDfOf img) DeleteChild (st .sets) ≡ Lacking)))
     × ((answerSecurity (replyOf img pool c st lent) ≡ 2)
-    ↔ ((decisionAt img (namedChild img c) DeleteSelf (st .sets) ≡ Closed)
-    × (decisionAt img (currentDfOf img) DeleteChild (st .sets) ≡ Closed)))
+    ↔ ((decisionAt img pool (namedChild img c) DeleteSelf (st .sets) ≡ Closed)
+    × (decisionAt img pool (currentDfOf img) DeleteChild (st .sets) ≡ Closed)))

@@ -14,18 +14,18 @@ use Rattle.judge.specs.Shared.{sharedSteps}
 use Rattle.judge.specs.Judge.{planFor}
 use Rattle.effect.specs.Told.{told}
 
-abbrev pub stepsOf : List ℕ → List ℕ → State → List Step
-stepsOf img c st = sharedSteps img c st ++ planFor img (countOf img) (currentDfOf img) c st .steps
+abbrev pub stepsOf : List ℕ → List ℕ → List ℕ → State → List Step
+stepsOf img pool c st = sharedSteps img c st ++ planFor img pool (countOf img) (currentDfOf img) c st .steps
 
-abbrev pub effectOf : List ℕ → List ℕ → State → Verdict
-effectOf img c st = planFor img (countOf img) (currentDfOf img) c st .effect
+abbrev pub effectOf : List ℕ → List ℕ → List ℕ → State → Verdict
+effectOf img pool c st = planFor img pool (countOf img) (currentDfOf img) c st .effect
 
 -- .. and the last: answer 5, which has no word
 abbrev pub lastStep : List ℕ → List ℕ → List ℕ → State → ℕ → Step
-lastStep img pool c st lent = step (leb (length (told img pool c (effectOf img c st))) lent) 0x0000
+lastStep img pool c st lent = step (leb (length (told img pool c (effectOf img pool c st))) lent) 0x0000
 
 abbrev pub allSteps : List ℕ → List ℕ → List ℕ → State → ℕ → List Step
-allSteps img pool c st lent = stepsOf img c st ++ (lastStep img pool c st lent ∷ [])
+allSteps img pool c st lent = stepsOf img pool c st ++ (lastStep img pool c st lent ∷ [])
 
 -- the word of the first step that fails
 abbrev pub firstFailing : List Step → ℕ

@@ -8,7 +8,10 @@ ghost use Rattle.sound.specs.Sound.{Sound};
 ghost use Rattle.card.specs.Command.{poolFits, CommandPromises};
 use access::Decision;
 use fcp::Written;
+use referred::Place;
 use verdict::State;
+
+pub mod standing;
 
 // What a call answers: the word of a command on a sound image, how many bytes it told, and what it lacks where it was refused for security
 // (with any other word, where no rule was asked too, nothing: Granted); or that the image is damaged; or that the response is too short
@@ -24,8 +27,16 @@ pub enum Reply {
     WrongPool,
 }
 
+// Where the rule of a slot stands, nowhere if there is no file; or that the image is damaged, or that the pool does not have the length of
+// this card's.
+pub enum Ruling {
+    At(Place),
+    Damaged,
+    WrongPool,
+}
+
 // Whether the pool has the length that a sound image wants: the root's total, where files have bodies.
-fn pool_fits(image: &[u8], pool: &[u8]) -> bool
+pub fn pool_fits(image: &[u8], pool: &[u8]) -> bool
     requires { ⌜ Sound (now image) ⌝ }
     ensures { λ r. ⌜ r ≡ poolFits (now (image .entry)) (now (pool .entry)) ⌝ }
 {
@@ -53,11 +64,11 @@ pub fn command(
         return Reply::WrongPool;
     }
     let n = image::fields::count(image);
-    let due = judge::order::judge(image, command, state);
+    let due = judge::order::judge(image, pool, command, state);
     let Written::Done(told) = effect::tell::tell(response, image, pool, command, due) else {
         return Reply::Short;
     };
-    let security = judge_security::denial(image, command, state, due);
+    let security = judge_security::denial(image, pool, command, state, due);
     let word = effect::apply::apply(image, n, pool, command, due);
     Reply::Word {
         word: word,

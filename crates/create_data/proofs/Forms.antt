@@ -1,7 +1,7 @@
 -- The two lists of objects: what the reader's tests of a DF's and of an EF's objects say of the objects that were standing,
 -- and the bytes that such objects are.
 use mathlib.Core.Path.{_≡_, refl, sym, ap, ap₂, _∙_}
-use mathlib.Core.Bool.{true, cond, _||_, false≢true}
+use mathlib.Core.Bool.{Bool, true, cond, _&&_, _||_, false≢true}
 use mathlib.Core.List.{List, [], _++_, append-nil}
 use mathlib.Core.Logic.{_↔_}
 use Prim.Native.Nat.{ℕ, _<_, _≤_}
@@ -9,14 +9,14 @@ use native.Mathlib.Omega.{arith}
 use lib.ListN.{length}
 use lib.Dec.{lit<}
 use Rattle.rules.specs.Descriptor.{hasRecords}
-use Rattle.access.specs.Access.{compact, expanded}
+use Rattle.access.specs.Access.{compact, expanded, referred}
 use Rattle.template.specs.declared.Objects.{Objects}
 use Rattle.template.specs.Objects.{valueIn}
-use Rattle.create_data.specs.Form.{t82, t83, t84, t8A, t8C, tAB, t80, t81, tC6, t85, tA5, lacks, has, onePrivate}
+use Rattle.create_data.specs.Form.{t82, t83, t84, t8A, t8C, tAB, t8B, t80, t81, tC6, t85, tA5, lacks, has, onePrivate}
 use Rattle.create_data.specs.Form.{oneRule, ruleIn, formIn, firstForm, dfForm, efForm}
 use Rattle.template.specs.Values.{firstOf}
 use Rattle.create_data.specs.Grammar.{Optional, absent, sent, object, optional, valueOf, Private, neither, in85, inA5, privately}
-use Rattle.create_data.specs.Grammar.{Ruled, in8C, inAB, ruled, ruleOf, ruleForm, Long}
+use Rattle.create_data.specs.Grammar.{Ruled, in8C, inAB, in8B, ruled, ruleOf, ruleForm, Long}
 use Rattle.create_data.specs.Data.{ruleGood, bothGood}
 use Rattle.create_data.proofs.Noting.{isAbsent, Noted}
 use Rattle.create_data.proofs.Order.{run}
@@ -43,23 +43,33 @@ pub record EfForm (x : ℕ → Optional) : Type 0 where
   pub no-total : isAbsent (x t81) ≡ true
   pub no-security : isAbsent (x tC6) ≡ true
 
--- the rule, by the two objects that may have it
-abbrev pub ruledOf : Optional → Optional → Ruled
-ruledOf (sent v) b = in8C v
-ruledOf absent b = inAB (valueOf b)
+-- the rule, by the three objects that may have it; and whether no two of them are there
+abbrev pub ruledOf : Optional → Optional → Optional → Ruled
+ruledOf (sent v) b c = in8C v
+ruledOf absent (sent v) c = inAB v
+ruledOf absent absent c = in8B (valueOf c)
+
+abbrev pub onceOf : Optional → Optional → Optional → Bool
+onceOf a b c = cond (isAbsent a) (isAbsent b || isAbsent c) (isAbsent b && isAbsent c)
+
+abbrev pub ruledIn : (ℕ → Optional) → Ruled
+ruledIn x = ruledOf (x t8C) (x tAB) (x t8B)
+
+abbrev pub onceIn : (ℕ → Optional) → Bool
+onceIn x = onceOf (x t8C) (x tAB) (x t8B)
 
 module _ (s : List ℕ) (x : ℕ → Optional) (o : Objects) (g : Noted s x o) where
-  pub value-is : (k : ℕ) → k < 11 → valueIn s o k ≡ valueOf (x k)
+  pub value-is : (k : ℕ) → k < 12 → valueIn s o k ≡ valueOf (x k)
   value-is k l = g k l .value
 
-  has-is : (k low high : ℕ) → k < 11 → has o k low high ≡ fits low high (valueOf (x k))
+  has-is : (k low high : ℕ) → k < 12 → has o k low high ≡ fits low high (valueOf (x k))
   unfolding has
   has-is k low high l = rw (g k l .long)
 
-  has-says : (k low high : ℕ) → k < 11 → (has o k low high ≡ true) ↔ Long low high (valueOf (x k))
+  has-says : (k low high : ℕ) → k < 12 → (has o k low high ≡ true) ↔ Long low high (valueOf (x k))
   has-says k low high l = rw (has-is k low high l) (long-says low high (valueOf (x k)))
 
-  pub lacks-is : (k : ℕ) → k < 11 → lacks o k ≡ isAbsent (x k)
+  pub lacks-is : (k : ℕ) → k < 12 → lacks o k ≡ isAbsent (x k)
   unfolding lacks
   lacks-is k l = g k l .lacking
 
@@ -67,29 +77,33 @@ module _ (s : List ℕ) (x : ℕ → Optional) (o : Objects) (g : Noted s x o) w
   unfolding onePrivate
   private-is = ap₂ _||_ (lacks-is t85 (lit< tt)) (lacks-is tA5 (lit< tt))
 
-  rule-once : oneRule o ≡ (isAbsent (x t8C) || isAbsent (x tAB))
+  rule-once : oneRule o ≡ onceIn x
   unfolding oneRule
-  rule-once = ap₂ _||_ (lacks-is t8C (lit< tt)) (lacks-is tAB (lit< tt))
+  rule-once = rw (lacks-is t8C (lit< tt), lacks-is tAB (lit< tt), lacks-is t8B (lit< tt))
 
-  pub rule-value : valueIn s o (ruleIn o) ≡ ruleOf (ruledOf (x t8C) (x tAB))
+  pub rule-value : valueIn s o (ruleIn o) ≡ ruleOf (ruledIn x)
   unfolding ruleIn
-  rule-value = rw (lacks-is t8C (lit< tt)) (go (x t8C) (value-is t8C (lit< tt)))
+  rule-value =
+      rw (lacks-is t8C (lit< tt), lacks-is tAB (lit< tt))
+      (go (x t8C) (x tAB) (value-is t8C (lit< tt)) (value-is tAB (lit< tt)))
     where
-      go : (y : Optional) → valueIn s o t8C ≡ valueOf y → valueIn s o (cond (isAbsent y) tAB t8C) ≡ ruleOf (ruledOf y (x tAB))
-      go absent e = value-is tAB (lit< tt)
-      go (sent v) e = e
+      go : (y z : Optional) → valueIn s o t8C ≡ valueOf y → valueIn s o tAB ≡ valueOf z
+          → valueIn s o (cond (isAbsent y) (cond (isAbsent z) t8B tAB) t8C) ≡ ruleOf (ruledOf y z (x t8B))
+      go absent absent e f = value-is t8B (lit< tt)
+      go absent (sent v) e f = f
+      go (sent v) z e f = e
 
-  pub rule-form : formIn o ≡ ruleForm (ruledOf (x t8C) (x tAB))
+  pub rule-form : formIn o ≡ ruleForm (ruledIn x)
   unfolding formIn
-  rule-form = rw (lacks-is t8C (lit< tt)) (go (x t8C))
+  rule-form = rw (lacks-is t8C (lit< tt), lacks-is tAB (lit< tt)) (go (x t8C) (x tAB))
     where
-      go : (y : Optional) → cond (isAbsent y) expanded compact ≡ ruleForm (ruledOf y (x tAB))
-      go absent = refl
-      go (sent v) = refl
+      go : (y z : Optional) → cond (isAbsent y) (cond (isAbsent z) referred expanded) compact ≡ ruleForm (ruledOf y z (x t8B))
+      go absent absent = refl
+      go absent (sent v) = refl
+      go (sent v) z = refl
 
   -- identifier, life cycle and rule
-  pub both-is : (v : ℕ) → bothGood v s o
-      ≡ fileTest v (valueOf (x t83)) (valueOf (x t8A)) (isAbsent (x t8C) || isAbsent (x tAB)) (ruledOf (x t8C) (x tAB))
+  pub both-is : (v : ℕ) → bothGood v s o ≡ fileTest v (valueOf (x t83)) (valueOf (x t8A)) (onceIn x) (ruledIn x)
   unfolding bothGood ruleGood
   both-is v = rw (value-is t83 (lit< tt), value-is t8A (lit< tt), rule-once, rule-form, rule-value)
 
@@ -180,29 +194,31 @@ privateOf absent (sent v) e = (inA5 v, append-nil (object 0xA5 v))
 privateOf (sent v) absent e = (in85 v, append-nil (object 0x85 v))
 privateOf (sent v) (sent w) e = absurd (false≢true e)
 
--- 8C or AB
-rule-bytes : (a b : Optional) {l m : List ℕ} → (isAbsent a || isAbsent b) ≡ true → 1 ≤ length (ruleOf (ruledOf a b)) → l ≡ m
-    → optional 0x8C a ++ (optional 0xAB b ++ l) ≡ ruled (ruledOf a b) ++ m
-rule-bytes absent b o h e = there 0xAB b h e
-rule-bytes (sent v) absent o h e = ap (λ (l : List ℕ). object 0x8C v ++ l) e
-rule-bytes (sent v) (sent w) o h e = absurd (false≢true o)
+-- 8C, AB or 8B
+rule-bytes : (a b c : Optional) {l m : List ℕ} → onceOf a b c ≡ true → 1 ≤ length (ruleOf (ruledOf a b c)) → l ≡ m
+    → optional 0x8C a ++ (optional 0xAB b ++ (optional 0x8B c ++ l)) ≡ ruled (ruledOf a b c) ++ m
+rule-bytes absent absent c o h e = there 0x8B c h e
+rule-bytes absent (sent v) absent o h e = ap (λ (l : List ℕ). object 0xAB v ++ l) e
+rule-bytes absent (sent v) (sent w) o h e = absurd (false≢true o)
+rule-bytes (sent v) absent absent o h e = ap (λ (l : List ℕ). object 0x8C v ++ l) e
+rule-bytes (sent v) absent (sent w) o h e = absurd (false≢true o)
+rule-bytes (sent v) (sent w) c o h e = absurd (false≢true o)
 
-module _ (x : ℕ → Optional) (once : (isAbsent (x t8C) || isAbsent (x tAB)) ≡ true)
-    (rule : 1 ≤ length (ruleOf (ruledOf (x t8C) (x tAB)))) (p : Private)
+module _ (x : ℕ → Optional) (once : onceIn x ≡ true) (rule : 1 ≤ length (ruleOf (ruledIn x))) (p : Private)
     (e : optional 0x85 (x t85) ++ (optional 0xA5 (x tA5) ++ []) ≡ privately p) where
-  pub df-bytes : DfForm x → run 11 0 x
+  pub df-bytes : DfForm x → run 12 0 x
       ≡ object 0x82 (valueOf (x t82)) ++ (object 0x83 (valueOf (x t83)) ++ (optional 0x84 (x t84) ++ (object 0x8A (valueOf (x t8A))
-      ++ (ruled (ruledOf (x t8C) (x tAB)) ++ (object 0x81 (valueOf (x t81)) ++ (object 0xC6 (valueOf (x tC6)) ++ privately p))))))
+      ++ (ruled (ruledIn x) ++ (object 0x81 (valueOf (x t81)) ++ (object 0xC6 (valueOf (x tC6)) ++ privately p))))))
   df-bytes f =
       there 0x82 (x t82) (omega (arith, f .descriptor)) (there 0x83 (x t83) (omega (arith, f .identifier))
       (ap (λ (l : List ℕ). optional 0x84 (x t84) ++ l)
-      (there 0x8A (x t8A) (omega (arith, f .life)) (rule-bytes (x t8C) (x tAB) once rule (gone 0x80 (x t80) (f .no-size)
+      (there 0x8A (x t8A) (omega (arith, f .life)) (rule-bytes (x t8C) (x tAB) (x t8B) once rule (gone 0x80 (x t80) (f .no-size)
       (there 0x81 (x t81) (omega (arith, f .total)) (there 0xC6 (x tC6) (f .security .0) e)))))))
 
-  pub ef-bytes : EfForm x → 1 ≤ length (valueOf (x t82)) → run 11 0 x
+  pub ef-bytes : EfForm x → 1 ≤ length (valueOf (x t82)) → run 12 0 x
       ≡ object 0x82 (valueOf (x t82)) ++ (object 0x83 (valueOf (x t83)) ++ (object 0x8A (valueOf (x t8A))
-      ++ (ruled (ruledOf (x t8C) (x tAB)) ++ (object 0x80 (valueOf (x t80)) ++ privately p))))
+      ++ (ruled (ruledIn x) ++ (object 0x80 (valueOf (x t80)) ++ privately p))))
   ef-bytes f d =
       there 0x82 (x t82) d (there 0x83 (x t83) (omega (arith, f .identifier)) (gone 0x84 (x t84) (f .no-name)
-      (there 0x8A (x t8A) (omega (arith, f .life)) (rule-bytes (x t8C) (x tAB) once rule
+      (there 0x8A (x t8A) (omega (arith, f .life)) (rule-bytes (x t8C) (x tAB) (x t8B) once rule
       (there 0x80 (x t80) (omega (arith, f .size)) (gone 0x81 (x t81) (f .no-total) (gone 0xC6 (x tC6) (f .no-security) e)))))))

@@ -15,16 +15,16 @@ use Rattle.template.specs.declared.Objects.{Objects}
 use Rattle.create_data.specs.declared.Data.{Data}
 use Rattle.create_data.specs.declared.Data.the-variants.{Bad}
 use Rattle.template.specs.Objects.{valueIn, objectsOf}
-use Rattle.create_data.specs.Form.{t82, t83, t84, t8A, t8C, tAB, t80, t81, dfForm, efForm}
+use Rattle.create_data.specs.Form.{t82, t83, t84, t8A, t8C, tAB, t8B, t80, t81, dfForm, efForm}
 use Rattle.template.specs.Values.{firstOf, pairOf, recordLengthOf, numberOf}
 use Rattle.create_data.specs.Data.{isTemplate, nameGood, bothGood, newFile, dfOf, sizedEf, efOf, fileOf, dataOf}
 use Rattle.create_data.specs.Grammar.{Optional, absent, sent, object, optional, template, valueOf, first, number}
-use Rattle.create_data.specs.Grammar.{Private, neither, in85, inA5, privately, Ruled, in8C, inAB, ruled, ruleOf, ruleForm}
+use Rattle.create_data.specs.Grammar.{Private, neither, in85, inA5, privately, Ruled, in8C, inAB, in8B, ruled, ruleOf, ruleForm}
 use Rattle.create_data.specs.Grammar.{FileData, DfData, EfData, DfRead, EfRead, DataExactly, DataRead}
 use Rattle.create_data.proofs.Noting.{isAbsent, Noted, standing-noted}
 use Rattle.create_data.proofs.Order.{run, written-told, written-ends}
 use Rattle.create_data.proofs.Meaning.{and, each, first-is, pair-is, number-is, name-says, file-to, layout-to, layout-length}
-use Rattle.create_data.proofs.Forms.{ruledOf, value-is, lacks-is, rule-value, rule-form, both-is, df-form, ef-form}
+use Rattle.create_data.proofs.Forms.{ruledOf, onceOf, value-is, lacks-is, rule-value, rule-form, both-is, df-form, ef-form}
 use Rattle.create_data.proofs.Taken.{taken}
 
 -- past a test
@@ -34,26 +34,37 @@ on P b x y e h = rw e h
 off : (P : Data → Type 0) (b : Bool) (x y : Data) → b ≡ false → P y → P (cond b x y)
 off P b x y e h = rw e h
 
--- 8C and AB as two of the eleven
+-- 8C, AB and 8B as three of the twelve
 abbrev as8C : Ruled → Optional
 as8C (in8C v) = sent v
 as8C (inAB v) = absent
+as8C (in8B v) = absent
 
 abbrev asAB : Ruled → Optional
 asAB (in8C v) = absent
 asAB (inAB v) = sent v
+asAB (in8B v) = absent
 
-rule-one : (r : Ruled) → (isAbsent (as8C r) || isAbsent (asAB r)) ≡ true
+abbrev as8B : Ruled → Optional
+as8B (in8C v) = absent
+as8B (inAB v) = absent
+as8B (in8B v) = sent v
+
+rule-one : (r : Ruled) → onceOf (as8C r) (asAB r) (as8B r) ≡ true
 rule-one (in8C v) = refl
 rule-one (inAB v) = refl
+rule-one (in8B v) = refl
 
-rule-same : (r : Ruled) → ruledOf (as8C r) (asAB r) ≡ r
+rule-same : (r : Ruled) → ruledOf (as8C r) (asAB r) (as8B r) ≡ r
 rule-same (in8C v) = refl
 rule-same (inAB v) = refl
+rule-same (in8B v) = refl
 
-rule-bytes : (r : Ruled) (l : List ℕ) → ruled r ++ l ≡ optional 0x8C (as8C r) ++ (optional 0xAB (asAB r) ++ l)
+rule-bytes : (r : Ruled) (l : List ℕ)
+    → ruled r ++ l ≡ optional 0x8C (as8C r) ++ (optional 0xAB (asAB r) ++ (optional 0x8B (as8B r) ++ l))
 rule-bytes (in8C v) l = refl
 rule-bytes (inAB v) l = refl
+rule-bytes (in8B v) l = refl
 
 -- 85 and A5 as two more
 abbrev as85 : Private → Optional
@@ -76,32 +87,32 @@ private-bytes neither = refl
 private-bytes (in85 v) = sym (append-nil (object 0x85 v))
 private-bytes (inA5 v) = sym (append-nil (object 0xA5 v))
 
--- the eleven, by their numbers
+-- the twelve, by their numbers
 abbrev byNumber : List Optional → ℕ → Optional
 byNumber xs k = getD xs k absent
 
 abbrev dfObjects : {v : ℕ} {s : List ℕ} → DfData v s → ℕ → Optional
 dfObjects t =
     byNumber (sent (t .descriptor) ∷ sent (t .identifier) ∷ t .name ∷ sent (t .life) ∷ as8C (t .rule) ∷ asAB (t .rule)
-    ∷ absent ∷ sent (t .total) ∷ sent (t .security) ∷ as85 (t .private) ∷ asA5 (t .private) ∷ [])
+    ∷ as8B (t .rule) ∷ absent ∷ sent (t .total) ∷ sent (t .security) ∷ as85 (t .private) ∷ asA5 (t .private) ∷ [])
 
 abbrev efObjects : {v : ℕ} {s : List ℕ} → EfData v s → ℕ → Optional
 efObjects t =
     byNumber (sent (t .descriptor) ∷ sent (t .identifier) ∷ absent ∷ sent (t .life) ∷ as8C (t .rule) ∷ asAB (t .rule)
-    ∷ sent (t .size) ∷ absent ∷ absent ∷ as85 (t .private) ∷ asA5 (t .private) ∷ [])
+    ∷ as8B (t .rule) ∷ sent (t .size) ∷ absent ∷ absent ∷ as85 (t .private) ∷ asA5 (t .private) ∷ [])
 
--- data that are eleven such objects, some of them absent
-module _ (v : ℕ) (s : List ℕ) (x : ℕ → Optional) (w : s ≡ template (run 11 0 x)) (short : length s ≤ 2 + 0x7F) where
+-- data that are twelve such objects, some of them absent
+module _ (v : ℕ) (s : List ℕ) (x : ℕ → Optional) (w : s ≡ template (run 12 0 x)) (short : length s ≤ 2 + 0x7F) where
   long : 2 ≤ length s
   long = omega (arith, ap length w)
 
-  body : drop 2 s ≡ run 11 0 x
+  body : drop 2 s ≡ run 12 0 x
   body = ap (λ (l : List ℕ). drop 2 l) w
 
   is-template : isTemplate s ≡ true
   unfolding isTemplate
   is-template =
-      let os : List ℕ = run 11 0 x in
+      let os : List ℕ = run 12 0 x in
       rw w
       (and (le-leb 2 (length (template os)) (omega arith))
       (and refl
@@ -123,9 +134,9 @@ module _ (v : ℕ) (s : List ℕ) (x : ℕ → Optional) (w : s ≡ template (ru
 
 -- identifier, life cycle and rule are good, o being what was noted
 both-good : (v : ℕ) (s : List ℕ) (x : ℕ → Optional) (o : Objects) → Noted s x o → (r : Ruled) → as8C r ≡ x t8C → asAB r ≡ x tAB
-    → FileData v (valueOf (x t83)) (valueOf (x t8A)) r → bothGood v s o ≡ true
-both-good v s x o g r p q f =
-    both-is s x o g v ∙ rw (← p, ← q, rule-same r) (file-to v _ _ (isAbsent (as8C r) || isAbsent (asAB r)) r (rule-one r) f)
+    → as8B r ≡ x t8B → FileData v (valueOf (x t83)) (valueOf (x t8A)) r → bothGood v s o ≡ true
+both-good v s x o g r p q t f =
+    both-is s x o g v ∙ rw (← p, ← q, ← t, rule-same r) (file-to v _ _ (onceOf (as8C r) (asAB r) (as8B r)) r (rule-one r) f)
 
 -- what is read of a DF's objects
 module _ (v : ℕ) (s : List ℕ) (t : DfData v s) where
@@ -150,7 +161,7 @@ module _ (v : ℕ) (s : List ℕ) (t : DfData v s) where
         no-size = refl;
       }))
       (on P (nameGood s o) _ _ (rw (lacks-is s x o g t84 (lit< tt), u t84 (lit< tt)) (name-says (t .name) .1 (t .name-long)))
-      (on P (bothGood v s o) _ _ (both-good v s x o g (t .rule) refl refl (t .file))
+      (on P (bothGood v s o) _ _ (both-good v s x o g (t .rule) refl refl refl (t .file))
       (off P (eqb (numberOf (valueIn s o t81)) 0) _ _ (ne-eqb _ 0 (λ y. t .total-some (sym z ∙ y))) (
         ap firstOf (u t82 (lit< tt)) ∙ first-is (t .descriptor),
         ap pairOf (u t83 (lit< tt)) ∙ pair-is (t .identifier) (t .file .identifier-long),
@@ -183,7 +194,7 @@ module _ (v : ℕ) (s : List ℕ) (t : EfData v s) where
         no-total = refl;
         no-security = refl;
       }))
-      (on P (bothGood v s o) _ _ (both-good v s x o g (t .rule) refl refl (t .file))
+      (on P (bothGood v s o) _ _ (both-good v s x o g (t .rule) refl refl refl (t .file))
       (off P (eqb (numberOf (valueIn s o t80)) 0) _ _ (ne-eqb _ 0 (λ y. t .size-some (sym z ∙ y)))
       (on P (goodLength d (recordLengthOf (valueIn s o t82)) (numberOf (valueIn s o t80))) _ _ (rw (u t82 (lit< tt), z) (l .1)) (
         ap firstOf (u t82 (lit< tt)) ∙ first-is (t .descriptor),
@@ -201,7 +212,7 @@ data-read v s = (of-df, of-ef)
     of-df : (t : DfData v s) → DfRead v s t (dataOf v s)
     of-df t =
         let x = dfObjects t in
-        let w : s ≡ template (run 11 0 x) = rw (private-bytes (t .private), rule-bytes (t .rule)) at (t .written) in
+        let w : s ≡ template (run 12 0 x) = rw (private-bytes (t .private), rule-bytes (t .rule)) at (t .written) in
         let k : classOf (firstOf (valueIn s (objectsOf s) t82)) ≡ df = class-is v s x w (t .short) (t .descriptor) df refl (t .class) in
         opened v s x w (t .short) (DfRead v s t)
         (on (DfRead v s t) (eqb (classOf (firstOf (valueIn s (objectsOf s) t82))) df) _ _ (rw k)
@@ -210,7 +221,7 @@ data-read v s = (of-df, of-ef)
     of-ef : (t : EfData v s) → EfRead v s t (dataOf v s)
     of-ef t =
         let x = efObjects t in
-        let w : s ≡ template (run 11 0 x) = rw (private-bytes (t .private), rule-bytes (t .rule)) at (t .written) in
+        let w : s ≡ template (run 12 0 x) = rw (private-bytes (t .private), rule-bytes (t .rule)) at (t .written) in
         let k : classOf (firstOf (valueIn s (objectsOf s) t82)) ≡ ef = class-is v s x w (t .short) (t .descriptor) ef refl (t .class) in
         opened v s x w (t .short) (EfRead v s t)
         (off (EfRead v s t) (eqb (classOf (firstOf (valueIn s (objectsOf s) t82))) df) _ _ (rw k)

@@ -102,12 +102,12 @@ pub record Stands (s : List ℕ) (a e : ℕ) (x : Optional) : Type 0 where
 
 -- each of the eleven is noted where it stands
 abbrev pub Noted : List ℕ → (ℕ → Optional) → Objects → Type 0
-Noted s x o = (k : ℕ) → k < 11 → Stands s (startIn o k) (endIn o k) (x k)
+Noted s x o = (k : ℕ) → k < 12 → Stands s (startIn o k) (endIn o k) (x k)
 
 -- the objects below k are noted, the others are to come
 record Upto (s : List ℕ) (x : ℕ → Optional) (k : ℕ) (o : Objects) : Type 0 where
-  starts-long : length (o .starts) ≡ 11
-  ends-long : length (o .ends) ≡ 11
+  starts-long : length (o .starts) ≡ 12
+  ends-long : length (o .ends) ≡ 12
   read : (j : ℕ) → j < k → Stands s (startIn o j) (endIn o j) (x j)
   start-none : (j : ℕ) → k ≤ j → startIn o j ≡ 0
   end-none : (j : ℕ) → k ≤ j → endIn o j ≡ 0
@@ -118,7 +118,7 @@ unfolding part
 stands-none s = record { value = refl; long = refl; lacking = refl }
 
 -- a step keeps it so
-module _ (s : List ℕ) (x : ℕ → Optional) (k : ℕ) (lt : k < 11) (o : Objects) (h : Upto s x k o) where
+module _ (s : List ℕ) (x : ℕ → Optional) (k : ℕ) (lt : k < 12) (o : Objects) (h : Upto s x k o) where
   none-noted : x k ≡ absent → Upto s x (suc k) o
   none-noted q = record {
     starts-long = h .starts-long;
@@ -179,14 +179,14 @@ module _ (s : List ℕ) (x : ℕ → Optional) (k : ℕ) (lt : k < 11) (o : Obje
 
 -- what the reader notes is what is standing, in any data that have 62 LL
 module _ (s : List ℕ) (long : 2 ≤ length s) where
-  upto : (k : ℕ) → k ≤ 11 → Upto s (standing s) k (takenBelow k s)
+  upto : (k : ℕ) → k ≤ 12 → Upto s (standing s) k (takenBelow k s)
   unfolding takenBelow standing
   upto zero l = record {
     starts-long = refl;
     ends-long = refl;
     read = λ j m. absurd (not-suc-le-zero m);
-    start-none = λ j m. zeros 11 j;
-    end-none = λ j m. zeros 11 j;
+    start-none = λ j m. zeros 12 j;
+    end-none = λ j m. zeros 12 j;
     within = long;
   }
   upto (suc k) l =
@@ -195,8 +195,8 @@ module _ (s : List ℕ) (long : 2 ≤ length s) where
 
   pub standing-noted : Noted s (standing s) (objectsOf s)
   unfolding objectsOf
-  standing-noted = upto 11 (omega arith) .read
+  standing-noted = upto 12 (omega arith) .read
 
   pub next-within : objectsOf s .next ≤ length s
   unfolding objectsOf
-  next-within = upto 11 (omega arith) .within
+  next-within = upto 12 (omega arith) .within

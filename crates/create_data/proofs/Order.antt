@@ -32,17 +32,17 @@ step-written : (s : List ℕ) (o : Objects) (k : ℕ) (x : Optional) (r : Object
 step-written s o k absent r p = ap (λ (y : Objects). drop (y .next) s) (sym p)
 step-written s o k (sent v) r p = p .1 ∙ ap (λ (y : Objects). object (getD order k 0) v ++ drop (y .next) s) (sym (p .0))
 
-written-from : (s : List ℕ) (n k : ℕ) → n + k ≡ 11 → drop (takenBelow k s .next) s ≡ run n k (standing s) ++ drop (objectsOf s .next) s
+written-from : (s : List ℕ) (n k : ℕ) → n + k ≡ 12 → drop (takenBelow k s .next) s ≡ run n k (standing s) ++ drop (objectsOf s .next) s
 unfolding objectsOf takenBelow standing
-written-from s zero k e = let z : k ≡ 11 = omega arith in ap (λ (i : ℕ). drop (takenBelow i s .next) s) z
+written-from s zero k e = let z : k ≡ 12 = omega arith in ap (λ (i : ℕ). drop (takenBelow i s .next) s) z
 written-from s (suc n) k e =
     step-written s (takenBelow k s) k (standing s k) (takenBelow (suc k) s) (step s (takenBelow k s) k)
     ∙ ap (λ (l : List ℕ). optional (getD order k 0) (standing s k) ++ l) (written-from s n (suc k) (omega arith))
     ∙ sym (append-assoc (optional (getD order k 0) (standing s k)) (run n (suc k) (standing s)) (drop (objectsOf s .next) s))
 
-pub standing-written : (s : List ℕ) → drop 2 s ≡ run 11 0 (standing s) ++ drop (objectsOf s .next) s
+pub standing-written : (s : List ℕ) → drop 2 s ≡ run 12 0 (standing s) ++ drop (objectsOf s .next) s
 unfolding takenBelow
-standing-written s = written-from s 11 0 refl
+standing-written s = written-from s 12 0 refl
 
 -- t is none of n tags from number k on, nor 0
 abbrev fresh : ℕ → ℕ → ℕ → Bool
@@ -61,11 +61,11 @@ not-first t (suc n) k x f e = go (not-first t n (suc k) x (f-both .1)) (x k) e
     go f absent q = f q
     go f (sent v) q = eqb-false (getD order k 0) t (not-true _ (f-both .0)) q
 
-past : (n k : ℕ) → n + suc k ≡ 11 → fresh (getD order k 0) n (suc k) ≡ true
+past : (n k : ℕ) → n + suc k ≡ 12 → fresh (getD order k 0) n (suc k) ≡ true
 unfolding allBelow
 past n k e =
-    let z : n ≡ 10 - k = omega arith in
-    rw z (all-each (λ j. fresh (getD order j 0) (10 - j) (suc j)) 11 k (omega arith) refl)
+    let z : n ≡ 11 - k = omega arith in
+    rw z (all-each (λ j. fresh (getD order j 0) (11 - j) (suc j)) 12 k (omega arith) refl)
 
 -- two objects of one tag, with what follows them
 same-object : (t : ℕ) (v w l m : List ℕ) → object t v ++ l ≡ object t w ++ m → (v ≡ w) × (l ≡ m)
@@ -97,7 +97,7 @@ module _ (s : List ℕ) (short : length s ≤ 129) (x : ℕ → Optional) where
             ∙ ap (λ (b : Bool). cond b (sent (part s (n + 2) (n + 2 + getD s (n + 1) 0 - (n + 2)))) absent) (eq-eqb _ _ head)
 
   -- one step over objects that were written
-  one-told : (n k : ℕ) → n + suc k ≡ 11 → (o : Objects) → drop (o .next) s ≡ run (suc n) k x
+  one-told : (n k : ℕ) → n + suc k ≡ 12 → (o : Objects) → drop (o .next) s ≡ run (suc n) k x
       → (seen s k (objectAt s (o .next)) ≡ x k) × (drop (takenAt s o k .next) s ≡ run n (suc k) x)
   one-told n k l o e = go (seen s k (objectAt s (o .next))) (x k) refl (step s o k) e
     where
@@ -112,24 +112,24 @@ module _ (s : List ℕ) (short : length s ≤ 129) (x : ℕ → Optional) where
           let both = same-object (getD order k 0) u v _ _ (sym (p .1) ∙ w) in
           (ap sent (both .0), ap (λ (r : Objects). drop (r .next) s) (p .0) ∙ both .1)
 
-  told-from : (n k : ℕ) → n + k ≡ 11 → drop (takenBelow k s .next) s ≡ run n k x
-      → ((j : ℕ) → k ≤ j → j < 11 → standing s j ≡ x j) × (drop (objectsOf s .next) s ≡ [])
+  told-from : (n k : ℕ) → n + k ≡ 12 → drop (takenBelow k s .next) s ≡ run n k x
+      → ((j : ℕ) → k ≤ j → j < 12 → standing s j ≡ x j) × (drop (objectsOf s .next) s ≡ [])
   unfolding objectsOf takenBelow standing
   told-from zero k l e =
-      let z : k ≡ 11 = omega arith in
+      let z : k ≡ 12 = omega arith in
       (λ j a b. absurd (omega arith), ap (λ (i : ℕ). drop (takenBelow i s .next) s) (sym z) ∙ e)
   told-from (suc n) k l e =
       let this = one-told n k (omega arith) (takenBelow k s) e in
       let rest = told-from n (suc k) (omega arith) (this .1) in
       (λ j a b. ⊎-elim (λ z. rw z (this .0)) (λ i. rest .0 j (omega arith) b) (same-or j k), rest .1)
 
-  module _ (long : 2 ≤ length s) (e : drop 2 s ≡ run 11 0 x) where
-    told-all : ((j : ℕ) → 0 ≤ j → j < 11 → standing s j ≡ x j) × (drop (objectsOf s .next) s ≡ [])
+  module _ (long : 2 ≤ length s) (e : drop 2 s ≡ run 12 0 x) where
+    told-all : ((j : ℕ) → 0 ≤ j → j < 12 → standing s j ≡ x j) × (drop (objectsOf s .next) s ≡ [])
     unfolding takenBelow
-    told-all = told-from 11 0 refl e
+    told-all = told-from 12 0 refl e
 
     -- what was written is standing, and ends the data
-    pub written-told : (j : ℕ) → j < 11 → standing s j ≡ x j
+    pub written-told : (j : ℕ) → j < 12 → standing s j ≡ x j
     written-told j l = told-all .0 j (omega arith) l
 
     pub written-ends : objectsOf s .next ≡ length s

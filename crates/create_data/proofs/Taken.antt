@@ -1,6 +1,6 @@
 -- Data that are not bad are a DF's or an EF's, as the grammar writes them.
 use mathlib.Core.Path.{_≡_, refl, sym, ap, _∙_}
-use mathlib.Core.Bool.{Bool, true, false, cond, _||_}
+use mathlib.Core.Bool.{Bool, true, false, cond}
 use mathlib.Core.List.{List, [], _∷_, _++_, append-nil}
 use mathlib.Core.Logic.{_⊎_, inl, inr, ⊎-elim}
 use Prim.Native.Nat.{ℕ, _+_, _-_, _≤_}
@@ -16,14 +16,14 @@ use Rattle.template.specs.declared.Objects.{Objects}
 use Rattle.create_data.specs.declared.Data.{Data}
 use Rattle.create_data.specs.declared.Data.the-variants.{Bad}
 use Rattle.template.specs.Objects.{valueIn, objectsOf}
-use Rattle.create_data.specs.Form.{t82, t83, t84, t8A, t8C, tAB, t80, t81, tC6, t85, tA5, dfForm, efForm}
+use Rattle.create_data.specs.Form.{t82, t83, t84, t8A, t80, t81, tC6, t85, tA5, dfForm, efForm}
 use Rattle.template.specs.Values.{firstOf, recordLengthOf, numberOf}
 use Rattle.create_data.specs.Data.{isTemplate, need, nameGood, bothGood, dfOf, sizedEf, efOf, fileOf, dataOf}
 use Rattle.create_data.specs.Grammar.{template, valueOf, number, Long, FileData, DfData, EfData}
-use Rattle.create_data.proofs.Noting.{isAbsent, standing, standing-noted}
+use Rattle.create_data.proofs.Noting.{standing, standing-noted}
 use Rattle.create_data.proofs.Order.{run, standing-written}
 use Rattle.create_data.proofs.Meaning.{and, each, first-is, number-is, name-says, file-from, layout-from, layout-some}
-use Rattle.create_data.proofs.Forms.{DfForm, EfForm, ruledOf, value-is, lacks-is, both-is, df-form, ef-form, privateOf}
+use Rattle.create_data.proofs.Forms.{DfForm, EfForm, ruledIn, onceIn, value-is, lacks-is, both-is, df-form, ef-form, privateOf}
 use Rattle.create_data.proofs.Forms.{df-bytes, ef-bytes}
 
 -- a test that what isn't bad has passed
@@ -63,18 +63,17 @@ template-is s e =
 -- the objects end the data
 module _ (v : ℕ) (s : List ℕ) (w : s ≡ template (drop 2 s)) (short : length s ≤ 2 + 0x7F) (long : 2 ≤ length s)
     (ends : objectsOf s .next ≡ length s) where
-  body : drop 2 s ≡ run 11 0 (standing s)
+  body : drop 2 s ≡ run 12 0 (standing s)
   body =
       standing-written s
-      ∙ ap (λ (l : List ℕ). run 11 0 (standing s) ++ l) (ap (λ (n : ℕ). drop n s) ends ∙ drop-length s)
-      ∙ append-nil (run 11 0 (standing s))
+      ∙ ap (λ (l : List ℕ). run 12 0 (standing s) ++ l) (ap (λ (n : ℕ). drop n s) ends ∙ drop-length s)
+      ∙ append-nil (run 12 0 (standing s))
 
   file-taken : Long 2 2 (valueOf (standing s t83)) → Long 1 1 (valueOf (standing s t8A)) → bothGood v s (objectsOf s) ≡ true
-      → ((isAbsent (standing s t8C) || isAbsent (standing s tAB)) ≡ true)
-      × FileData v (valueOf (standing s t83)) (valueOf (standing s t8A)) (ruledOf (standing s t8C) (standing s tAB))
+      → (onceIn (standing s) ≡ true) × FileData v (valueOf (standing s t83)) (valueOf (standing s t8A)) (ruledIn (standing s))
   file-taken i l e =
       let x = standing s in
-      file-from v (valueOf (x t83)) (valueOf (x t8A)) (isAbsent (x t8C) || isAbsent (x tAB)) (ruledOf (x t8C) (x tAB))
+      file-from v (valueOf (x t83)) (valueOf (x t8A)) (onceIn x) (ruledIn x)
       (omega arith) (omega arith) (sym (both-is s x (objectsOf s) (standing-noted s long) v) ∙ e)
 
   df-taken : classOf (firstOf (valueIn s (objectsOf s) t82)) ≡ df → (dfOf v s (objectsOf s) ≡ Bad → ⊥) → DfData v s
@@ -96,7 +95,7 @@ module _ (v : ℕ) (s : List ℕ) (w : s ≡ template (drop 2 s)) (short : lengt
         identifier = valueOf (x t83);
         name = x t84;
         life = valueOf (x t8A);
-        rule = ruledOf (x t8C) (x tAB);
+        rule = ruledIn x;
         total = valueOf (x t81);
         security = valueOf (x tC6);
         private = q .0;
@@ -132,7 +131,7 @@ module _ (v : ℕ) (s : List ℕ) (w : s ≡ template (drop 2 s)) (short : lengt
         descriptor = valueOf (x t82);
         identifier = valueOf (x t83);
         life = valueOf (x t8A);
-        rule = ruledOf (x t8C) (x tAB);
+        rule = ruledIn x;
         size = valueOf (x t80);
         private = q .0;
         written = w ∙ ap template (body ∙ ef-bytes x (file .0) (file .1 .rule-long .0) (q .0) (q .1) f (layout-some _ _ layout));

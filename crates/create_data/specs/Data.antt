@@ -1,5 +1,5 @@
 -- CREATE's data: what a new file is to be, or bad (01 "CREATE", data). A breach of any of its rules is bad. Which rules fit, the
--- card's version v says (02 Ticket 3).
+-- card's version v says (02 Tickets 3 and 7).
 use Prim.Native.Nat.{ℕ, _-_}
 use mathlib.Core.Bool.{Bool, cond, _&&_, _||_}
 use mathlib.Core.List.{List}

@@ -1,12 +1,12 @@
 -- Which objects a new file's template has, and how long they are (01 "CREATE"):
 -- DF: 82 (2 bytes), 83 (2), 84 optional (1-16), 8A (1), 8C (1-16), 81 (2-4), C6 (at least 1), 85 or A5 optional.
 -- EF: 82 (2, or 4 with record length), 83, 8A, 8C, 80 (2-4), 85 or A5 optional.
--- In 8C's place may stand AB, an expanded rule (02 Ticket 3), on a card whose version has that form.
+-- In 8C's place may stand AB, an expanded rule (02 Ticket 3), or 8B, a referred one (02 Ticket 7), on a card whose version has that form.
 use Prim.Native.Nat.{ℕ}
 use mathlib.Core.Bool.{Bool, cond, _&&_, _||_}
 use lib.Dec.{eqb, leb}
 use Rattle.rules.specs.Descriptor.{hasRecords}
-use Rattle.access.specs.Access.{compact, expanded}
+use Rattle.access.specs.Access.{compact, expanded, referred}
 use Rattle.template.specs.declared.Objects.{Objects}
 use Rattle.template.specs.Objects.{startIn, lengthIn}
 
@@ -29,20 +29,23 @@ t8C = 4
 abbrev pub tAB : ℕ
 tAB = 5
 
+abbrev pub t8B : ℕ
+t8B = 6
+
 abbrev pub t80 : ℕ
-t80 = 6
+t80 = 7
 
 abbrev pub t81 : ℕ
-t81 = 7
+t81 = 8
 
 abbrev pub tC6 : ℕ
-tC6 = 8
+tC6 = 9
 
 abbrev pub t85 : ℕ
-t85 = 9
+t85 = 10
 
 abbrev pub tA5 : ℕ
-tA5 = 10
+tA5 = 11
 
 -- the object is not there; it has low to high bytes (low at least 1, so it is there)
 unfoldable pub lacks : Objects → ℕ → Bool
@@ -55,16 +58,16 @@ has o k low high = leb low (lengthIn o k) && leb (lengthIn o k) high
 unfoldable pub onePrivate : Objects → Bool
 onePrivate o = lacks o t85 || lacks o tA5
 
--- the rule in 8C or in AB: not both
+-- the rule in 8C, in AB or in 8B: no two of them
 unfoldable pub oneRule : Objects → Bool
-oneRule o = lacks o t8C || lacks o tAB
+oneRule o = cond (lacks o t8C) (lacks o tAB || lacks o t8B) (lacks o tAB && lacks o t8B)
 
 -- the object that has the rule, and the rule's form by its tag
 unfoldable pub ruleIn : Objects → ℕ
-ruleIn o = cond (lacks o t8C) tAB t8C
+ruleIn o = cond (lacks o t8C) (cond (lacks o tAB) t8B tAB) t8C
 
 unfoldable pub formIn : Objects → ℕ
-formIn o = cond (lacks o t8C) expanded compact
+formIn o = cond (lacks o t8C) (cond (lacks o tAB) referred expanded) compact
 
 -- 82 has four bytes exactly for structures 010 and 110
 unfoldable pub firstForm : Objects → ℕ → Bool

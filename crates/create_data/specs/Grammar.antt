@@ -10,7 +10,7 @@ use lib.ListN.{length, drop}
 use Rattle.rules.specs.Descriptor.{classOf, df, ef, structureOf}
 use Rattle.rules.specs.Life.{newLife}
 use Rattle.image.specs.Layout.{longestRule, formsOf}
-use Rattle.access.specs.Access.{compact, expanded, wellFormed}
+use Rattle.access.specs.Access.{compact, expanded, referred, wellFormed}
 use Rattle.template.specs.Objects.{bytesAt}
 use Rattle.create_data.specs.declared.Data.{Data}
 use Rattle.create_data.specs.declared.Data.the-variants.{Df, Ef, Bad}
@@ -48,22 +48,26 @@ privately neither = []
 privately (in85 v) = object 0x85 v
 privately (inA5 v) = object 0xA5 v
 
--- the rule: compact in 8C, or in its place expanded in AB (02 Ticket 3)
+-- the rule: compact in 8C, or in its place expanded in AB (02 Ticket 3) or referred in 8B (02 Ticket 7)
 pub data Ruled : Type 0 where
   in8C : List ℕ → Ruled
   inAB : List ℕ → Ruled
+  in8B : List ℕ → Ruled
 
 abbrev pub ruled : Ruled → List ℕ
 ruled (in8C v) = object 0x8C v
 ruled (inAB v) = object 0xAB v
+ruled (in8B v) = object 0x8B v
 
 abbrev pub ruleOf : Ruled → List ℕ
 ruleOf (in8C v) = v
 ruleOf (inAB v) = v
+ruleOf (in8B v) = v
 
 abbrev pub ruleForm : Ruled → ℕ
 ruleForm (in8C v) = compact
 ruleForm (inAB v) = expanded
+ruleForm (in8B v) = referred
 
 -- the first byte; the number in all of them, high byte first
 abbrev pub first : List ℕ → ℕ
@@ -85,8 +89,8 @@ abbrev pub NameLong : Optional → Type 0
 NameLong absent = Unit
 NameLong (sent v) = Long 1 16 v
 
--- 83 (2 bytes), not 3FFF, 7FFF or FFFF; 8A (1), a life cycle that CREATE takes (rules/specs/Bytes lists them); 8C or AB, a
--- well formed rule, as long as the card's version v allows and of a form that it has
+-- 83 (2 bytes), not 3FFF, 7FFF or FFFF; 8A (1), a life cycle that CREATE takes (rules/specs/Bytes lists them); 8C, AB or 8B,
+-- a well formed rule, as long as the card's version v allows and of a form that it has
 pub record FileData (v : ℕ) (identifier life : List ℕ) (rule : Ruled) : Type 0 where
   pub identifier-long : length identifier ≡ 2
   pub not-3FFF : number identifier ≡ 0x3FFF → ⊥
@@ -98,8 +102,8 @@ pub record FileData (v : ℕ) (identifier life : List ℕ) (rule : Ruled) : Type
   pub rule-form : ruleForm rule < formsOf v
   pub rule-formed : wellFormed (ruleForm rule) (ruleOf rule) ≡ true
 
--- a DF's data: 82 (2 bytes), 83 (2), 84 optional (1-16), 8A (1), 8C or AB, 81 (2-4), C6 (at least 1), 85 or A5 optional,
--- in this order, each once. LL, and so each length, is 00-7F; the total is never 0
+-- a DF's data: 82 (2 bytes), 83 (2), 84 optional (1-16), 8A (1), 8C, AB or 8B, 81 (2-4), C6 (at least 1), 85 or A5
+-- optional, in this order, each once. LL, and so each length, is 00-7F; the total is never 0
 pub record DfData (v : ℕ) (s : List ℕ) : Type 0 where
   pub descriptor : List ℕ
   pub identifier : List ℕ
@@ -141,8 +145,8 @@ pub data Layout (descriptor : List ℕ) (size : ℕ) : Type 0 where
   plain : (Structured descriptor → ⊥) → length descriptor ≡ 2 → Layout descriptor size
   records : Structured descriptor → length descriptor ≡ 4 → Records (number (drop 2 descriptor)) size → Layout descriptor size
 
--- an EF's: 82 (2, or 4 with record length), 83, 8A, 8C or AB, 80 (2-4), 85 or A5 optional, in this order, each once. The size
--- is never 0
+-- an EF's: 82 (2, or 4 with record length), 83, 8A, 8C, AB or 8B, 80 (2-4), 85 or A5 optional, in this order, each once. The
+-- size is never 0
 pub record EfData (v : ℕ) (s : List ℕ) : Type 0 where
   pub descriptor : List ℕ
   pub identifier : List ℕ

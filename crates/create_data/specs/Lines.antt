@@ -1,6 +1,6 @@
 -- Both sides of a line, on whole templates: row W9 of 01 (record length 10: size 20 good, 25 bad; length 1: 254
 -- good, 255 bad), the two templates of 01's replay, and an 82 whose second byte isn't 21, which 01 has seen
--- others refuse; then rules of either form (02 Ticket 3), the same data on cards of versions 1 and 2.
+-- others refuse; then rules of every form (02 Tickets 3 and 7), the same data on cards of each version.
 use Prim.Native.Nat.{ℕ, zero, suc}
 use mathlib.Core.Path.{_≡_, refl}
 use mathlib.Core.List.{List, [], _∷_, _++_}
@@ -16,7 +16,7 @@ use Rattle.expanded.specs.Object.{objectsFrom, objectsOf as expandedObjects, ev
 use Rattle.expanded.specs.Condition.{formedPlain, isTemplate as isNesting, formed}
 use Rattle.expanded.specs.Expanded.{isAm, inPlace, goesOn, expandedFormed}
 use Rattle.image.specs.Layout.{longestRule, formsOf}
-use Rattle.access.specs.Access.{compact, expanded, wellFormed, fitsRecord}
+use Rattle.access.specs.Access.{compact, expanded, referred, wellFormed, fitsRecord}
 use Rattle.create_data.specs.declared.NewFile.{NewFile}
 use Rattle.create_data.specs.declared.Data.{Data}
 use Rattle.create_data.specs.declared.Data.the-variants.{Df, Ef, Bad}
@@ -137,3 +137,31 @@ unfolding dataOf isTemplate fileOf efOf sizedEf newFile ruleGood bothGood lacks 
     nextOf someGroup malformedAt compactFormed longestRule formsOf wellFormed fitsRecord goodIdentifier wholeRecords goodLength either
     objectsFrom expandedObjects every several formedPlain isNesting formed isAm inPlace goesOn expandedFormed
 rule-lines = (refl, refl)
+
+-- a reference: record 1 of 6F06
+abbrev pub reference : List ℕ
+reference = 0x6F ∷ 0x06 ∷ 0x01 ∷ []
+
+abbrev pub referredSent : List (List ℕ)
+referredSent =
+    -- 8B of three bytes, of two, of four; of three that no file can have
+    ruledBy (object 0x8B reference) ∷ ruledBy (object 0x8B (0x6F ∷ 0x06 ∷ [])) ∷ ruledBy (object 0x8B (0x6F ∷ 0x06 ∷ 0x01 ∷ 0x01 ∷ []))
+    ∷ ruledBy (object 0x8B (0xFF ∷ 0xFF ∷ 0x00 ∷ []))
+    -- 8C and 8B; AB and 8B; all three; 8B before AB; 8B twice
+    ∷ ruledBy (object 0x8C (0x01 ∷ 0x00 ∷ []) ++ object 0x8B reference) ∷ ruledBy (object 0xAB always ++ object 0x8B reference)
+    ∷ ruledBy (object 0x8C (0x01 ∷ 0x00 ∷ []) ++ (object 0xAB always ++ object 0x8B reference))
+    ∷ ruledBy (object 0x8B reference ++ object 0xAB always) ∷ ruledBy (object 0x8B reference ++ object 0x8B reference)
+    -- AB alone
+    ∷ ruledBy (object 0xAB always)
+    ∷ []
+
+pub referred-lines :
+    (answers 1 referredSent ≡ Bad ∷ Bad ∷ Bad ∷ Bad ∷ Bad ∷ Bad ∷ Bad ∷ Bad ∷ Bad ∷ Bad ∷ [])
+    × (answers 2 referredSent ≡ Bad ∷ Bad ∷ Bad ∷ Bad ∷ Bad ∷ Bad ∷ Bad ∷ Bad ∷ Bad ∷ ruledFile expanded 20 ∷ [])
+    × (answers 3 referredSent
+    ≡ ruledFile referred 18 ∷ Bad ∷ Bad ∷ ruledFile referred 18 ∷ Bad ∷ Bad ∷ Bad ∷ Bad ∷ Bad ∷ ruledFile expanded 20 ∷ [])
+unfolding dataOf isTemplate fileOf efOf sizedEf newFile ruleGood bothGood lacks has onePrivate oneRule ruleIn formIn firstForm efForm
+    pairOf recordLengthOf numberOf objectAt takenAt takenBelow objectsOf part u16At u32At classOf hasRecords lifeOf knownLife newLife
+    nextOf someGroup malformedAt compactFormed longestRule formsOf wellFormed fitsRecord goodIdentifier wholeRecords goodLength either
+    objectsFrom expandedObjects every several formedPlain isNesting formed isAm inPlace goesOn expandedFormed
+referred-lines = (refl, refl, refl)

@@ -32,7 +32,7 @@ pub fn is_template(s: &[u8]) -> bool
 
 // The value of object k, as a part of the data.
 fn value_in(s: &[u8], o: Objects, k: usize) -> &[u8]
-    requires { ⌜ (k < 11) × Held (now s) o ⌝ }
+    requires { ⌜ (k < 12) × Held (now s) o ⌝ }
     ensures { λ r. ⌜ now r ≡ valueIn (now (s .entry)) o k ⌝ }
 {
     let start = o.starts[k];
@@ -42,7 +42,7 @@ fn value_in(s: &[u8], o: Objects, k: usize) -> &[u8]
 
 // The first byte of object k's value.
 fn byte_in(s: &[u8], o: Objects, k: usize) -> u8
-    requires { ⌜ (k < 11) × Held (now s) o ⌝ }
+    requires { ⌜ (k < 12) × Held (now s) o ⌝ }
     ensures { λ r. ⌜ r ≡ firstOf (valueIn (now (s .entry)) o k) ⌝ }
 {
     value::first(value_in(s, o, k))
@@ -66,7 +66,7 @@ fn record_length_in(s: &[u8], o: Objects) -> u16
 
 // The size of object k: 80 or 81.
 fn size_in(s: &[u8], o: Objects, k: usize) -> u32
-    requires { ⌜ (k < 11) × Held (now s) o ⌝ }
+    requires { ⌜ (k < 12) × Held (now s) o ⌝ }
     ensures { λ r. ⌜ r ≡ numberOf (valueIn (now (s .entry)) o k) ⌝ }
 {
     value::number(value_in(s, o, k))
@@ -153,7 +153,7 @@ fn df(s: &[u8], o: Objects, v: u32) -> Data
     if !is_both_good(s, o, v) {
         return Data::Bad;
     }
-    let total = size_in(s, o, 7);
+    let total = size_in(s, o, 8);
     if total == 0 {
         return Data::Bad;
     }
@@ -165,7 +165,7 @@ fn sized_ef(s: &[u8], o: Objects, descriptor: u8) -> Data
     requires { ⌜ Held (now s) o ⌝ }
     ensures { λ r. ⌜ r ≡ sizedEf (now (s .entry)) o descriptor ⌝ }
 {
-    let size = size_in(s, o, 6);
+    let size = size_in(s, o, 7);
     if size == 0 {
         return Data::Bad;
     }

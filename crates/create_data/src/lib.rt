@@ -1,5 +1,5 @@
 // The new file that CREATE's data describe, or "bad" (01 "CREATE", data; 6A80), for any bytes. Which rules
-// fit goes by the card's version (02 Ticket 3).
+// fit goes by the card's version (02 Tickets 3 and 7).
 //
 // `judge` judges which objects were gathered and the bytes that they point at. Every value is handed on as a part of
 // the data, from the middle of it, and nothing is copied.

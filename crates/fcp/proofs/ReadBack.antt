@@ -17,7 +17,7 @@ use Rattle.rules.specs.Life.{newLife}
 use Rattle.rules.specs.Value.{goodLength, wholeRecords}
 use Rattle.image.specs.Layout.{descriptorOf, lifeCycleOf, formOf, identifierOf, recordLengthOf, sizeOf, nameOf, ruleOf}
 use Rattle.image.proofs.Versions.{longest-within}
-use Rattle.access.specs.Access.{compact}
+use Rattle.access.specs.Access.{compact, expanded}
 use Rattle.access.proofs.Fits.{fits-form}
 use Rattle.sound.specs.Own.{Used}
 use Rattle.template.specs.declared.Span.{Span}
@@ -27,7 +27,7 @@ use Rattle.create_data.specs.declared.Data.the-variants.{Df, Ef, Bad}
 use Rattle.create_data.specs.Data.{dataOf}
 use Rattle.create_data.specs.Good.{Good}
 use Rattle.create_data.specs.Grammar.{object, template, valueOf, number, neither, NameLong, FileData, DfData, EfData, DfRead, EfRead}
-use Rattle.create_data.specs.Grammar.{Ruled, in8C, inAB, ruled, ruleForm, Layout, plain, records}
+use Rattle.create_data.specs.Grammar.{Ruled, in8C, inAB, in8B, ruled, ruleForm, Layout, plain, records}
 use Rattle.create_data.specs.Grammar as grammar
 use Rattle.create_data.proofs.Good.{good}
 use Rattle.create_data.proofs.Grammar.{data-read}
@@ -58,20 +58,25 @@ no-bytes s p e = rw (e, sub-self) refl
 
 -- the rule in the grammar's words, by its form
 ruleTold : List ℕ → Ruled
-ruleTold r = cond (eqb (formOf r) compact) (in8C (ruleOf r)) (inAB (ruleOf r))
+ruleTold r = cond (eqb (formOf r) compact) (in8C (ruleOf r)) (cond (eqb (formOf r) expanded) (inAB (ruleOf r)) (in8B (ruleOf r)))
 
 record ToldRule (r : List ℕ) (x : Ruled) : Type 0 where
   written : ruled x ≡ ruleObject r
   form : ruleForm x ≡ formOf r
   value : grammar.ruleOf x ≡ ruleOf r
 
-told-rule : (r : List ℕ) → formOf r < 2 → ToldRule r (ruleTold r)
+told-rule : (r : List ℕ) → formOf r < 3 → ToldRule r (ruleTold r)
 unfolding ruleTold ruleTag
-told-rule r low = go (eqb (formOf r) compact) refl
+told-rule r low = go (eqb (formOf r) compact) (eqb (formOf r) expanded) refl refl
   where
-    go : (b : Bool) → eqb (formOf r) compact ≡ b → ToldRule r (cond b (in8C (ruleOf r)) (inAB (ruleOf r)))
-    go true p = record { written = rw p refl; form = sym (eqb-true (formOf r) compact p); value = refl }
-    go false p = record { written = rw p refl; form = omega (arith, eqb-false (formOf r) compact p); value = refl }
+    go : (a b : Bool) → eqb (formOf r) compact ≡ a → eqb (formOf r) expanded ≡ b
+        → ToldRule r (cond a (in8C (ruleOf r)) (cond b (inAB (ruleOf r)) (in8B (ruleOf r))))
+    go true b p q = record { written = rw p refl; form = sym (eqb-true (formOf r) compact p); value = refl }
+    go false true p q = record { written = rw (p, q) refl; form = sym (eqb-true (formOf r) expanded q); value = refl }
+    go false false p q =
+        let n = eqb-false (formOf r) compact p in
+        let m = eqb-false (formOf r) expanded q in
+        record { written = rw (p, q) refl; form = omega (arith, n, m); value = refl }
 
 module _ (v : ℕ) (r : List ℕ) (u : Used v r) where
   told : ToldRule r (ruleTold r)

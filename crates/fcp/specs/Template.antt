@@ -20,7 +20,7 @@ abbrev pub named : List ℕ → Optional
 named [] = absent
 named (x ∷ v) = sent (x ∷ v)
 
--- 8C for a compact rule, AB for an expanded one (02 Ticket 3)
+-- 8C for a compact rule, AB for an expanded one (02 Ticket 3), 8B for a referred one (02 Ticket 7)
 unfoldable pub ruleTag : List ℕ → ℕ
 ruleTag r = tagOf (formOf r)
 

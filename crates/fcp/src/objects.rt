@@ -62,7 +62,7 @@ pub fn put_life(out: &mut [u8], at: usize, image: &[u8], s: usize) -> usize
     object(out, at, 0x8A, &[fields::life_cycle(image, s)])
 }
 
-// The tag of the rule: 8C for a compact one, AB for an expanded one.
+// The tag of the rule: 8C for a compact one, AB for an expanded one, 8B for a referred one.
 fn rule_tag(image: &[u8], s: usize) -> u8
     requires { ⌜ Tellable (now image) s ⌝ }
     ensures { λ r. ⌜ r ≡ ruleTag (recAt (now (image .entry)) s) ⌝ }
@@ -70,7 +70,7 @@ fn rule_tag(image: &[u8], s: usize) -> u8
     access::tag_of(fields::form(image, s))
 }
 
-// 8C or AB: the rule.
+// 8C, AB or 8B: the rule.
 pub fn put_rule(out: &mut [u8], at: usize, image: &[u8], s: usize) -> usize
     requires { ⌜ Tellable (now image) s × (at + length (ruleObject (recAt (now image) s)) ≤ length (now out)) ⌝ }
     ensures { λ r. ⌜ WroteAt at r (now (out .entry)) (now (out .exit)) (ruleObject (recAt (now (image .entry)) s)) ⌝ }

@@ -44,7 +44,7 @@ Announces img c (SetLife s life) = (announced (versionOf img) c ≡ neither) × 
 Announces img c (Read at n) = announced (versionOf img) c ≡ neither
 Announces img c (Update at) = announced (versionOf img) c ≡ neither
 
-module _ (img c : List ℕ) where
+module _ (img pool c : List ℕ) where
   refused : (w : ℕ) → anyWord w ≡ true → Announces img c (Refuse w)
   refused w k = tt
 
@@ -59,7 +59,7 @@ module _ (img c : List ℕ) where
       either : (s : ℕ) → announced (versionOf img) c ≡ neither → Announces img c (selecting img d s)
       either s q = unfold selecting in cond-by (Announces img c) (eqb (viewAt img s .kind) df) _ _ (λ h. q) (λ h. q)
 
-  create-announces : (n d : ℕ) (sets : Sets) → instruction c ≡ createFile → Announces img c (followed (create img n d (sentData c) sets))
+  create-announces : (n d : ℕ) (sets : Sets) → instruction c ≡ createFile → Announces img c (followed (create img pool n d (sentData c) sets))
   create-announces n d sets e =
       followed-by (Announces img c) anyWord refused _ refl (λ a. new (dataOf (versionOf img) (sentData c)) (unfold announced in rw e))
     where
@@ -69,7 +69,7 @@ module _ (img c : List ℕ) where
       new (Ef x) q = q
 
   delete-announces :
-      (n d : ℕ) (sets : Sets) → instruction c ≡ deleteFile → Announces img c (followed (delete img n d (sentIdentifier c) sets))
+      (n d : ℕ) (sets : Sets) → instruction c ≡ deleteFile → Announces img c (followed (delete img pool n d (sentIdentifier c) sets))
   unfolding childNamed
   delete-announces n d sets e = followed-by (Announces img c) anyWord refused _ refl (λ a. found (found-at _ (and-says _ _ .0 a .0)))
     where
@@ -83,7 +83,7 @@ module _ (img c : List ℕ) where
           sent ∙ ap deletes (sym (child-says (viewAt img) d (sentIdentifier c) _ .0 (f .here) .1))
 
   life-announces : (d i : ℕ) (sets : Sets) → announced (versionOf img) c ≡ neither → isBody (instruction c) ≡ false
-      → Announces img c (followed (lifePlan img d i sets))
+      → Announces img c (followed (lifePlan img pool d i sets))
   unfolding lifePlan Fit
   life-announces d i sets q b =
       chosen-by Fit i _ _ _ (λ e. followed-by (Announces img c) anyWord refused _ refl (λ a. (q, b)))
@@ -92,7 +92,7 @@ module _ (img c : List ℕ) where
       (λ z. chosen-by Fit i _ _ _ (λ e. followed-by (Announces img c) anyWord refused _ refl (λ a. (q, b)))
       (λ z. followed-by (Announces img c) anyWord refused _ refl (λ a. (q, b))))))
 
-  body-announces : (sets : Sets) → announced (versionOf img) c ≡ neither → Announces img c (followed (bodyPlan img c sets))
+  body-announces : (sets : Sets) → announced (versionOf img) c ≡ neither → Announces img c (followed (bodyPlan img pool c sets))
   unfolding bodyPlan binary recordwise Fit
   body-announces sets q =
       cond-by Fit (isBinary (instruction c)) _ _ (λ e. followed-by (Announces img c) anyWord refused _ refl (λ a. either _ _ q q))
@@ -101,7 +101,7 @@ module _ (img c : List ℕ) where
       either : (x y : Verdict) → Announces img c x → Announces img c y → Announces img c (cond (isRead (instruction c)) x y)
       either = touching-by (Announces img c) (isRead (instruction c))
 
-  plan-announces : (n d : ℕ) (st : State) → Announces img c (followed (planFor img n d c st))
+  plan-announces : (n d : ℕ) (st : State) → Announces img c (followed (planFor img pool n d c st))
   unfolding planFor Fit
   plan-announces n d st =
       chosen-by Fit (instruction c) _ _ _ (λ e. select-announces n d (sentIdentifier c) e)
@@ -113,7 +113,7 @@ module _ (img c : List ℕ) where
       cond-by Fit (isBody (instruction c)) _ _ (λ b. body-announces (st .sets) q)
       (λ b. life-announces d (instruction c) (st .sets) q b))))
 
-  pub judge-announces : (st : State) → Announces img c (judgeOf img c st)
+  pub judge-announces : (st : State) → Announces img c (judgeOf img pool c st)
   unfolding judgeOf judgeFor
   judge-announces st =
       judged-by (Announces img c) anyWord refused (sharedSteps img c st) _ refl (λ a. plan-announces (countOf img) (currentDfOf img) st)

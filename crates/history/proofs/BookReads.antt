@@ -80,7 +80,7 @@ module _ (img pool c : List ℕ) (st : State) (lent : ℕ) (sound : Sound img) (
   due-body : Body due
   unfolding due
   due-body =
-      is-body (dueOf img pool c st lent) (due-by img pool c st lent (Announces img c) (judge-announces img c st) tt)
+      is-body (dueOf img pool c st lent) (due-by img pool c st lent (Announces img c) (judge-announces img pool c st) tt)
       (due-ordered img pool c st lent) (due-speaks img pool c st lent) (sym (word-is img pool c st lent sound) ∙ w)
 
   -- a READ tells as much as it asks for

@@ -90,7 +90,7 @@ module _ (img c : List ℕ) (i size : ℕ) (q : announced (versionOf img) c ≡ 
   new-current pool st lent sound w =
       effect-and-no-other img pool c st lent sound .ef
       ∙ current-by (dueOf img pool c st lent)
-      (due-by img pool c st lent (Announces img c) (judge-announces img c st) tt) (due-ordered img pool c st lent)
+      (due-by img pool c st lent (Announces img c) (judge-announces img pool c st) tt) (due-ordered img pool c st lent)
       (due-speaks img pool c st lent) (sym (word-is img pool c st lent sound) ∙ w)
 
 -- card, pool and book belong together

@@ -121,5 +121,5 @@ call-did img x sound =
     let e = effect-and-no-other img p c (x .state) (x .lent) sound in
     rw (word-is img p c (x .state) (x .lent) sound)
     (did img c sound (viewAt (imageAfter img x)) (dueOf img p c (x .state) (x .lent)) (due-tells img p c (x .state) (x .lent) sound)
-    (due-by img p c (x .state) (x .lent) (Announces img c) (judge-announces img c (x .state)) tt) (due-speaks img p c (x .state) (x .lent))
+    (due-by img p c (x .state) (x .lent) (Announces img c) (judge-announces img p c (x .state)) tt) (due-speaks img p c (x .state) (x .lent))
     (currentDfOf (imageAfter img x)) (e .df) (λ t l. ap viewOf (e .records t l)))

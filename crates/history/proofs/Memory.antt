@@ -85,14 +85,14 @@ first-word ok (s ∷ ys) w h =
 another : ℕ → Bool
 another w = not (eqb w done || eqb w notEnoughMemory)
 
-module _ (img c : List ℕ) (st : State) (e : instruction c ≡ createFile) where
+module _ (img pool c : List ℕ) (st : State) (e : instruction c ≡ createFile) where
   new : Data
   new = dataOf (versionOf img) (sentData c)
 
   earlier : List Step
   earlier = sharedSteps img c st ++ (
       step (describes new) wrongData
-      ∷ step (allowedAt img (currentDfOf img) (rightFor new) (st .sets)) securityNotSatisfied
+      ∷ step (allowedAt img pool (currentDfOf img) (rightFor new) (st .sets)) securityNotSatisfied
       ∷ step (takesFiles img (currentDfOf img)) conditionsNotSatisfied
       ∷ step (identifierFree (countOf img) (viewAt img) (currentDfOf img) (newIdentifier new)) identifierExists
       ∷ step (nameFree (countOf img) (viewAt img) (newName (sentData c) new)) nameExists
@@ -101,15 +101,15 @@ module _ (img c : List ℕ) (st : State) (e : instruction c ≡ createFile) wher
   memory : Step
   memory = step (fitsRoom (countOf img) (viewAt img) (currentDfOf img) (newSize new)) notEnoughMemory
 
-  plan-is : planFor img (countOf img) (currentDfOf img) c st ≡ create img (countOf img) (currentDfOf img) (sentData c) (st .sets)
+  plan-is : planFor img pool (countOf img) (currentDfOf img) c st ≡ create img pool (countOf img) (currentDfOf img) (sentData c) (st .sets)
   unfolding planFor
   plan-is = rw e
 
-  steps-are : stepsOf img c st ≡ earlier ++ (memory ∷ [])
+  steps-are : stepsOf img pool c st ≡ earlier ++ (memory ∷ [])
   unfolding earlier memory new
   steps-are = ap (λ (p : Plan). sharedSteps img c st ++ p .steps) plan-is
 
-  effect-is : effectOf img c st ≡ creating img (currentDfOf img) (slotIn (freeSlot (countOf img) (viewAt img))) new
+  effect-is : effectOf img pool c st ≡ creating img (currentDfOf img) (slotIn (freeSlot (countOf img) (viewAt img))) new
   unfolding new
   effect-is = ap (λ (p : Plan). p .effect) plan-is
 
@@ -122,29 +122,29 @@ module _ (img c : List ℕ) (st : State) (e : instruction c ≡ createFile) wher
   created-word d s (Df x) h = refl
   created-word d s (Ef x) h = refl
 
-  module _ (sound : Sound img) (h : allHold (butLast (stepsOf img c st)) ≡ true) where
+  module _ (sound : Sound img) (h : allHold (butLast (stepsOf img pool c st)) ≡ true) where
     hold : allHold earlier ≡ true
     hold = ap allHold (sym (ap butLast steps-are ∙ but-last earlier memory)) ∙ h
 
-    decides : (b : Bool) → memory .holds ≡ b → wordOf (judgeOf img c st) ≡ cond b done notEnoughMemory
+    decides : (b : Bool) → memory .holds ≡ b → wordOf (judgeOf img pool c st) ≡ cond b done notEnoughMemory
     unfolding memory
     decides true q =
-        ap wordOf (judged-in-order img c st .0 (ap allHold steps-are ∙ last-holds memory earlier hold q) ∙ effect-is)
+        ap wordOf (judged-in-order img pool c st .0 (ap allHold steps-are ∙ last-holds memory earlier hold q) ∙ effect-is)
         ∙ created-word (currentDfOf img) (slotIn (freeSlot (countOf img) (viewAt img))) new (is-file hold)
     decides false q =
         let f = last-fails memory earlier hold q in
-        ap wordOf (judged-in-order img c st .1 (ap allHold steps-are ∙ f .0)) ∙ ap firstFailing steps-are ∙ f .1
+        ap wordOf (judged-in-order img pool c st .1 (ap allHold steps-are ∙ f .0)) ∙ ap firstFailing steps-are ∙ f .1
 
   -- where one of the others fails, the word is neither 9000 nor 6A84
-  early-word : allHold earlier ≡ false → another (wordOf (judgeOf img c st)) ≡ true
+  early-word : allHold earlier ≡ false → another (wordOf (judgeOf img pool c st)) ≡ true
   early-word h =
       let f = early-fails memory earlier h in
-      let w = ap wordOf (judged-in-order img c st .1 (ap allHold steps-are ∙ f .0)) ∙ ap firstFailing steps-are ∙ f .1 in
+      let w = ap wordOf (judged-in-order img pool c st .1 (ap allHold steps-are ∙ f .0)) ∙ ap firstFailing steps-are ∙ f .1 in
       ap another w ∙ first-word another earlier (unfold earlier another in refl) h
 
 -- CREATE tells nothing, so with the card's pool its word is that of the judging
 create-word : (img : List ℕ) (x : Call) → Sound img → instruction (x .command) ≡ createFile → PoolFits img (x .pool)
-    → wordFor img x ≡ wordOf (judgeOf img (x .command) (x .state))
+    → wordFor img x ≡ wordOf (judgeOf img (x .pool) (x .command) (x .state))
 create-word img x sound e k =
     word-is img (x .pool) (x .command) (x .state) (x .lent) sound
     ∙ ap wordOf (due-silent img (x .pool) (x .command) (x .state) (x .lent) (λ q p. omega (arith, e, q)) (λ q. omega (arith, e, q))
@@ -160,7 +160,7 @@ pub memory-decides : (img : List ℕ) (x : Call) → Sound img → Ready img x
     → wordFor img x ≡ cond (fitsRoom (countOf img) (viewAt img) (currentDfOf img) (sizeSent (versionOf img) x)) done notEnoughMemory
 unfolding memory new
 memory-decides img x sound r =
-    create-word img x sound (r .create) (r .pool-fits) ∙ decides img (x .command) (x .state) (r .create) sound (r .earlier) _ refl
+    create-word img x sound (r .create) (r .pool-fits) ∙ decides img (x .pool) (x .command) (x .state) (r .create) sound (r .earlier) _ refl
 
 -- a CREATE on a sound image is ready exactly when its word is 9000 or 6A84
 pub ready-exactly : ReadyExactly
@@ -178,8 +178,8 @@ ready-exactly img x sound e =
           create = e;
           pool-fits = fit;
           earlier = ap allHold
-              (ap butLast (steps-are img (x .command) (x .state) e)
-              ∙ but-last (earlier img (x .command) (x .state) e) (memory img (x .command) (x .state) e))
+              (ap butLast (steps-are img (x .pool) (x .command) (x .state) e)
+              ∙ but-last (earlier img (x .pool) (x .command) (x .state) e) (memory img (x .pool) (x .command) (x .state) e))
               ∙ holds;
         }
       where
@@ -192,14 +192,14 @@ ready-exactly img x sound e =
                 let z = wrong-word img x sound q in
                 absurd (⊎-elim (λ w. omega (arith, w, z)) (λ w. omega (arith, w, z)) h)
 
-        spoken : another (wordOf (judgeOf img (x .command) (x .state))) ≡ true → ⊥
+        spoken : another (wordOf (judgeOf img (x .pool) (x .command) (x .state))) ≡ true → ⊥
         spoken a = not-says _ .0 a (or-says _ _ .1 (⊎-elim
             (λ q. inl (eq-eqb _ _ (sym (create-word img x sound e fit) ∙ q)))
             (λ q. inr (eq-eqb _ _ (sym (create-word img x sound e fit) ∙ q))) h))
 
-        holds : allHold (earlier img (x .command) (x .state) e) ≡ true
-        holds = go (allHold (earlier img (x .command) (x .state) e)) refl
+        holds : allHold (earlier img (x .pool) (x .command) (x .state) e) ≡ true
+        holds = go (allHold (earlier img (x .pool) (x .command) (x .state) e)) refl
           where
-            go : (b : Bool) → allHold (earlier img (x .command) (x .state) e) ≡ b → b ≡ true
+            go : (b : Bool) → allHold (earlier img (x .pool) (x .command) (x .state) e) ≡ b → b ≡ true
             go true q = refl
-            go false q = absurd (spoken (early-word img (x .command) (x .state) e q))
+            go false q = absurd (spoken (early-word img (x .pool) (x .command) (x .state) e q))

@@ -77,7 +77,7 @@ butLast (s ∷ t ∷ rest) = s ∷ butLast (t ∷ rest)
 pub record Ready (img : List ℕ) (x : Call) : Type 0 where
   pub create : instruction (x .command) ≡ createFile
   pub pool-fits : PoolFits img (x .pool)
-  pub earlier : allHold (butLast (stepsOf img (x .command) (x .state))) ≡ true
+  pub earlier : allHold (butLast (stepsOf img (x .pool) (x .command) (x .state))) ≡ true
 
 -- the size, or total, that it sends
 abbrev pub sizeSent : ℕ → Call → ℕ

@@ -21,7 +21,7 @@ pub known-low : (v : ℕ) → knownVersion v ≡ true → v ≤ 3
 unfolding knownVersion formsOf
 known-low v k = go (eqb v 1) (eqb v 2) (eqb v 3) refl refl refl k
   where
-    go : (a b c : Bool) → eqb v 1 ≡ a → eqb v 2 ≡ b → eqb v 3 ≡ c → ltb 0 (cond a 1 (cond b 2 (cond c 2 0))) ≡ true → v ≤ 3
+    go : (a b c : Bool) → eqb v 1 ≡ a → eqb v 2 ≡ b → eqb v 3 ≡ c → ltb 0 (cond a 1 (cond b 2 (cond c 3 0))) ≡ true → v ≤ 3
     go true b c p q r t = omega (arith, eqb-true v 1 p)
     go false true c p q r t = omega (arith, eqb-true v 2 q)
     go false false true p q r t = omega (arith, eqb-true v 3 r)
@@ -39,17 +39,17 @@ pub longest-least : (v : ℕ) → knownVersion v ≡ true → 16 ≤ longestRule
 unfolding knownVersion formsOf longestRule
 longest-least v k = go (eqb v 1) (eqb v 2) (eqb v 3) k
   where
-    go : (a b c : Bool) → ltb 0 (cond a 1 (cond b 2 (cond c 2 0))) ≡ true → 16 ≤ cond a 16 (cond b 30 (cond c 28 0))
+    go : (a b c : Bool) → ltb 0 (cond a 1 (cond b 2 (cond c 3 0))) ≡ true → 16 ≤ cond a 16 (cond b 30 (cond c 28 0))
     go true b c t = omega arith
     go false true c t = omega arith
     go false false true t = omega arith
     go false false false t = absurd (false≢true t)
 
-pub forms-few : (v : ℕ) → formsOf v ≤ 2
+pub forms-few : (v : ℕ) → formsOf v ≤ 3
 unfolding formsOf
 forms-few v = go (eqb v 1) (eqb v 2) (eqb v 3)
   where
-    go : (a b c : Bool) → cond a 1 (cond b 2 (cond c 2 0)) ≤ 2
+    go : (a b c : Bool) → cond a 1 (cond b 2 (cond c 3 0)) ≤ 3
     go true b c = omega arith
     go false true c = omega arith
     go false false true = omega arith

@@ -31,8 +31,8 @@ currentEfOf img = u16At img 9
 abbrev pub none : ℕ
 none = 0xFFFF
 
--- The versions (02 Tickets 3 and 4), a line for each: how many of the 30 bytes from 34 of a record on a rule may have, and what follows it
--- to the record's end: as many zeros as are left, or the start of a body; and how many forms of rules there are
+-- The versions (02 Tickets 3, 4 and 7), a line for each: how many of the 30 bytes from 34 of a record on a rule may have, and what follows
+-- it to the record's end: as many zeros as are left, or the start of a body; and how many forms of rules there are
 
 unfoldable pub longestRule : ℕ → ℕ
 longestRule v =
@@ -47,7 +47,7 @@ unfoldable pub formsOf : ℕ → ℕ
 formsOf v =
     cond (eqb v 1) 1
     (cond (eqb v 2) 2
-    (cond (eqb v 3) 2 0))
+    (cond (eqb v 3) 3 0))
 
 -- a version is known where it has a form
 unfoldable pub knownVersion : ℕ → Bool

@@ -1,4 +1,4 @@
-// What a version of the image lays down, a line for each version (01 "Image"; 02 Tickets 3 and 4).
+// What a version of the image lays down, a line for each version (01 "Image"; 02 Tickets 3, 4 and 7).
 ghost use mathlib.Core.Path.{_≡_};
 ghost use Prim.Native.Nat.{_≤_};
 ghost use Rattle.image.specs.Layout.{longestRule, formsOf, knownVersion, hasBodies};
@@ -30,7 +30,7 @@ pub fn forms(v: u32) -> u8
         return 2;
     }
     if v == 3 {
-        return 2;
+        return 3;
     }
     0
 }

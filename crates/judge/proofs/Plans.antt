@@ -36,35 +36,35 @@ plan-yes b p q e t h = rw (sym e ∙ t) h
 pub plan-no : {r : Bool} (b : Bool) (p q : Plan) {x : Verdict} → r ≡ b → r ≡ false → x ≡ followed q → x ≡ followed (cond b p q)
 plan-no b p q e t h = rw (sym e ∙ t) h
 
-module _ (img : List ℕ) (x : Sets) {t : ℕ} {v : Verdict} where
-  pub activates : t ≡ currentFile img → v ≡ followed (activate img t x) → v ≡ followed (activate img (currentFile img) x)
-  activates e h = h ∙ ap (λ (s : ℕ). followed (activate img s x)) e
+module _ (img pool : List ℕ) (x : Sets) {t : ℕ} {v : Verdict} where
+  pub activates : t ≡ currentFile img → v ≡ followed (activate img pool t x) → v ≡ followed (activate img pool (currentFile img) x)
+  activates e h = h ∙ ap (λ (s : ℕ). followed (activate img pool s x)) e
 
-  pub deactivates : t ≡ currentFile img → v ≡ followed (deactivate img t x) → v ≡ followed (deactivate img (currentFile img) x)
-  deactivates e h = h ∙ ap (λ (s : ℕ). followed (deactivate img s x)) e
+  pub deactivates : t ≡ currentFile img → v ≡ followed (deactivate img pool t x) → v ≡ followed (deactivate img pool (currentFile img) x)
+  deactivates e h = h ∙ ap (λ (s : ℕ). followed (deactivate img pool s x)) e
 
-  pub terminates : t ≡ currentEfOf img → v ≡ followed (terminateTheEf img t x) → v ≡ followed (terminateTheEf img (currentEfOf img) x)
-  terminates e h = h ∙ ap (λ (s : ℕ). followed (terminateTheEf img s x)) e
+  pub terminates : t ≡ currentEfOf img → v ≡ followed (terminateTheEf img pool t x) → v ≡ followed (terminateTheEf img pool (currentEfOf img) x)
+  terminates e h = h ∙ ap (λ (s : ℕ). followed (terminateTheEf img pool s x)) e
 
 -- a plan for what the command sends
-module _ (img : List ℕ) (n d : ℕ) (x : Sets) {v : Verdict} where
+module _ (img pool : List ℕ) (n d : ℕ) (x : Sets) {v : Verdict} where
   pub selects : {i : ℕ} (j : ℕ) → i ≡ j → v ≡ followed (select img n d i) → v ≡ followed (select img n d j)
   selects j e h = h ∙ ap (λ (k : ℕ). followed (select img n d k)) e
 
-  pub deletes : {i : ℕ} (j : ℕ) → i ≡ j → v ≡ followed (delete img n d i x) → v ≡ followed (delete img n d j x)
-  deletes j e h = h ∙ ap (λ (k : ℕ). followed (delete img n d k x)) e
+  pub deletes : {i : ℕ} (j : ℕ) → i ≡ j → v ≡ followed (delete img pool n d i x) → v ≡ followed (delete img pool n d j x)
+  deletes j e h = h ∙ ap (λ (k : ℕ). followed (delete img pool n d k x)) e
 
-  pub creates : {s : List ℕ} (t : List ℕ) → s ≡ t → v ≡ followed (create img n d s x) → v ≡ followed (create img n d t x)
-  creates t e h = h ∙ ap (λ (l : List ℕ). followed (create img n d l x)) e
+  pub creates : {s : List ℕ} (t : List ℕ) → s ≡ t → v ≡ followed (create img pool n d s x) → v ≡ followed (create img pool n d t x)
+  creates t e h = h ∙ ap (λ (l : List ℕ). followed (create img pool n d l x)) e
 
 -- a plan on the body of the current EF: t is that, `reads`, k, i, m what the command was found to send
-module _ (img c : List ℕ) (x : Sets) {t m : ℕ} {reads b : Bool} {v : Verdict} (e : t ≡ currentEfOf img)
+module _ (img pool c : List ℕ) (x : Sets) {t m : ℕ} {reads b : Bool} {v : Verdict} (e : t ≡ currentEfOf img)
     (f : reads ≡ isRead (instruction c)) (g : m ≡ asked c) (h : b ≡ isBinary (instruction c)) where
-  pub on-bytes : {k : ℕ} → k ≡ parameters c → b ≡ true → v ≡ followed (binary img t reads k m x) → v ≡ followed (bodyPlan img c x)
+  pub on-bytes : {k : ℕ} → k ≡ parameters c → b ≡ true → v ≡ followed (binary img pool t reads k m x) → v ≡ followed (bodyPlan img pool c x)
   unfolding bodyPlan
   on-bytes p q r = rw (sym h ∙ q, ← e, ← f, ← g, ← p) r
 
-  pub on-records : {i : ℕ} → i ≡ recordNumber c → b ≡ false → v ≡ followed (recordwise img t reads i m x) → v ≡ followed (bodyPlan img c x)
+  pub on-records : {i : ℕ} → i ≡ recordNumber c → b ≡ false → v ≡ followed (recordwise img pool t reads i m x) → v ≡ followed (bodyPlan img pool c x)
   unfolding bodyPlan
   on-records p q r = rw (sym h ∙ q, ← e, ← f, ← g, ← p) r
 

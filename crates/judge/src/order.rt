@@ -20,31 +20,45 @@ use verdict::Verdict;
 use verdict::words;
 
 // The life-cycle commands, which are about what is current.
-fn on_current(image: &[u8], n: usize, d: usize, i: u8, sets: Sets) -> Verdict
+fn on_current<'a>(image: &'a [u8], pool: &'a [u8], n: usize, d: usize, i: u8, sets: Sets) -> Verdict
     requires { ⌜ Judgeable (now image) n d ⌝ }
     requires { ⌜ d ≡ currentDfOf (now image) ⌝ }
-    ensures { λ r. ⌜ r ≡ followed (lifePlan (now (image .entry)) d i sets) ⌝ }
+    ensures { λ r. ⌜ r ≡ followed (lifePlan (now (image .entry)) (now (pool .entry)) d i sets) ⌝ }
 {
     if i == apdu::ACTIVATE_FILE {
-        return judge_commands::activate_file(image, n, d, target::current_file(image), sets);
+        return judge_commands::activate_file(image, pool, n, d, target::current_file(image), sets);
     }
     if i == apdu::DEACTIVATE_FILE {
-        return judge_commands::deactivate_file(image, n, d, target::current_file(image), sets);
+        return judge_commands::deactivate_file(
+            image,
+            pool,
+            n,
+            d,
+            target::current_file(image),
+            sets,
+        );
     }
     if i == apdu::TERMINATE_EF {
-        return judge_commands::terminate_ef(image, n, d, fields::current_ef(image), sets);
+        return judge_commands::terminate_ef(image, pool, n, d, fields::current_ef(image), sets);
     }
     if i == apdu::TERMINATE_DF {
-        return judge_commands::terminate_df(image, n, d, sets);
+        return judge_commands::terminate_df(image, pool, n, d, sets);
     }
-    judge_commands::terminate_card(image, n, d, sets)
+    judge_commands::terminate_card(image, pool, n, d, sets)
 }
 
 // The commands on a body, which are about the current EF.
-fn on_body(image: &[u8], n: usize, d: usize, command: &[u8], sets: Sets) -> Verdict
+fn on_body<'a>(
+    image: &'a [u8],
+    pool: &'a [u8],
+    n: usize,
+    d: usize,
+    command: &[u8],
+    sets: Sets,
+) -> Verdict
     requires { ⌜ Judgeable (now image) n d ⌝ }
     requires { ⌜ 5 ≤ length (now command) ⌝ }
-    ensures { λ r. ⌜ r ≡ followed (bodyPlan (now (image .entry)) (now (command .entry)) sets) ⌝ }
+    ensures { λ r. ⌜ r ≡ followed (bodyPlan (now (image .entry)) (now (pool .entry)) (now (command .entry)) sets) ⌝ }
 {
     let i = command[1];
     let t = fields::current_ef(image);
@@ -52,18 +66,25 @@ fn on_body(image: &[u8], n: usize, d: usize, command: &[u8], sets: Sets) -> Verd
     let count = bodies::asked(command);
     if bodies::is_binary(i) {
         let from = bodies::sent_start(command) as usize;
-        return judge_bodies::binary(image, n, d, t, reads, from, count, sets);
+        return judge_bodies::binary(image, pool, n, d, t, reads, from, count, sets);
     }
     let number = bodies::record_number(command);
-    judge_bodies::recordwise(image, n, d, t, reads, number, count, sets)
+    judge_bodies::recordwise(image, pool, n, d, t, reads, number, count, sets)
 }
 
 // The steps of the command's own, by its instruction; the shared ones have passed. d is the current DF.
-fn by_instruction(image: &[u8], n: usize, d: usize, command: &[u8], state: State) -> Verdict
+fn by_instruction<'a>(
+    image: &'a [u8],
+    pool: &'a [u8],
+    n: usize,
+    d: usize,
+    command: &[u8],
+    state: State,
+) -> Verdict
     requires { ⌜ Judgeable (now image) n d ⌝ }
     requires { ⌜ d ≡ currentDfOf (now image) ⌝ }
     requires { ⌜ (4 ≤ length (now command)) × (fitLength (now command) ≡ true) ⌝ }
-    ensures { λ r. ⌜ r ≡ followed (planFor (now (image .entry)) n d (now (command .entry)) state) ⌝ }
+    ensures { λ r. ⌜ r ≡ followed (planFor (now (image .entry)) (now (pool .entry)) n d (now (command .entry)) state) ⌝ }
 {
     let i = command[1];
     let sets = state.sets;
@@ -71,23 +92,30 @@ fn by_instruction(image: &[u8], n: usize, d: usize, command: &[u8], state: State
         return judge_commands::select_file(image, n, d, apdu::sent_identifier(command));
     }
     if i == apdu::CREATE_FILE {
-        return judge_create::create_file(image, n, d, apdu::sent_data(command), sets);
+        return judge_create::create_file(image, pool, n, d, apdu::sent_data(command), sets);
     }
     if i == apdu::DELETE_FILE {
-        return judge_commands::delete_file(image, n, d, apdu::sent_identifier(command), sets);
+        return judge_commands::delete_file(image, pool, n, d, apdu::sent_identifier(command), sets);
     }
     if bodies::is_body(i) {
-        return on_body(image, n, d, command, sets);
+        return on_body(image, pool, n, d, command, sets);
     }
-    on_current(image, n, d, i, sets)
+    on_current(image, pool, n, d, i, sets)
 }
 
 // The steps E to G, then the command's own.
-fn judge_later(image: &[u8], n: usize, d: usize, command: &[u8], state: State) -> Verdict
+fn judge_later<'a>(
+    image: &'a [u8],
+    pool: &'a [u8],
+    n: usize,
+    d: usize,
+    command: &[u8],
+    state: State,
+) -> Verdict
     requires { ⌜ Judgeable (now image) n d ⌝ }
     requires { ⌜ (d ≡ currentDfOf (now image)) × (4 ≤ length (now command)) ⌝ }
     ensures { λ r. ⌜ r ≡ judged (laterSteps (now (command .entry)) state)
-        (followed (planFor (now (image .entry)) n d (now (command .entry)) state)) ⌝ }
+        (followed (planFor (now (image .entry)) (now (pool .entry)) n d (now (command .entry)) state)) ⌝ }
 {
     if apdu::is_crowded(command[1], state) {
         return Verdict::Refuse(words::CONDITIONS_NOT_SATISFIED);
@@ -98,7 +126,7 @@ fn judge_later(image: &[u8], n: usize, d: usize, command: &[u8], state: State) -
     if !apdu::fit_length(command) {
         return Verdict::Refuse(words::WRONG_LENGTH);
     }
-    by_instruction(image, n, d, command, state)
+    by_instruction(image, pool, n, d, command, state)
 }
 
 // Whether the card has the instruction, by its version.
@@ -110,10 +138,17 @@ fn is_known(image: &[u8], i: u8) -> bool
 }
 
 // The verdict on a command, on a sound image with n slots and the current DF d.
-fn judge_for(image: &[u8], n: usize, d: usize, command: &[u8], state: State) -> Verdict
+fn judge_for<'a>(
+    image: &'a [u8],
+    pool: &'a [u8],
+    n: usize,
+    d: usize,
+    command: &[u8],
+    state: State,
+) -> Verdict
     requires { ⌜ Judgeable (now image) n d ⌝ }
     requires { ⌜ d ≡ currentDfOf (now image) ⌝ }
-    ensures { λ r. ⌜ r ≡ judgeFor (now (image .entry)) n d (now (command .entry)) state ⌝ }
+    ensures { λ r. ⌜ r ≡ judgeFor (now (image .entry)) (now (pool .entry)) n d (now (command .entry)) state ⌝ }
 {
     if command.len() < 4 {
         return Verdict::Refuse(words::WRONG_LENGTH);
@@ -130,15 +165,15 @@ fn judge_for(image: &[u8], n: usize, d: usize, command: &[u8], state: State) -> 
     if target::is_terminated(image, 0) {
         return Verdict::Refuse(words::CONDITIONS_NOT_SATISFIED);
     }
-    judge_later(image, n, d, command, state)
+    judge_later(image, pool, n, d, command, state)
 }
 
 // The verdict on a command, on a sound image.
-pub fn judge(image: &[u8], command: &[u8], state: State) -> Verdict
+pub fn judge<'a>(image: &'a [u8], pool: &'a [u8], command: &[u8], state: State) -> Verdict
     requires { ⌜ Sound (now image) ⌝ }
-    ensures { λ r. ⌜ r ≡ judgeOf (now (image .entry)) (now (command .entry)) state ⌝ }
+    ensures { λ r. ⌜ r ≡ judgeOf (now (image .entry)) (now (pool .entry)) (now (command .entry)) state ⌝ }
 {
     let n = fields::count(image);
     let d = fields::current_df(image);
-    judge_for(image, n, d, command, state)
+    judge_for(image, pool, n, d, command, state)
 }

@@ -11,7 +11,8 @@ use Rattle.laws.proofs.Says.{and-says, not-says}
 use Rattle.rules.specs.declared.Sets.{Sets}
 use Rattle.image.specs.Layout.{none, recAt, recordLengthOf, sizeOf}
 use Rattle.judge_target.specs.Steps.{allHold}
-use Rattle.judge_bodies.specs.Bodies.{binary, hasRecord, recordwise}
+use Rattle.pool.specs.Records.{hasRecord}
+use Rattle.judge_bodies.specs.Bodies.{binary, recordwise}
 
 -- record i ends one record length after its start
 ends : (i z : ℕ) → 1 ≤ i → (i - 1) * z + z ≡ i * z
@@ -32,15 +33,15 @@ module _ (img : List ℕ) (t : ℕ) where
       let p = and-says (ltb 0 i) (leb (i * z) (sizeOf (recAt img t))) .0 a in
       omega (arith, ends i z (leb-true 1 i (p .0)), leb-true (i * z) (sizeOf (recAt img t)) (p .1), eqb-true n z b)
 
-  module _ (reads : Bool) (n : ℕ) (x : Sets) where
-    pub binary-inside : (k : ℕ) → allHold (binary img t reads k n x .steps) ≡ true
+  module _ (pool : List ℕ) (reads : Bool) (n : ℕ) (x : Sets) where
+    pub binary-inside : (k : ℕ) → allHold (binary img pool t reads k n x .steps) ≡ true
         → (t ≡ none → ⊥) × (k + n ≤ sizeOf (recAt img t))
     unfolding binary
     binary-inside k a =
         let p = simp and-says at a in
         (an-ef (p .0), leb-true (k + n) (sizeOf (recAt img t)) (p .1 .1 .1 .1 .1 .1 .0))
 
-    pub recordwise-inside : (i : ℕ) → allHold (recordwise img t reads i n x .steps) ≡ true
+    pub recordwise-inside : (i : ℕ) → allHold (recordwise img pool t reads i n x .steps) ≡ true
         → (t ≡ none → ⊥) × ((i - 1) * recordLengthOf (recAt img t) + n ≤ sizeOf (recAt img t))
     unfolding recordwise
     recordwise-inside i a =

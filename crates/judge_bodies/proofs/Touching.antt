@@ -1,16 +1,12 @@
 -- What a command on a body is told by: no EF, the steps that the four share and then its own, a test against a number that was read, the
--- number and the place of a record.
+-- place of a record.
 use mathlib.Core.Path.{_≡_, refl, sym, ap, _∙_}
 use mathlib.Core.Bool.{Bool, true, false, not, cond}
 use mathlib.Core.List.{List}
 use Prim.Native.Nat.{ℕ, _+_, _*_, _-_, _<_, _≤_}
-use native.Mathlib.Nat.{mul-le-mul}
 use native.Mathlib.Omega.{arith}
 use lib.Dec.{ltb, leb}
-use borrow.Author.Tests.{leb-true, not-false}
-use Rattle.laws.proofs.Says.{and-says}
 use Rattle.laws.proofs.Branches.{is-lt, not-lt, is-le, not-le, unless-eq, unless-ne}
-use Rattle.laws.proofs.Chains.{gt-and, le-and}
 use Rattle.rules.specs.declared.Sets.{Sets}
 use Rattle.image.specs.Layout.{Within, none, recAt, recordLengthOf, sizeOf, startOf}
 use Rattle.kinship.specs.Climb.{Stands}
@@ -19,28 +15,28 @@ use Rattle.verdict.specs.declared.Verdict.the-variants.{Refuse, Read, Update}
 use Rattle.verdict.specs.Words.{notAllowed}
 use Rattle.judge_target.specs.Judgeable.{Judgeable}
 use Rattle.judge_target.specs.Steps.{judged, followed}
-use Rattle.judge_bodies.specs.Bodies.{usable, touching, onBytes, binary, hasRecord, onRecord, recordwise}
+use Rattle.judge_bodies.specs.Bodies.{usable, touching, onBytes, binary, onRecord, recordwise}
 
 -- no EF; else the steps that the four share, then the command's own: `due` is what those give. k is the start or the record's number
-module _ (img : List ℕ) (t : ℕ) (reads : Bool) (k n : ℕ) (x : Sets) where
-  pub binary-none : t ≡ none → Refuse notAllowed ≡ followed (binary img t reads k n x)
+module _ (img pool : List ℕ) (t : ℕ) (reads : Bool) (k n : ℕ) (x : Sets) where
+  pub binary-none : t ≡ none → Refuse notAllowed ≡ followed (binary img pool t reads k n x)
   unfolding followed binary
   binary-none e = unless-eq t none _ _ e refl
 
   pub binary-due : {due r : Verdict} → (t ≡ none → ⊥) → due ≡ judged (onBytes img t k n) (touching img t reads k n)
-      → r ≡ judged (usable img t reads x) due → r ≡ followed (binary img t reads k n x)
+      → r ≡ judged (usable img pool t reads x) due → r ≡ followed (binary img pool t reads k n x)
   unfolding followed binary
-  binary-due u f h = unless-ne t none _ _ u (h ∙ ap (λ (v : Verdict). judged (usable img t reads x) v) f)
+  binary-due u f h = unless-ne t none _ _ u (h ∙ ap (λ (v : Verdict). judged (usable img pool t reads x) v) f)
 
-  pub recordwise-none : t ≡ none → Refuse notAllowed ≡ followed (recordwise img t reads k n x)
+  pub recordwise-none : t ≡ none → Refuse notAllowed ≡ followed (recordwise img pool t reads k n x)
   unfolding followed recordwise
   recordwise-none e = unless-eq t none _ _ e refl
 
   pub recordwise-due : {due r : Verdict} → (t ≡ none → ⊥)
       → due ≡ judged (onRecord img t k n) (touching img t reads ((k - 1) * recordLengthOf (recAt img t)) n)
-      → r ≡ judged (usable img t reads x) due → r ≡ followed (recordwise img t reads k n x)
+      → r ≡ judged (usable img pool t reads x) due → r ≡ followed (recordwise img pool t reads k n x)
   unfolding followed recordwise
-  recordwise-due u f h = unless-ne t none _ _ u (h ∙ ap (λ (v : Verdict). judged (usable img t reads x) v) f)
+  recordwise-due u f h = unless-ne t none _ _ u (h ∙ ap (λ (v : Verdict). judged (usable img pool t reads x) v) f)
 
 -- a file's record is within the image
 pub in-image : (img : List ℕ) (n d t : ℕ) → Judgeable img n d → Stands img n t → Within img t
@@ -64,30 +60,6 @@ module _ {A : Type 0} {z : ℕ} (k a : ℕ) (p q : A) {x : A} (e : z ≡ a) wher
   past t h = not-le k a p q (rw (← e) t) h
 
 pub ruleset against = (under, not-under, up-to, past)
-
--- a record number times a record length
-pub times-small : (i z : ℕ) → i < 256 → z < 65536 → i * z ≤ 16777216
-times-small i z a b =
-    let c : i ≤ 256 = omega arith in
-    let d : z ≤ 65536 = omega arith in
-    mul-le-mul c d
-
-module _ (img : List ℕ) (t i : ℕ) where
-  -- there is no record 0; another is there if the size reaches to its end: z and l are record length and size as they were read
-  pub no-zeroth : i ≡ 0 → false ≡ hasRecord img t i
-  unfolding hasRecord
-  no-zeroth e = gt-and 1 i _ (omega arith) refl
-
-  pub reached : {z l : ℕ} → (i ≡ 0 → ⊥) → z ≡ recordLengthOf (recAt img t) → l ≡ sizeOf (recAt img t) → leb (i * z) l ≡ hasRecord img t i
-  unfolding hasRecord
-  reached u e f = le-and 1 i _ (omega arith) (rw (e, f) refl)
-
-  -- a record that is there has a number from 1 on
-  pub from-one : {r : Bool} → r ≡ hasRecord img t i → not r ≡ false → 1 ≤ i
-  unfolding hasRecord
-  from-one {r} e h =
-      leb-true 1 i
-      (and-says (ltb 0 i) (leb (i * recordLengthOf (recAt img t)) (sizeOf (recAt img t))) .0 (sym e ∙ not-false r h) .0)
 
 module _ (img : List ℕ) (t : ℕ) (reads : Bool) (n : ℕ) where
   -- what is due, by the start as it was read

@@ -8,10 +8,11 @@ ghost use Rattle.kinship.specs.Climb.{Stands};
 ghost use Rattle.judge_target.specs.Judgeable.{Judgeable};
 ghost use Rattle.judge_target.specs.Steps.{judged, followed};
 ghost use Rattle.judge_target.specs.Target.{allowedAt};
-ghost use Rattle.judge_bodies.specs.Bodies.{rightTo, usable, touching, onBytes, binary, hasRecord, onRecord, recordwise};
+ghost use Rattle.judge_bodies.specs.Bodies.{rightTo, usable, touching, onBytes, binary, onRecord, recordwise};
 use image::fields;
 use judge_target::target;
 use kinship::climb;
+use pool::records;
 use rules::Right;
 use rules::Sets;
 use rules::descriptor;
@@ -29,12 +30,20 @@ pub fn right_to(reads: bool) -> Right
 }
 
 // Whether the EF's rule grants it.
-fn may_touch(image: &[u8], n: usize, d: usize, t: usize, reads: bool, sets: Sets) -> bool
+fn may_touch<'a>(
+    image: &'a [u8],
+    pool: &'a [u8],
+    n: usize,
+    d: usize,
+    t: usize,
+    reads: bool,
+    sets: Sets,
+) -> bool
     requires { ⌜ Judgeable (now image) n d ⌝ }
     requires { ⌜ Stands (now image) n t ⌝ }
-    ensures { λ r. ⌜ r ≡ allowedAt (now (image .entry)) t (rightTo reads) sets ⌝ }
+    ensures { λ r. ⌜ r ≡ allowedAt (now (image .entry)) (now (pool .entry)) t (rightTo reads) sets ⌝ }
 {
-    target::allowed(image, n, d, t, right_to(reads), sets)
+    target::allowed(image, pool, n, d, t, right_to(reads), sets)
 }
 
 // Whether the file in slot t has records.
@@ -58,8 +67,9 @@ fn touching_it(image: &[u8], t: usize, reads: bool, k: usize, n: usize) -> Verdi
 }
 
 // The steps J and K that the four share, then what else is due.
-fn if_usable(
-    image: &[u8],
+fn if_usable<'a>(
+    image: &'a [u8],
+    pool: &'a [u8],
     n: usize,
     d: usize,
     t: usize,
@@ -69,9 +79,9 @@ fn if_usable(
 ) -> Verdict
     requires { ⌜ Judgeable (now image) n d ⌝ }
     requires { ⌜ Stands (now image) n t ⌝ }
-    ensures { λ r. ⌜ r ≡ judged (usable (now (image .entry)) t reads sets) due ⌝ }
+    ensures { λ r. ⌜ r ≡ judged (usable (now (image .entry)) (now (pool .entry)) t reads sets) due ⌝ }
 {
-    if !may_touch(image, n, d, t, reads, sets) {
+    if !may_touch(image, pool, n, d, t, reads, sets) {
         return Verdict::Refuse(words::SECURITY_NOT_SATISFIED);
     }
     if !target::is_activated(image, t) {
@@ -102,8 +112,9 @@ fn on_bytes(image: &[u8], t: usize, reads: bool, k: usize, count: usize) -> Verd
 }
 
 // READ or UPDATE BINARY, with t the current EF or FFFF.
-pub fn binary(
-    image: &[u8],
+pub fn binary<'a>(
+    image: &'a [u8],
+    pool: &'a [u8],
     n: usize,
     d: usize,
     t: usize,
@@ -115,25 +126,13 @@ pub fn binary(
     requires { ⌜ Judgeable (now image) n d ⌝ }
     requires { ⌜ ((t ≡ none → ⊥) → Stands (now image) n t) ⌝ }
     requires { ⌜ (k < 65536) × (count ≤ 256) ⌝ }
-    ensures { λ r. ⌜ r ≡ followed (binary (now (image .entry)) t reads k count sets) ⌝ }
+    ensures { λ r. ⌜ r ≡ followed (binary (now (image .entry)) (now (pool .entry)) t reads k count sets) ⌝ }
 {
     if t == image::NO_SLOT {
         return Verdict::Refuse(words::NOT_ALLOWED);
     }
     let due = on_bytes(image, t, reads, k, count);
-    if_usable(image, n, d, t, reads, sets, due)
-}
-
-// Whether the file in slot t has a record of number i.
-fn has_record(image: &[u8], t: usize, i: usize) -> bool
-    requires { ⌜ Within (now image) t × (i < 256) ⌝ }
-    ensures { λ r. ⌜ r ≡ hasRecord (now (image .entry)) t i ⌝ }
-{
-    if i == 0 {
-        return false;
-    }
-    let length = fields::record_length(image, t) as usize;
-    i * length <= fields::size(image, t) as usize
+    if_usable(image, pool, n, d, t, reads, sets, due)
 }
 
 // The steps on an EF with records: record number i, of `count` bytes.
@@ -145,7 +144,7 @@ fn on_record(image: &[u8], t: usize, reads: bool, i: usize, count: usize) -> Ver
     if !has_records(image, t) {
         return Verdict::Refuse(words::WRONG_STRUCTURE);
     }
-    if !has_record(image, t, i) {
+    if !records::has_record(image, t, i) {
         return Verdict::Refuse(words::NO_SUCH_RECORD);
     }
     let length = fields::record_length(image, t) as usize;
@@ -156,8 +155,9 @@ fn on_record(image: &[u8], t: usize, reads: bool, i: usize, count: usize) -> Ver
 }
 
 // READ or UPDATE RECORD number i, with t the current EF or FFFF.
-pub fn recordwise(
-    image: &[u8],
+pub fn recordwise<'a>(
+    image: &'a [u8],
+    pool: &'a [u8],
     n: usize,
     d: usize,
     t: usize,
@@ -169,11 +169,11 @@ pub fn recordwise(
     requires { ⌜ Judgeable (now image) n d ⌝ }
     requires { ⌜ ((t ≡ none → ⊥) → Stands (now image) n t) ⌝ }
     requires { ⌜ (i < 256) × (count ≤ 256) ⌝ }
-    ensures { λ r. ⌜ r ≡ followed (recordwise (now (image .entry)) t reads i count sets) ⌝ }
+    ensures { λ r. ⌜ r ≡ followed (recordwise (now (image .entry)) (now (pool .entry)) t reads i count sets) ⌝ }
 {
     if t == image::NO_SLOT {
         return Verdict::Refuse(words::NOT_ALLOWED);
     }
     let due = on_record(image, t, reads, i, count);
-    if_usable(image, n, d, t, reads, sets, due)
+    if_usable(image, pool, n, d, t, reads, sets, due)
 }

@@ -36,63 +36,63 @@ select img n d x =
     plan (step (isFound file) notFound ∷ []) (selecting img d (slotIn file))                        -- I
 
 -- the child in slot s may be deleted: by its own b7 or directory d's b1
-unfoldable pub mayDelete : List ℕ → ℕ → ℕ → Sets → Bool
-mayDelete img d s x = allowedAt img s DeleteSelf x || allowedAt img d DeleteChild x
+unfoldable pub mayDelete : List ℕ → List ℕ → ℕ → ℕ → Sets → Bool
+mayDelete img pool d s x = allowedAt img pool s DeleteSelf x || allowedAt img pool d DeleteChild x
 
 -- the child goes, if it may be deleted
-abbrev pub deleting : List ℕ → ℕ → Sets → ℕ → Verdict
-deleting img d x s = judged (step (mayDelete img d s x) securityNotSatisfied ∷ []) (Delete s)
+abbrev pub deleting : List ℕ → List ℕ → ℕ → Sets → ℕ → Verdict
+deleting img pool d x s = judged (step (mayDelete img pool d s x) securityNotSatisfied ∷ []) (Delete s)
 
 -- DELETE: a child of the current DF; no life-cycle check
-abbrev pub delete : List ℕ → ℕ → ℕ → ℕ → Sets → Plan
-delete img n d id x =
+abbrev pub delete : List ℕ → List ℕ → ℕ → ℕ → ℕ → Sets → Plan
+delete img pool n d id x =
     let child : Found = childNamed n (viewAt img) d id in
     plan
     (step (isFound child) notFound                                                                  -- I
-    ∷ step (mayDelete img d (slotIn child) x) securityNotSatisfied                                  -- J
+    ∷ step (mayDelete img pool d (slotIn child) x) securityNotSatisfied                                  -- J
     ∷ [])
     (Delete (slotIn child))
 
 -- ACTIVATE of the file in slot t: creation, initialisation, deactivated to 05
-abbrev pub activate : List ℕ → ℕ → Sets → Plan
-activate img t x =
+abbrev pub activate : List ℕ → List ℕ → ℕ → Sets → Plan
+activate img pool t x =
     plan
-    (step (allowedAt img t Activate x) securityNotSatisfied                                         -- J
+    (step (allowedAt img pool t Activate x) securityNotSatisfied                                         -- J
     ∷ step (not (terminatedUp img t)) conditionsNotSatisfied                                        -- K
     ∷ step (canActivate (lifeAt img t)) conditionsNotSatisfied
     ∷ [])
     (SetLife t activatedByte)
 
 -- DEACTIVATE: activated to 04
-abbrev pub deactivate : List ℕ → ℕ → Sets → Plan
-deactivate img t x =
+abbrev pub deactivate : List ℕ → List ℕ → ℕ → Sets → Plan
+deactivate img pool t x =
     plan
-    (step (allowedAt img t Deactivate x) securityNotSatisfied                                       -- J
+    (step (allowedAt img pool t Deactivate x) securityNotSatisfied                                       -- J
     ∷ step (not (terminatedUp img t)) conditionsNotSatisfied                                        -- K
     ∷ step (isActivated (lifeAt img t)) conditionsNotSatisfied
     ∷ [])
     (SetLife t deactivatedByte)
 
 -- TERMINATE EF: the current EF, any state but 0C to 0C
-abbrev pub terminateTheEf : List ℕ → ℕ → Sets → Plan
-terminateTheEf img t x =
+abbrev pub terminateTheEf : List ℕ → List ℕ → ℕ → Sets → Plan
+terminateTheEf img pool t x =
     plan
     (step (not (eqb t none)) notAllowed                                                             -- I
-    ∷ step (allowedAt img t Terminate x) securityNotSatisfied                                       -- J
+    ∷ step (allowedAt img pool t Terminate x) securityNotSatisfied                                       -- J
     ∷ step (not (terminatedUp img t)) conditionsNotSatisfied                                        -- K
     ∷ [])
     (SetLife t terminatedByte)
 
 -- TERMINATE DF: the current DF, any state but 0C to 0C; the root is 6985
-abbrev pub terminateTheDf : List ℕ → ℕ → Sets → Plan
-terminateTheDf img t x =
+abbrev pub terminateTheDf : List ℕ → List ℕ → ℕ → Sets → Plan
+terminateTheDf img pool t x =
     plan
-    (step (allowedAt img t Terminate x) securityNotSatisfied                                        -- J
+    (step (allowedAt img pool t Terminate x) securityNotSatisfied                                        -- J
     ∷ step (not (eqb t 0)) conditionsNotSatisfied                                                   -- K
     ∷ step (not (terminatedUp img t)) conditionsNotSatisfied
     ∷ [])
     (SetLife t terminatedByte)
 
 -- TERMINATE CARD USAGE: the root's b6; root to 0C
-abbrev pub terminateTheCard : List ℕ → Sets → Plan
-terminateTheCard img x = plan (step (allowedAt img 0 Terminate x) securityNotSatisfied ∷ []) (SetLife 0 terminatedByte)   -- J
+abbrev pub terminateTheCard : List ℕ → List ℕ → Sets → Plan
+terminateTheCard img pool x = plan (step (allowedAt img pool 0 Terminate x) securityNotSatisfied ∷ []) (SetLife 0 terminatedByte)   -- J

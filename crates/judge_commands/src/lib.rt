@@ -74,46 +74,67 @@ pub fn select_file(image: &[u8], n: usize, d: usize, x: u16) -> Verdict
 }
 
 // Whether the child in slot s may be deleted: by its own rule, or by directory d's.
-fn may_delete(image: &[u8], n: usize, d: usize, s: usize, sets: Sets) -> bool
+fn may_delete<'a>(image: &'a [u8], pool: &'a [u8], n: usize, d: usize, s: usize, sets: Sets) -> bool
     requires { ⌜ Judgeable (now image) n d ⌝ }
-    requires { ⌜ s < n ⌝ }
-    ensures { λ r. ⌜ r ≡ mayDelete (now (image .entry)) d s sets ⌝ }
+    requires { ⌜ Stands (now image) n s ⌝ }
+    ensures { λ r. ⌜ r ≡ mayDelete (now (image .entry)) (now (pool .entry)) d s sets ⌝ }
 {
-    if target::allowed(image, n, d, s, Right::DeleteSelf, sets) {
+    if target::allowed(image, pool, n, d, s, Right::DeleteSelf, sets) {
         return true;
     }
-    target::allowed(image, n, d, d, Right::DeleteChild, sets)
+    target::allowed(image, pool, n, d, d, Right::DeleteChild, sets)
 }
 
 // The child in slot s goes, if it may be deleted.
-fn deleting_it(image: &[u8], n: usize, d: usize, s: usize, sets: Sets) -> Verdict
+fn deleting_it<'a>(
+    image: &'a [u8],
+    pool: &'a [u8],
+    n: usize,
+    d: usize,
+    s: usize,
+    sets: Sets,
+) -> Verdict
     requires { ⌜ Judgeable (now image) n d ⌝ }
-    requires { ⌜ s < n ⌝ }
-    ensures { λ r. ⌜ r ≡ deleting (now (image .entry)) d sets s ⌝ }
+    requires { ⌜ Stands (now image) n s ⌝ }
+    ensures { λ r. ⌜ r ≡ deleting (now (image .entry)) (now (pool .entry)) d sets s ⌝ }
 {
-    if !may_delete(image, n, d, s, sets) {
+    if !may_delete(image, pool, n, d, s, sets) {
         return Verdict::Refuse(words::SECURITY_NOT_SATISFIED);
     }
     Verdict::Delete(s)
 }
 
-pub fn delete_file(image: &[u8], n: usize, d: usize, x: u16, sets: Sets) -> Verdict
+pub fn delete_file<'a>(
+    image: &'a [u8],
+    pool: &'a [u8],
+    n: usize,
+    d: usize,
+    x: u16,
+    sets: Sets,
+) -> Verdict
     requires { ⌜ Judgeable (now image) n d ⌝ }
-    ensures { λ r. ⌜ r ≡ followed (delete (now (image .entry)) n d x sets) ⌝ }
+    ensures { λ r. ⌜ r ≡ followed (delete (now (image .entry)) (now (pool .entry)) n d x sets) ⌝ }
 {
     match search::child_named(image, n, d, x) {
-        Found::At(s) => deleting_it(image, n, d, s, sets),
+        Found::At(s) => deleting_it(image, pool, n, d, s, sets),
         Found::Nothing => Verdict::Refuse(words::NOT_FOUND),
     }
 }
 
 // ACTIVATE of the file in slot t.
-pub fn activate_file(image: &[u8], n: usize, d: usize, t: usize, sets: Sets) -> Verdict
+pub fn activate_file<'a>(
+    image: &'a [u8],
+    pool: &'a [u8],
+    n: usize,
+    d: usize,
+    t: usize,
+    sets: Sets,
+) -> Verdict
     requires { ⌜ Judgeable (now image) n d ⌝ }
     requires { ⌜ Stands (now image) n t ⌝ }
-    ensures { λ r. ⌜ r ≡ followed (activate (now (image .entry)) t sets) ⌝ }
+    ensures { λ r. ⌜ r ≡ followed (activate (now (image .entry)) (now (pool .entry)) t sets) ⌝ }
 {
-    if !target::allowed(image, n, d, t, Right::Activate, sets) {
+    if !target::allowed(image, pool, n, d, t, Right::Activate, sets) {
         return Verdict::Refuse(words::SECURITY_NOT_SATISFIED);
     }
     if climb::terminated_up(image, n, t) {
@@ -129,12 +150,19 @@ pub fn activate_file(image: &[u8], n: usize, d: usize, t: usize, sets: Sets) -> 
 }
 
 // DEACTIVATE of the file in slot t.
-pub fn deactivate_file(image: &[u8], n: usize, d: usize, t: usize, sets: Sets) -> Verdict
+pub fn deactivate_file<'a>(
+    image: &'a [u8],
+    pool: &'a [u8],
+    n: usize,
+    d: usize,
+    t: usize,
+    sets: Sets,
+) -> Verdict
     requires { ⌜ Judgeable (now image) n d ⌝ }
     requires { ⌜ Stands (now image) n t ⌝ }
-    ensures { λ r. ⌜ r ≡ followed (deactivate (now (image .entry)) t sets) ⌝ }
+    ensures { λ r. ⌜ r ≡ followed (deactivate (now (image .entry)) (now (pool .entry)) t sets) ⌝ }
 {
-    if !target::allowed(image, n, d, t, Right::Deactivate, sets) {
+    if !target::allowed(image, pool, n, d, t, Right::Deactivate, sets) {
         return Verdict::Refuse(words::SECURITY_NOT_SATISFIED);
     }
     if climb::terminated_up(image, n, t) {
@@ -150,15 +178,22 @@ pub fn deactivate_file(image: &[u8], n: usize, d: usize, t: usize, sets: Sets) -
 }
 
 // TERMINATE EF, with t the current EF or FFFF.
-pub fn terminate_ef(image: &[u8], n: usize, d: usize, t: usize, sets: Sets) -> Verdict
+pub fn terminate_ef<'a>(
+    image: &'a [u8],
+    pool: &'a [u8],
+    n: usize,
+    d: usize,
+    t: usize,
+    sets: Sets,
+) -> Verdict
     requires { ⌜ Judgeable (now image) n d ⌝ }
     requires { ⌜ ((t ≡ none → ⊥) → Stands (now image) n t) ⌝ }
-    ensures { λ r. ⌜ r ≡ followed (terminateTheEf (now (image .entry)) t sets) ⌝ }
+    ensures { λ r. ⌜ r ≡ followed (terminateTheEf (now (image .entry)) (now (pool .entry)) t sets) ⌝ }
 {
     if t == image::NO_SLOT {
         return Verdict::Refuse(words::NOT_ALLOWED);
     }
-    if !target::allowed(image, n, d, t, Right::Terminate, sets) {
+    if !target::allowed(image, pool, n, d, t, Right::Terminate, sets) {
         return Verdict::Refuse(words::SECURITY_NOT_SATISFIED);
     }
     if climb::terminated_up(image, n, t) {
@@ -171,11 +206,11 @@ pub fn terminate_ef(image: &[u8], n: usize, d: usize, t: usize, sets: Sets) -> V
 }
 
 // TERMINATE DF, with d the current DF.
-pub fn terminate_df(image: &[u8], n: usize, d: usize, sets: Sets) -> Verdict
+pub fn terminate_df<'a>(image: &'a [u8], pool: &'a [u8], n: usize, d: usize, sets: Sets) -> Verdict
     requires { ⌜ Judgeable (now image) n d ⌝ }
-    ensures { λ r. ⌜ r ≡ followed (terminateTheDf (now (image .entry)) d sets) ⌝ }
+    ensures { λ r. ⌜ r ≡ followed (terminateTheDf (now (image .entry)) (now (pool .entry)) d sets) ⌝ }
 {
-    if !target::allowed(image, n, d, d, Right::Terminate, sets) {
+    if !target::allowed(image, pool, n, d, d, Right::Terminate, sets) {
         return Verdict::Refuse(words::SECURITY_NOT_SATISFIED);
     }
     if d == 0 {
@@ -191,11 +226,17 @@ pub fn terminate_df(image: &[u8], n: usize, d: usize, sets: Sets) -> Verdict
 }
 
 // TERMINATE CARD USAGE.
-pub fn terminate_card(image: &[u8], n: usize, d: usize, sets: Sets) -> Verdict
+pub fn terminate_card<'a>(
+    image: &'a [u8],
+    pool: &'a [u8],
+    n: usize,
+    d: usize,
+    sets: Sets,
+) -> Verdict
     requires { ⌜ Judgeable (now image) n d ⌝ }
-    ensures { λ r. ⌜ r ≡ followed (terminateTheCard (now (image .entry)) sets) ⌝ }
+    ensures { λ r. ⌜ r ≡ followed (terminateTheCard (now (image .entry)) (now (pool .entry)) sets) ⌝ }
 {
-    if !target::allowed(image, n, d, 0, Right::Terminate, sets) {
+    if !target::allowed(image, pool, n, d, 0, Right::Terminate, sets) {
         return Verdict::Refuse(words::SECURITY_NOT_SATISFIED);
     }
     Verdict::SetLife {

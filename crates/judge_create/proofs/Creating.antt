@@ -25,21 +25,21 @@ use Rattle.judge_target.specs.Target.{slotIn, newRecord}
 use Rattle.judge_create.specs.Creation.{admission, create}
 
 -- r is what the reader gave, q the slot that the search gave
-module _ (img : List ℕ) (n d : ℕ) (s : List ℕ) (x : Sets) {w : ℕ} (known : w ≡ versionOf img) {r : Data} (e : r ≡ dataOf w s) where
-  pub create-bad : r ≡ Bad → Refuse wrongData ≡ followed (create img n d s x)
+module _ (img pool : List ℕ) (n d : ℕ) (s : List ℕ) (x : Sets) {w : ℕ} (known : w ≡ versionOf img) {r : Data} (e : r ≡ dataOf w s) where
+  pub create-bad : r ≡ Bad → Refuse wrongData ≡ followed (create img pool n d s x)
   unfolding followed
   create-bad f = rw (← known, sym e ∙ f)
 
   module _ {q : ℕ} (g : q ≡ slotIn (freeSlot n (viewAt img))) {v : Verdict} {f : NewFile} where
     pub create-df : r ≡ Df f
-        → v ≡ judged (admission img n d CreateDf (f .identifier) (bytesAt s (f .name)) (f .size) x) (Create (newRecord img d q df f))
-        → v ≡ followed (create img n d s x)
+        → v ≡ judged (admission img pool n d CreateDf (f .identifier) (bytesAt s (f .name)) (f .size) x) (Create (newRecord img d q df f))
+        → v ≡ followed (create img pool n d s x)
     unfolding followed
     create-df k h = rw (← known, sym e ∙ k, ← g) h
 
     pub create-ef : r ≡ Ef f
-        → v ≡ judged (admission img n d CreateEf (f .identifier) (bytesAt s (f .name)) (f .size) x) (Create (newRecord img d q ef f))
-        → v ≡ followed (create img n d s x)
+        → v ≡ judged (admission img pool n d CreateEf (f .identifier) (bytesAt s (f .name)) (f .size) x) (Create (newRecord img d q ef f))
+        → v ≡ followed (create img pool n d s x)
     unfolding followed
     create-ef k h = rw (← known, sym e ∙ k, ← g) h
 

@@ -20,9 +20,9 @@ unfoldable pub takesFiles : List ℕ → ℕ → Bool
 takesFiles img d = not (isDeactivated (lifeAt img d)) && not (terminatedUp img d)
 
 -- a new file is admitted to directory d: by b3 or b2 of its rule, its life cycle, then identifier, name, memory
-abbrev pub admission : List ℕ → ℕ → ℕ → Right → ℕ → List ℕ → ℕ → Sets → List Step
-admission img n d right identifier name size x =
-    step (allowedAt img d right x) securityNotSatisfied                                             -- J
+abbrev pub admission : List ℕ → List ℕ → ℕ → ℕ → Right → ℕ → List ℕ → ℕ → Sets → List Step
+admission img pool n d right identifier name size x =
+    step (allowedAt img pool d right x) securityNotSatisfied                                             -- J
     ∷ step (takesFiles img d) conditionsNotSatisfied                                                -- K
     ∷ step (identifierFree n (viewAt img) d identifier) identifierExists                            -- L
     ∷ step (nameFree n (viewAt img) name) nameExists
@@ -30,10 +30,10 @@ admission img n d right identifier name size x =
     ∷ []
 
 -- CREATE; s is its data. The new file takes the lowest free slot
-abbrev pub create : List ℕ → ℕ → ℕ → List ℕ → Sets → Plan
-create img n d s x =
+abbrev pub create : List ℕ → List ℕ → ℕ → ℕ → List ℕ → Sets → Plan
+create img pool n d s x =
     let new : Data = dataOf (versionOf img) s in
     plan
     (step (describes new) wrongData                                                                    -- H
-    ∷ admission img n d (rightFor new) (newIdentifier new) (newName s new) (newSize new) x)         -- J to L
+    ∷ admission img pool n d (rightFor new) (newIdentifier new) (newName s new) (newSize new) x)         -- J to L
     (creating img d (slotIn (freeSlot n (viewAt img))) new)

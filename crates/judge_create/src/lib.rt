@@ -47,8 +47,9 @@ pub struct Asked {
 }
 
 // The steps J to L for a new file, with its name; where all hold, the effect.
-fn admitted(
-    image: &[u8],
+fn admitted<'a>(
+    image: &'a [u8],
+    pool: &'a [u8],
     n: usize,
     d: usize,
     new: Asked,
@@ -58,10 +59,11 @@ fn admitted(
 ) -> Verdict
     requires { ⌜ Judgeable (now image) n d ⌝ }
     ensures { λ r. ⌜ r ≡ judged
-        (admission (now (image .entry)) n d (new .right) (new .identifier) (now (name .entry)) (new .size) sets) effect ⌝ }
+        (admission (now (image .entry)) (now (pool .entry)) n d (new .right) (new .identifier) (now (name .entry)) (new .size) sets)
+        effect ⌝ }
 {
     let right = new.right;
-    if !target::allowed(image, n, d, d, right, sets) {
+    if !target::allowed(image, pool, n, d, d, right, sets) {
         return Verdict::Refuse(words::SECURITY_NOT_SATISFIED);
     }
     if !takes_files(image, n, d) {
@@ -111,8 +113,9 @@ fn head_of(image: &[u8], n: usize, d: usize, kind: u8, new: NewFile) -> Head
 
 // A new file of that kind, by the right that it needs, in slot s: the steps for its numbers and its name, a part of the
 // data.
-fn new_file(
-    image: &[u8],
+fn new_file<'a>(
+    image: &'a [u8],
+    pool: &'a [u8],
     n: usize,
     d: usize,
     s: usize,
@@ -125,7 +128,8 @@ fn new_file(
     requires { ⌜ Judgeable (now image) n d ⌝ }
     requires { ⌜ (new .name .start ≤ new .name .end) × (new .name .end ≤ length (now sent)) ⌝ }
     ensures { λ r. ⌜ r ≡ judged
-        (admission (now (image .entry)) n d right (new .identifier) (bytesAt (now (sent .entry)) (new .name)) (new .size) sets)
+        (admission (now (image .entry)) (now (pool .entry)) n d right (new .identifier) (bytesAt (now (sent .entry)) (new .name))
+        (new .size) sets)
         (Verdict.Create (newRecord (now (image .entry)) d s kind new)) ⌝ }
 {
     let head = head_of(image, n, d, kind, new);
@@ -144,17 +148,25 @@ fn new_file(
     });
     let from = name.start;
     let to = name.end;
-    admitted(image, n, d, asked, &sent[from..to], sets, effect)
+    admitted(image, pool, n, d, asked, &sent[from..to], sets, effect)
 }
 
-pub fn create_file(image: &[u8], n: usize, d: usize, sent: &[u8], sets: Sets) -> Verdict
+pub fn create_file<'a>(
+    image: &'a [u8],
+    pool: &'a [u8],
+    n: usize,
+    d: usize,
+    sent: &[u8],
+    sets: Sets,
+) -> Verdict
     requires { ⌜ Judgeable (now image) n d ⌝ }
-    ensures { λ r. ⌜ r ≡ followed (create (now (image .entry)) n d (now (sent .entry)) sets) ⌝ }
+    ensures { λ r. ⌜ r ≡ followed (create (now (image .entry)) (now (pool .entry)) n d (now (sent .entry)) sets) ⌝ }
 {
     let s = new_slot(image, n);
     match create_data::read(sent, fields::version(image)) {
         Data::Df(new) => new_file(
             image,
+            pool,
             n,
             d,
             s,
@@ -166,6 +178,7 @@ pub fn create_file(image: &[u8], n: usize, d: usize, sent: &[u8], sets: Sets) ->
         ),
         Data::Ef(new) => new_file(
             image,
+            pool,
             n,
             d,
             s,

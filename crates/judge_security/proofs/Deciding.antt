@@ -2,7 +2,7 @@
 use mathlib.Core.Path.{_≡_, sym, ap, _∙_}
 use mathlib.Core.Bool.{Bool, true, false, cond, not}
 use mathlib.Core.List.{List}
-use Prim.Native.Nat.{ℕ, _<_, _≤_}
+use Prim.Native.Nat.{ℕ, _≤_}
 use lib.Dec.{eqb}
 use lib.ListN.{length}
 use borrow.Author.Tests.{ne-eqb, eq-eqb, not-true, not-false}
@@ -25,6 +25,7 @@ use Rattle.verdict.specs.declared.Verdict.{Verdict}
 use Rattle.verdict.specs.declared.Verdict.the-variants.{Refuse}
 use Rattle.verdict.specs.Applied.{sentData}
 use Rattle.verdict.specs.Words.{securityNotSatisfied}
+use Rattle.kinship.specs.Climb.{Stands}
 use Rattle.judge_target.specs.Judgeable.{Judgeable}
 use Rattle.judge_target.specs.Target.{decisionAt, slotIn, rightFor}
 use Rattle.judge_target.proofs.Finding.{slot-found, slot-none}
@@ -55,54 +56,54 @@ module _ (new : Data) {r : Data} (e : r ≡ new) where
 
 -- the child that was found, or none
 module _ (img : List ℕ) (n d x : ℕ) (j : Judgeable img n d) {r : Found} (e : r ≡ childNamed n (viewAt img) d x) where
-  pub child-found : {s : ℕ} → r ≡ At s → (s ≡ slotIn (childNamed n (viewAt img) d x)) × (s < n)
-  child-found {s} q = (slot-found _ e q, child-stands img n d x s (sym e ∙ q) .low)
+  pub child-found : {s : ℕ} → r ≡ At s → (s ≡ slotIn (childNamed n (viewAt img) d x)) × Stands img n s
+  child-found {s} q = (slot-found _ e q, child-stands img n d x s (sym e ∙ q))
 
-  pub child-none : r ≡ Nothing → (0 ≡ slotIn (childNamed n (viewAt img) d x)) × (0 < n)
-  child-none q = (slot-none _ e q, j .root .low)
+  pub child-none : r ≡ Nothing → (0 ≡ slotIn (childNamed n (viewAt img) d x)) × Stands img n 0
+  child-none q = (slot-none _ e q, j .root)
 
 -- the current EF, if there is one
-module _ (img : List ℕ) (right : Right) (x : Sets) {t : ℕ} (e : t ≡ currentEfOf img) where
-  pub no-ef : t ≡ none → Granted ≡ efDecision img right x
+module _ (img pool : List ℕ) (right : Right) (x : Sets) {t : ℕ} (e : t ≡ currentEfOf img) where
+  pub no-ef : t ≡ none → Granted ≡ efDecision img pool right x
   unfolding efDecision
   no-ef q = rw (eq-eqb (currentEfOf img) none (sym e ∙ q))
 
-  pub some-ef : (t ≡ none → ⊥) → {r : Decision} → r ≡ decisionAt img t right x → r ≡ efDecision img right x
+  pub some-ef : (t ≡ none → ⊥) → {r : Decision} → r ≡ decisionAt img pool t right x → r ≡ efDecision img pool right x
   unfolding efDecision
-  some-ef z f = f ∙ ap (λ (s : ℕ). decisionAt img s right x) e ∙ sym (ap (λ (b : Bool). cond b Granted (decisionAt img (currentEfOf img) right x)) off)
+  some-ef z f = f ∙ ap (λ (s : ℕ). decisionAt img pool s right x) e ∙ sym (ap (λ (b : Bool). cond b Granted (decisionAt img pool (currentEfOf img) right x)) off)
     where
       off : eqb (currentEfOf img) none ≡ false
       off = ne-eqb (currentEfOf img) none (λ q. z (e ∙ q))
 
 -- what is decided on what was found or sent
-module _ (img : List ℕ) {r : Decision} where
-  pub on-file : (right : Right) (x : Sets) {t : ℕ} (s : ℕ) → t ≡ s → r ≡ decisionAt img t right x → r ≡ decisionAt img s right x
-  on-file right x s e f = f ∙ ap (λ (u : ℕ). decisionAt img u right x) e
+module _ (img pool : List ℕ) {r : Decision} where
+  pub on-file : (right : Right) (x : Sets) {t : ℕ} (s : ℕ) → t ≡ s → r ≡ decisionAt img pool t right x → r ≡ decisionAt img pool s right x
+  on-file right x s e f = f ∙ ap (λ (u : ℕ). decisionAt img pool u right x) e
 
   pub on-new : (c : List ℕ) (d : ℕ) (x : Sets) {right : Right} {s : List ℕ} {v : ℕ} → s ≡ sentData c → v ≡ versionOf img
-      → right ≡ rightFor (dataOf v s) → r ≡ decisionAt img d right x → r ≡ decisionAt img d (rightFor (dataOf (versionOf img) (sentData c))) x
+      → right ≡ rightFor (dataOf v s) → r ≡ decisionAt img pool d right x → r ≡ decisionAt img pool d (rightFor (dataOf (versionOf img) (sentData c))) x
   on-new c d x {right} {s} e f g h =
-      h ∙ ap (λ (u : Right). decisionAt img d u x) (g ∙ ap (λ (u : ℕ). rightFor (dataOf u s)) f ∙ ap (λ (u : List ℕ). rightFor (dataOf (versionOf img) u)) e)
+      h ∙ ap (λ (u : Right). decisionAt img pool d u x) (g ∙ ap (λ (u : ℕ). rightFor (dataOf u s)) f ∙ ap (λ (u : List ℕ). rightFor (dataOf (versionOf img) u)) e)
 
-  pub on-child : (c : List ℕ) (n d : ℕ) (x : Sets) {i : ℕ} → i ≡ sentIdentifier c → r ≡ deletion img n d i x
-      → r ≡ deletion img n d (sentIdentifier c) x
-  on-child c n d x e f = f ∙ ap (λ (u : ℕ). deletion img n d u x) e
+  pub on-child : (c : List ℕ) (n d : ℕ) (x : Sets) {i : ℕ} → i ≡ sentIdentifier c → r ≡ deletion img pool n d i x
+      → r ≡ deletion img pool n d (sentIdentifier c) x
+  on-child c n d x e f = f ∙ ap (λ (u : ℕ). deletion img pool n d u x) e
 
   pub on-body : (c : List ℕ) (x : Sets) {right : Right} {b : Bool} → b ≡ isRead (instruction c) → right ≡ rightTo b
-      → r ≡ efDecision img right x → r ≡ efDecision img (rightTo (isRead (instruction c))) x
-  on-body c x e f h = h ∙ ap (λ (u : Right). efDecision img u x) (f ∙ ap rightTo e)
+      → r ≡ efDecision img pool right x → r ≡ efDecision img pool (rightTo (isRead (instruction c))) x
+  on-body c x e f h = h ∙ ap (λ (u : Right). efDecision img pool u x) (f ∙ ap rightTo e)
 
 -- what a verdict says: b is whether it was found to be step J's
-pub denied-needs : (img c : List ℕ) (st : State) (v : Verdict) {b : Bool} → b ≡ isDenied v → not b ≡ false → v ≡ judgeOf img c st
+pub denied-needs : (img pool c : List ℕ) (st : State) (v : Verdict) {b : Bool} → b ≡ isDenied v → not b ≡ false → v ≡ judgeOf img pool c st
     → (4 ≤ length c) × (fitLength c ≡ true)
-denied-needs img c st v {b} e t f = denied-fits img c st (ap isDenied (sym f) ∙ sym e ∙ not-false b t)
+denied-needs img pool c st v {b} e t f = denied-fits img pool c st (ap isDenied (sym f) ∙ sym e ∙ not-false b t)
 
-module _ (img c : List ℕ) (x : Sets) (v : Verdict) {b : Bool} (e : b ≡ isDenied v) where
-  pub not-denied : not b ≡ true → Granted ≡ denialOf img c x v
+module _ (img pool c : List ℕ) (x : Sets) (v : Verdict) {b : Bool} (e : b ≡ isDenied v) where
+  pub not-denied : not b ≡ true → Granted ≡ denialOf img pool c x v
   unfolding denialOf
   not-denied t = rw (sym e ∙ not-true b t)
 
-  pub denied-decides : not b ≡ false → {n d : ℕ} {r : Decision} → n ≡ countOf img → d ≡ currentDfOf img → r ≡ decisionFor img n d c x
-      → r ≡ denialOf img c x v
+  pub denied-decides : not b ≡ false → {n d : ℕ} {r : Decision} → n ≡ countOf img → d ≡ currentDfOf img → r ≡ decisionFor img pool n d c x
+      → r ≡ denialOf img pool c x v
   unfolding denialOf stepJ
   denied-decides t f g h = rw (sym e ∙ not-false b t, ← f, ← g) h

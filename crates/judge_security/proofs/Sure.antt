@@ -30,9 +30,9 @@ pub record Sure (g : Sets → Decision) : Type 0 where
   pub closed : (x : Sets) → g x ≡ Closed → (y : Sets) → isGranted (g y) ≡ false
 
 -- a rule
-rule-sure : (img : List ℕ) (s : ℕ) (right : Right) → Sure (decisionAt img s right)
+rule-sure : (img pool : List ℕ) (s : ℕ) (right : Right) → Sure (decisionAt img pool s right)
 unfolding decisionAt
-rule-sure img s right = record {
+rule-sure img pool s right = record {
   lacking = λ x e. let p = decision-says _ _ right x .lacking .0 e .1 in (p .0, (p .1 .0, granted-stays _ _ right (p .0) ∙ p .1 .1));
   closed = λ x e y. granted-stays _ _ right y ∙ decision-says _ _ right x .closed .0 e y;
 }
@@ -62,28 +62,28 @@ either-sure g h k l = record {
     one-grants : (y : Sets) → (isGranted (g y) ≡ true) ⊎ (isGranted (h y) ≡ true) → isGranted (either (g y) (h y)) ≡ true
     one-grants y e = either-says (g y) (h y) .0 ∙ or-says (isGranted (g y)) (isGranted (h y)) .1 e
 
-module _ (img : List ℕ) where
-  ef-sure : (right : Right) → Sure (efDecision img right)
+module _ (img pool : List ℕ) where
+  ef-sure : (right : Right) → Sure (efDecision img pool right)
   unfolding efDecision
-  ef-sure right = choice-sure (eqb (currentEfOf img) none) _ _ nothing-sure (rule-sure img (currentEfOf img) right)
+  ef-sure right = choice-sure (eqb (currentEfOf img) none) _ _ nothing-sure (rule-sure img pool (currentEfOf img) right)
 
-  life-sure : (d i : ℕ) → Sure (lifeDecision img d i)
+  life-sure : (d i : ℕ) → Sure (lifeDecision img pool d i)
   unfolding lifeDecision
   life-sure d i =
-      choice-sure (eqb i activateFile) _ _ (rule-sure img (currentFile img) Activate)
-      (choice-sure (eqb i deactivateFile) _ _ (rule-sure img (currentFile img) Deactivate)
+      choice-sure (eqb i activateFile) _ _ (rule-sure img pool (currentFile img) Activate)
+      (choice-sure (eqb i deactivateFile) _ _ (rule-sure img pool (currentFile img) Deactivate)
       (choice-sure (eqb i terminateEf) _ _ (ef-sure Terminate)
-      (choice-sure (eqb i terminateDf) _ _ (rule-sure img d Terminate) (rule-sure img 0 Terminate))))
+      (choice-sure (eqb i terminateDf) _ _ (rule-sure img pool d Terminate) (rule-sure img pool 0 Terminate))))
 
-  delete-sure : (n d i : ℕ) → Sure (deletion img n d i)
+  delete-sure : (n d i : ℕ) → Sure (deletion img pool n d i)
   unfolding deletion
   delete-sure n d i =
-      either-sure _ _ (rule-sure img (slotIn (childNamed n (viewAt img) d i)) DeleteSelf) (rule-sure img d DeleteChild)
+      either-sure _ _ (rule-sure img pool (slotIn (childNamed n (viewAt img) d i)) DeleteSelf) (rule-sure img pool d DeleteChild)
 
-  pub step-sure : (c : List ℕ) → Sure (stepJ img c)
+  pub step-sure : (c : List ℕ) → Sure (stepJ img pool c)
   unfolding stepJ decisionFor
   step-sure c =
       choice-sure (eqb (instruction c) selectFile) _ _ nothing-sure
-      (choice-sure (eqb (instruction c) createFile) _ _ (rule-sure img (currentDfOf img) (rightFor (dataOf (versionOf img) (sentData c))))
+      (choice-sure (eqb (instruction c) createFile) _ _ (rule-sure img pool (currentDfOf img) (rightFor (dataOf (versionOf img) (sentData c))))
       (choice-sure (eqb (instruction c) deleteFile) _ _ (delete-sure (countOf img) (currentDfOf img) (sentIdentifier c))
       (choice-sure (isBody (instruction c)) _ _ (ef-sure (rightTo (isRead (instruction c)))) (life-sure (currentDfOf img) (instruction c)))))

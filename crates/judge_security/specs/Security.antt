@@ -25,33 +25,34 @@ use Rattle.judge_target.specs.Target.{currentFile, decisionAt, slotIn, rightFor
 use Rattle.judge_bodies.specs.Bodies.{rightTo}
 
 -- a command on the current EF; where there is none, step I refuses before
-unfoldable pub efDecision : List ℕ → Right → Sets → Decision
-efDecision img right x = cond (eqb (currentEfOf img) none) Granted (decisionAt img (currentEfOf img) right x)
+unfoldable pub efDecision : List ℕ → List ℕ → Right → Sets → Decision
+efDecision img pool right x = cond (eqb (currentEfOf img) none) Granted (decisionAt img pool (currentEfOf img) right x)
 
 -- DELETE: by the child's own b7 or directory d's b1
-unfoldable pub deletion : List ℕ → ℕ → ℕ → ℕ → Sets → Decision
-deletion img n d id x = either (decisionAt img (slotIn (childNamed n (viewAt img) d id)) DeleteSelf x) (decisionAt img d DeleteChild x)
+unfoldable pub deletion : List ℕ → List ℕ → ℕ → ℕ → ℕ → Sets → Decision
+deletion img pool n d id x =
+    either (decisionAt img pool (slotIn (childNamed n (viewAt img) d id)) DeleteSelf x) (decisionAt img pool d DeleteChild x)
 
 -- a life-cycle command i: the current EF, else the current DF; the current EF; the current DF d; the root
-unfoldable pub lifeDecision : List ℕ → ℕ → ℕ → Sets → Decision
-lifeDecision img d i x =
-    cond (eqb i activateFile) (decisionAt img (currentFile img) Activate x)
-    (cond (eqb i deactivateFile) (decisionAt img (currentFile img) Deactivate x)
-    (cond (eqb i terminateEf) (efDecision img Terminate x)
-    (cond (eqb i terminateDf) (decisionAt img d Terminate x)
-    (decisionAt img 0 Terminate x))))
+unfoldable pub lifeDecision : List ℕ → List ℕ → ℕ → ℕ → Sets → Decision
+lifeDecision img pool d i x =
+    cond (eqb i activateFile) (decisionAt img pool (currentFile img) Activate x)
+    (cond (eqb i deactivateFile) (decisionAt img pool (currentFile img) Deactivate x)
+    (cond (eqb i terminateEf) (efDecision img pool Terminate x)
+    (cond (eqb i terminateDf) (decisionAt img pool d Terminate x)
+    (decisionAt img pool 0 Terminate x))))
 
 -- what step J decides, by the instruction; SELECT has no step J
-unfoldable pub decisionFor : List ℕ → ℕ → ℕ → List ℕ → Sets → Decision
-decisionFor img n d c x =
+unfoldable pub decisionFor : List ℕ → List ℕ → ℕ → ℕ → List ℕ → Sets → Decision
+decisionFor img pool n d c x =
     cond (eqb (instruction c) selectFile) Granted
-    (cond (eqb (instruction c) createFile) (decisionAt img d (rightFor (dataOf (versionOf img) (sentData c))) x)
-    (cond (eqb (instruction c) deleteFile) (deletion img n d (sentIdentifier c) x)
-    (cond (isBody (instruction c)) (efDecision img (rightTo (isRead (instruction c))) x)
-    (lifeDecision img d (instruction c) x))))
+    (cond (eqb (instruction c) createFile) (decisionAt img pool d (rightFor (dataOf (versionOf img) (sentData c))) x)
+    (cond (eqb (instruction c) deleteFile) (deletion img pool n d (sentIdentifier c) x)
+    (cond (isBody (instruction c)) (efDecision img pool (rightTo (isRead (instruction c))) x)
+    (lifeDecision img pool d (instruction c) x))))
 
-unfoldable pub stepJ : List ℕ → List ℕ → Sets → Decision
-stepJ img c x = decisionFor img (countOf img) (currentDfOf img) c x
+unfoldable pub stepJ : List ℕ → List ℕ → List ℕ → Sets → Decision
+stepJ img pool c x = decisionFor img pool (countOf img) (currentDfOf img) c x
 
 -- a verdict is the refusal of step J
 abbrev pub isDenied : Verdict → Bool
@@ -64,8 +65,8 @@ isDenied (Read at n) = false
 isDenied (Update at) = false
 
 -- what a verdict says of security: granted, unless it is that refusal
-unfoldable pub denialOf : List ℕ → List ℕ → Sets → Verdict → Decision
-denialOf img c x v = cond (isDenied v) (stepJ img c x) Granted
+unfoldable pub denialOf : List ℕ → List ℕ → List ℕ → Sets → Verdict → Decision
+denialOf img pool c x v = cond (isDenied v) (stepJ img pool c x) Granted
 
 -- step J of a list of steps holds: the one whose word is 6982
 abbrev pub holdsJ : List Step → Bool

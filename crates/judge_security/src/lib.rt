@@ -8,6 +8,7 @@ ghost use Rattle.image.specs.Layout.{currentDfOf};
 ghost use Rattle.sound.specs.Sound.{Sound};
 ghost use Rattle.sound.specs.Table.{viewAt};
 ghost use Rattle.sound.specs.Kinship.{childNamed};
+ghost use Rattle.kinship.specs.Climb.{Stands};
 ghost use Rattle.create_data.specs.Data.{dataOf};
 ghost use Rattle.judge_target.specs.Judgeable.{Judgeable};
 ghost use Rattle.judge_target.specs.Target.{slotIn, rightFor};
@@ -56,7 +57,7 @@ fn new_right(sent: &[u8], v: u32) -> Right
 // The slot of the child of d with identifier x, 0 where there is none.
 fn child(image: &[u8], n: usize, d: usize, x: u16) -> usize
     requires { ⌜ Judgeable (now image) n d ⌝ }
-    ensures { λ r. ⌜ (r ≡ slotIn (childNamed n (viewAt (now (image .entry))) d x)) × (r < n) ⌝ }
+    ensures { λ r. ⌜ (r ≡ slotIn (childNamed n (viewAt (now (image .entry))) d x)) × Stands (now (image .entry)) n r ⌝ }
 {
     match search::child_named(image, n, d, x) {
         Found::At(s) => s,
@@ -65,37 +66,59 @@ fn child(image: &[u8], n: usize, d: usize, x: u16) -> usize
 }
 
 // DELETE: the child's own rule or that of the directory d.
-fn on_deletion(image: &[u8], n: usize, d: usize, x: u16, sets: Sets) -> Decision
+fn on_deletion<'a>(
+    image: &'a [u8],
+    pool: &'a [u8],
+    n: usize,
+    d: usize,
+    x: u16,
+    sets: Sets,
+) -> Decision
     requires { ⌜ Judgeable (now image) n d ⌝ }
-    ensures { λ r. ⌜ r ≡ deletion (now (image .entry)) n d x sets ⌝ }
+    ensures { λ r. ⌜ r ≡ deletion (now (image .entry)) (now (pool .entry)) n d x sets ⌝ }
 {
     let s = child(image, n, d, x);
-    let own = target::decided(image, n, d, s, Right::DeleteSelf, sets);
-    let above = target::decided(image, n, d, d, Right::DeleteChild, sets);
+    let own = target::decided(image, pool, n, d, s, Right::DeleteSelf, sets);
+    let above = target::decided(image, pool, n, d, d, Right::DeleteChild, sets);
     access::either(own, above)
 }
 
 // A command on the current EF.
-fn on_ef(image: &[u8], n: usize, d: usize, right: Right, sets: Sets) -> Decision
+fn on_ef<'a>(
+    image: &'a [u8],
+    pool: &'a [u8],
+    n: usize,
+    d: usize,
+    right: Right,
+    sets: Sets,
+) -> Decision
     requires { ⌜ Judgeable (now image) n d ⌝ }
-    ensures { λ r. ⌜ r ≡ efDecision (now (image .entry)) right sets ⌝ }
+    ensures { λ r. ⌜ r ≡ efDecision (now (image .entry)) (now (pool .entry)) right sets ⌝ }
 {
     let t = fields::current_ef(image);
     if t == image::NO_SLOT {
         return Decision::Granted;
     }
-    target::decided(image, n, d, t, right, sets)
+    target::decided(image, pool, n, d, t, right, sets)
 }
 
 // The life-cycle commands, which are about what is current.
-fn on_current(image: &[u8], n: usize, d: usize, i: u8, sets: Sets) -> Decision
+fn on_current<'a>(
+    image: &'a [u8],
+    pool: &'a [u8],
+    n: usize,
+    d: usize,
+    i: u8,
+    sets: Sets,
+) -> Decision
     requires { ⌜ Judgeable (now image) n d ⌝ }
     requires { ⌜ d ≡ currentDfOf (now image) ⌝ }
-    ensures { λ r. ⌜ r ≡ lifeDecision (now (image .entry)) d i sets ⌝ }
+    ensures { λ r. ⌜ r ≡ lifeDecision (now (image .entry)) (now (pool .entry)) d i sets ⌝ }
 {
     if i == apdu::ACTIVATE_FILE {
         return target::decided(
             image,
+            pool,
             n,
             d,
             target::current_file(image),
@@ -106,6 +129,7 @@ fn on_current(image: &[u8], n: usize, d: usize, i: u8, sets: Sets) -> Decision
     if i == apdu::DEACTIVATE_FILE {
         return target::decided(
             image,
+            pool,
             n,
             d,
             target::current_file(image),
@@ -114,20 +138,27 @@ fn on_current(image: &[u8], n: usize, d: usize, i: u8, sets: Sets) -> Decision
         );
     }
     if i == apdu::TERMINATE_EF {
-        return on_ef(image, n, d, Right::Terminate, sets);
+        return on_ef(image, pool, n, d, Right::Terminate, sets);
     }
     if i == apdu::TERMINATE_DF {
-        return target::decided(image, n, d, d, Right::Terminate, sets);
+        return target::decided(image, pool, n, d, d, Right::Terminate, sets);
     }
-    target::decided(image, n, d, 0, Right::Terminate, sets)
+    target::decided(image, pool, n, d, 0, Right::Terminate, sets)
 }
 
 // What step J decides, by the instruction; the shared steps have passed.
-fn decided(image: &[u8], n: usize, d: usize, command: &[u8], sets: Sets) -> Decision
+fn decided<'a>(
+    image: &'a [u8],
+    pool: &'a [u8],
+    n: usize,
+    d: usize,
+    command: &[u8],
+    sets: Sets,
+) -> Decision
     requires { ⌜ Judgeable (now image) n d ⌝ }
     requires { ⌜ d ≡ currentDfOf (now image) ⌝ }
     requires { ⌜ (4 ≤ length (now command)) × (fitLength (now command) ≡ true) ⌝ }
-    ensures { λ r. ⌜ r ≡ decisionFor (now (image .entry)) n d (now (command .entry)) sets ⌝ }
+    ensures { λ r. ⌜ r ≡ decisionFor (now (image .entry)) (now (pool .entry)) n d (now (command .entry)) sets ⌝ }
 {
     let i = command[1];
     if i == apdu::SELECT_FILE {
@@ -135,28 +166,35 @@ fn decided(image: &[u8], n: usize, d: usize, command: &[u8], sets: Sets) -> Deci
     }
     if i == apdu::CREATE_FILE {
         let right = new_right(apdu::sent_data(command), fields::version(image));
-        return target::decided(image, n, d, d, right, sets);
+        return target::decided(image, pool, n, d, d, right, sets);
     }
     if i == apdu::DELETE_FILE {
-        return on_deletion(image, n, d, apdu::sent_identifier(command), sets);
+        return on_deletion(image, pool, n, d, apdu::sent_identifier(command), sets);
     }
     if bodies::is_body(i) {
         return on_ef(
             image,
+            pool,
             n,
             d,
             judge_bodies::right_to(bodies::is_read(i)),
             sets,
         );
     }
-    on_current(image, n, d, i, sets)
+    on_current(image, pool, n, d, i, sets)
 }
 
 // What a verdict that judging gave says of security: granted, unless it is the refusal of step J.
-pub fn denial(image: &[u8], command: &[u8], state: State, due: Verdict) -> Decision
+pub fn denial<'a>(
+    image: &'a [u8],
+    pool: &'a [u8],
+    command: &[u8],
+    state: State,
+    due: Verdict,
+) -> Decision
     requires { ⌜ Sound (now image) ⌝ }
-    requires { ⌜ due ≡ judgeOf (now image) (now command) state ⌝ }
-    ensures { λ r. ⌜ r ≡ denialOf (now (image .entry)) (now (command .entry)) (state .sets) due ⌝ }
+    requires { ⌜ due ≡ judgeOf (now image) (now pool) (now command) state ⌝ }
+    ensures { λ r. ⌜ r ≡ denialOf (now (image .entry)) (now (pool .entry)) (now (command .entry)) (state .sets) due ⌝ }
 {
     if !is_denied(due) {
         return Decision::Granted;
@@ -164,5 +202,5 @@ pub fn denial(image: &[u8], command: &[u8], state: State, due: Verdict) -> Decis
     let n = fields::count(image);
     let d = fields::current_df(image);
     let sets = state.sets;
-    decided(image, n, d, command, sets)
+    decided(image, pool, n, d, command, sets)
 }

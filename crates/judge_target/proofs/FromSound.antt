@@ -38,6 +38,7 @@ module _ (img : List ℕ) (sound : Sound img) where
       let d = sound .current in
       let root = rooted img sound in
       record {
+        count = refl;
         rooted = root;
         names = record { sized = sized img sound; short = λ s l. name-short (versionOf img) (recAt img s) (sound .records s l) };
         ruled = λ s l. rule-short (versionOf img) (recAt img s) (sound .records s l);

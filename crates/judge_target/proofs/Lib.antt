@@ -1,2 +1,4 @@
 pub mod Finding
 pub mod FromSound
+pub mod Own
+pub mod Ruling

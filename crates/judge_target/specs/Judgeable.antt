@@ -3,13 +3,14 @@ use mathlib.Core.Path.{_≡_}
 use mathlib.Core.List.{List}
 use Prim.Native.Nat.{ℕ, _<_, _≤_}
 use lib.ListN.{getD}
-use Rattle.image.specs.Layout.{recAt, currentEfOf, none}
+use Rattle.image.specs.Layout.{recAt, countOf, currentEfOf, none}
 use Rattle.sound.specs.Table.{viewAt}
 use Rattle.kinship.specs.Climb.{Rooted, Stands, Paid}
 use Rattle.kinship.specs.Search.{NamesFit}
 
 -- n is the slot count, d the current DF
 pub record Judgeable (img : List ℕ) (n d : ℕ) : Type 0 where
+  pub count : n ≡ countOf img
   pub rooted : Rooted img n
   pub names : NamesFit img n
   -- every record's rule stands within it

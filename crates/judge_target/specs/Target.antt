@@ -1,5 +1,7 @@
 -- What a command is about: the current files, the file that SELECT finds, the new file of CREATE's data.
-use Prim.Native.Nat.{ℕ, _+_}
+use Prim.Native.Nat.{ℕ, _+_, _≤_}
+use mathlib.Core.Path.{_≡_}
+use lib.ListN.{getD}
 use mathlib.Core.Bool.{Bool, true, false, cond}
 use mathlib.Core.List.{List, []}
 use lib.Dec.{eqb}
@@ -11,13 +13,14 @@ use Rattle.rules.specs.declared.Right.the-variants.{CreateDf, CreateEf}
 use Rattle.rules.specs.declared.Sets.{Sets}
 use Rattle.rules.specs.Descriptor.{df, ef}
 use Rattle.image.specs.declared.Head.{Head}
-use Rattle.image.specs.Layout.{recAt, currentDfOf, currentEfOf, none, lifeCycleOf, formOf, ruleOf}
+use Rattle.image.specs.Layout.{Within, recAt, countOf, currentDfOf, currentEfOf, none, lifeCycleOf, formOf, ruleOf}
 use Rattle.access.specs.declared.Decision.{Decision}
-use Rattle.access.specs.Access.{grantedOf}
+use Rattle.access.specs.Access.{referred, askedAs, grantedOf}
 use Rattle.access.specs.Decision.{decisionOf}
 use Rattle.sound.specs.Table.{View, viewAt}
 use Rattle.sound.specs.Kinship.{childNamed}
 use Rattle.kinship.specs.Search.{dfNamed}
+use Rattle.referred.specs.Deciding.{decidingRule}
 use Rattle.template.specs.Objects.{bytesAt}
 use Rattle.create_data.specs.declared.NewFile.{NewFile}
 use Rattle.create_data.specs.declared.Data.{Data}
@@ -34,13 +37,28 @@ currentFile img = cond (eqb (currentEfOf img) none) (currentDfOf img) (currentEf
 abbrev pub lifeAt : List ℕ → ℕ → ℕ
 lifeAt img s = lifeCycleOf (recAt img s)
 
--- the rule of the file in slot s, whatever its form, grants a right
-unfoldable pub allowedAt : List ℕ → ℕ → Right → Sets → Bool
-allowedAt img s right x = grantedOf (formOf (recAt img s)) (ruleOf (recAt img s)) right x
+-- the form in which the rule of the file in slot s is asked, and the rule that decides on it: its own, or the one that it names, as the
+-- pool has it at this moment (02 Ticket 7)
+abbrev pub formAt : List ℕ → ℕ → ℕ
+formAt img s = askedAs (formOf (recAt img s))
+
+abbrev pub ruleAt : List ℕ → List ℕ → ℕ → List ℕ
+ruleAt img pool s = decidingRule (countOf img) img pool s
+
+-- that rule grants a right
+unfoldable pub allowedAt : List ℕ → List ℕ → ℕ → Right → Sets → Bool
+allowedAt img pool s right x = grantedOf (formAt img s) (ruleAt img pool s) right x
 
 -- .. and what it decides, of three (02 Ticket 6)
-unfoldable pub decisionAt : List ℕ → ℕ → Right → Sets → Decision
-decisionAt img s right x = decisionOf (formOf (recAt img s)) (ruleOf (recAt img s)) right x
+unfoldable pub decisionAt : List ℕ → List ℕ → ℕ → Right → Sets → Decision
+decisionAt img pool s right x = decisionOf (formAt img s) (ruleAt img pool s) right x
+
+-- a rule in the file's own record is asked as it stands there, in the form that the record tells
+abbrev pub OwnRuleAsked : Type 0
+OwnRuleAsked = (img pool : List ℕ) (s : ℕ) → Within img s → getD (recAt img s) 33 0 ≤ 30 → (formOf (recAt img s) ≡ referred → ⊥)
+    → (right : Right) (x : Sets)
+    → (allowedAt img pool s right x ≡ grantedOf (formOf (recAt img s)) (ruleOf (recAt img s)) right x)
+    × (decisionAt img pool s right x ≡ decisionOf (formOf (recAt img s)) (ruleOf (recAt img s)) right x)
 
 -- what a search found
 abbrev pub isFound : Found → Bool

@@ -7,6 +7,7 @@ ghost use Rattle.sound.specs.Table.{viewAt};
 ghost use Rattle.rules.specs.Life.{canActivate, isActivated, isDeactivated};
 ghost use Rattle.image.specs.Layout.{Sized, Within};
 ghost use Rattle.sound.specs.Kinship.{childNamed, terminatedAt};
+ghost use Rattle.kinship.specs.Climb.{Stands};
 ghost use Rattle.kinship.specs.Search.{dfNamed};
 ghost use Rattle.judge_target.specs.Judgeable.{Judgeable};
 ghost use Rattle.judge_target.specs.Target.{currentFile, lifeAt, allowedAt, decisionAt, itself, selected};
@@ -14,26 +15,45 @@ use access::Decision;
 use image::fields;
 use kinship::search;
 use laws::Found;
+use referred::deciding;
 use rules::Right;
 use rules::Sets;
 use rules::life_cycle;
 
-// Whether the rule of the file in slot s grants a right.
-pub fn allowed(image: &[u8], n: usize, d: usize, s: usize, right: Right, sets: Sets) -> bool
+// Whether the rule that decides on the file in slot s grants a right.
+pub fn allowed<'a>(
+    image: &'a [u8],
+    pool: &'a [u8],
+    n: usize,
+    d: usize,
+    s: usize,
+    right: Right,
+    sets: Sets,
+) -> bool
     requires { ⌜ Judgeable (now image) n d ⌝ }
-    requires { ⌜ s < n ⌝ }
-    ensures { λ r. ⌜ r ≡ allowedAt (now (image .entry)) s right sets ⌝ }
+    requires { ⌜ Stands (now image) n s ⌝ }
+    ensures { λ r. ⌜ r ≡ allowedAt (now (image .entry)) (now (pool .entry)) s right sets ⌝ }
 {
-    access::granted(fields::form(image, s), fields::rule(image, s), right, sets)
+    let form = access::asked_as(fields::form(image, s));
+    access::granted(form, deciding::deciding(image, pool, n, s), right, sets)
 }
 
-// What the rule of the file in slot s decides on a right.
-pub fn decided(image: &[u8], n: usize, d: usize, s: usize, right: Right, sets: Sets) -> Decision
+// What the rule that decides on the file in slot s says of a right.
+pub fn decided<'a>(
+    image: &'a [u8],
+    pool: &'a [u8],
+    n: usize,
+    d: usize,
+    s: usize,
+    right: Right,
+    sets: Sets,
+) -> Decision
     requires { ⌜ Judgeable (now image) n d ⌝ }
-    requires { ⌜ s < n ⌝ }
-    ensures { λ r. ⌜ r ≡ decisionAt (now (image .entry)) s right sets ⌝ }
+    requires { ⌜ Stands (now image) n s ⌝ }
+    ensures { λ r. ⌜ r ≡ decisionAt (now (image .entry)) (now (pool .entry)) s right sets ⌝ }
 {
-    access::decide(fields::form(image, s), fields::rule(image, s), right, sets)
+    let form = access::asked_as(fields::form(image, s));
+    access::decide(form, deciding::deciding(image, pool, n, s), right, sets)
 }
 
 // The current EF, else the current DF.

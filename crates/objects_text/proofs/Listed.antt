@@ -17,7 +17,7 @@ use Rattle.template.proofs.Holding.{Inside, inside}
 use Rattle.text.specs.Written.{WroteAt, Wrote, big}
 use Rattle.text.proofs.Written.{same-text, written-on}
 use Rattle.objects_text.specs.Lines.{markLine}
-use Rattle.objects_text.specs.Listing.{linesFrom, headOf, laterWordOf, wordOf, readingOf, listOf}
+use Rattle.objects_text.specs.Listing.{linesFrom, headOf, thirdWordOf, laterWordOf, wordOf, readingOf, listOf}
 
 -- the place up to which CREATE takes the objects fits two digits
 module _ (s : List ℕ) (h : length s < 256) where
@@ -38,23 +38,34 @@ module _ (s : List ℕ) (h : length s < 256) where
 
   pub next-small : (o : Objects) → o ≡ objectsOf s → o .next < 256
   unfolding objectsOf
-  next-small o e = subst (λ (x : Objects). x .next < 256) (sym e) (next-below 11)
+  next-small o e = subst (λ (x : Objects). x .next < 256) (sym e) (next-below 12)
+
+-- the word of what CREATE reads, e, where r was read and is d
+said : {put m : ℕ} {x y : List ℕ} (word : Data → List ℕ) (at : ℕ) (r d e : Data) → r ≡ e → r ≡ d
+    → WroteAt put m x y (markLine at (word d)) → WroteAt put m x y (markLine at (word e))
+said word at r d e er ed w =
+    same-text (markLine at (word d)) (markLine at (word e)) w (ap (λ (z : Data). markLine at (word z)) (sym ed ∙ er))
+
+-- r is what CREATE reads on a card of version 3
+pub third-put : {put m : ℕ} {x y : List ℕ} (s : List ℕ) (at : ℕ) (r d : Data) → r ≡ dataOf 3 s → r ≡ d
+    → WroteAt put m x y (markLine at (thirdWordOf d)) → WroteAt put m x y (markLine at (thirdWordOf (dataOf 3 s)))
+third-put s at r d = said thirdWordOf at r d (dataOf 3 s)
 
 -- r is what CREATE reads on a card of version 2
 pub later-put : {put m : ℕ} {x y : List ℕ} (s : List ℕ) (at : ℕ) (r d : Data) → r ≡ dataOf 2 s → r ≡ d
-    → WroteAt put m x y (markLine at (laterWordOf d)) → WroteAt put m x y (markLine at (laterWordOf (dataOf 2 s)))
-later-put s at r d er ed w =
-    same-text (markLine at (laterWordOf d)) (markLine at (laterWordOf (dataOf 2 s))) w
-    (ap (λ (z : Data). markLine at (laterWordOf z)) (sym ed ∙ er))
+    → WroteAt put m x y (markLine at (laterWordOf d (dataOf 3 s)))
+    → WroteAt put m x y (markLine at (laterWordOf (dataOf 2 s) (dataOf 3 s)))
+later-put s at r d = said (λ (z : Data). laterWordOf z (dataOf 3 s)) at r d (dataOf 2 s)
 
 -- r is what CREATE reads on a card of version 1
 pub reading-put : {put m : ℕ} {x y : List ℕ} (s : List ℕ) (o : Objects) (r d : Data) → o ≡ objectsOf s → r ≡ dataOf 1 s → r ≡ d
-    → WroteAt put m x y (markLine (o .next) (wordOf d (dataOf 2 s))) → WroteAt put m x y (readingOf s)
+    → WroteAt put m x y (markLine (o .next) (wordOf d (dataOf 2 s) (dataOf 3 s))) → WroteAt put m x y (readingOf s)
 unfolding readingOf
 reading-put s o r d eo er ed w =
-    same-text (markLine (o .next) (wordOf d (dataOf 2 s))) (markLine (objectsOf s .next) (wordOf (dataOf 1 s) (dataOf 2 s))) w
-    (ap (λ (z : Objects). markLine (z .next) (wordOf d (dataOf 2 s))) eo
-    ∙ ap (λ (z : Data). markLine (objectsOf s .next) (wordOf z (dataOf 2 s))) (sym ed ∙ er))
+    let word : Data → List ℕ = λ (z : Data). wordOf z (dataOf 2 s) (dataOf 3 s) in
+    said word (objectsOf s .next) r d (dataOf 1 s) er ed
+    (same-text (markLine (o .next) (word d)) (markLine (objectsOf s .next) (word d)) w
+    (ap (λ (z : Objects). markLine (z .next) (word d)) eo))
 
 -- the two ways of `write`
 pub too-big : {m : ℕ} {x y : List ℕ} (s : List ℕ) → 255 < length s → Wrote m x y big → Wrote m x y (listOf s)

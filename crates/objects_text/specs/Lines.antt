@@ -18,7 +18,7 @@ markLine at word = hex at ++ (32 ∷ []) ++ word
 abbrev pub tagAndLength : ℕ → ℕ → List ℕ
 tagAndLength tag long = hex tag ++ (32 ∷ []) ++ hex long
 
--- the words `END`, `BREAK`, `HEAD`, `DF`, `EF`, `DF 2`, `EF 2` and `6A80`, each to the end of its line
+-- the words `END`, `BREAK`, `HEAD`, `DF`, `EF`, `DF 2`, `EF 2`, `DF 3`, `EF 3` and `6A80`, each to the end of its line
 abbrev pub end : List ℕ
 end = 69 ∷ 78 ∷ 68 ∷ 10 ∷ []
 
@@ -39,6 +39,12 @@ laterDf = 68 ∷ 70 ∷ 32 ∷ 50 ∷ 10 ∷ []
 
 abbrev pub laterEf : List ℕ
 laterEf = 69 ∷ 70 ∷ 32 ∷ 50 ∷ 10 ∷ []
+
+abbrev pub thirdDf : List ℕ
+thirdDf = 68 ∷ 70 ∷ 32 ∷ 51 ∷ 10 ∷ []
+
+abbrev pub thirdEf : List ℕ
+thirdEf = 69 ∷ 70 ∷ 32 ∷ 51 ∷ 10 ∷ []
 
 abbrev pub bad : List ℕ
 bad = 54 ∷ 65 ∷ 56 ∷ 48 ∷ 10 ∷ []

@@ -12,7 +12,8 @@ use Rattle.template.specs.Objects.{objectAt, objectsOf}
 use Rattle.create_data.specs.Data.{isTemplate, dataOf}
 use Rattle.reader.specs.Places.{placeAfter}
 use Rattle.text.specs.Written.{big}
-use Rattle.objects_text.specs.Lines.{markLine, tagAndLength, lifeLine, end, break, head, df, ef, laterDf, laterEf, bad}
+use Rattle.objects_text.specs.Lines.{markLine, tagAndLength, lifeLine, end, break, head, df, ef}
+use Rattle.objects_text.specs.Lines.{laterDf, laterEf, thirdDf, thirdEf, bad}
 
 -- whether an object is whole, and its line
 abbrev pub isWhole : Object → Bool
@@ -47,20 +48,26 @@ unfoldable pub headOf : List ℕ → List ℕ
 headOf s = cond (isTemplate s) [] (markLine 0 head)
 
 -- what CREATE makes of data on a card of version 1, and so of any (`DataAlike` in create_data/specs/Grammar), as a word; of data that it
--- refuses there, what on a card of version 2, which takes all that version 3 takes, and longer rules
-abbrev pub laterWordOf : Data → List ℕ
-laterWordOf (Df x) = laterDf
-laterWordOf (Ef x) = laterEf
-laterWordOf Bad = bad
+-- refuses there, what on a card of version 2, which takes longer rules than version 3; of data that it refuses there too, what on a card
+-- of version 3, which has one more form
+abbrev pub thirdWordOf : Data → List ℕ
+thirdWordOf (Df x) = thirdDf
+thirdWordOf (Ef x) = thirdEf
+thirdWordOf Bad = bad
 
-abbrev pub wordOf : Data → Data → List ℕ
-wordOf (Df x) later = df
-wordOf (Ef x) later = ef
-wordOf Bad later = laterWordOf later
+abbrev pub laterWordOf : Data → Data → List ℕ
+laterWordOf (Df x) third = laterDf
+laterWordOf (Ef x) third = laterEf
+laterWordOf Bad third = thirdWordOf third
+
+abbrev pub wordOf : Data → Data → Data → List ℕ
+wordOf (Df x) later third = df
+wordOf (Ef x) later third = ef
+wordOf Bad later third = laterWordOf later third
 
 -- .. behind the place up to which it takes the objects in 01's order
 unfoldable pub readingOf : List ℕ → List ℕ
-readingOf s = markLine (objectsOf s .next) (wordOf (dataOf 1 s) (dataOf 2 s))
+readingOf s = markLine (objectsOf s .next) (wordOf (dataOf 1 s) (dataOf 2 s) (dataOf 3 s))
 
 -- CREATE's data has at most 255 bytes, since Lc is one byte
 unfoldable pub listOf : List ℕ → List ℕ

@@ -6,14 +6,16 @@
 // BREAK`: no whole object stands at 0A. `00 HEAD`, in front: the data is not 62, LL and LL bytes. The last line is CREATE's
 // own reading: `DF`, `EF` or `6A80`, behind the place up to which it took the objects in 01's order. `DF 2` and `EF 2` are what
 // a card of version 2 takes and one of version 1 does not, for its rule (02 Ticket 3; up to 28 bytes of rule, one of version 3 takes it
-// too): the data do not say which card they are for.
+// too), `DF 3` and `EF 3` what only one of version 3 takes, for its rule stands in 8B (02 Ticket 7): the data do not say which card they
+// are for.
 ghost use mathlib.Core.Path.{_≡_};
 ghost use Prim.Native.Nat.{_+_, _<_, _≤_};
 ghost use lib.ListN.{length};
 ghost use Rattle.create_data.specs.Data.{dataOf};
 ghost use Rattle.text.specs.Written.{WroteAt, Wrote, Counted};
 ghost use Rattle.objects_text.specs.Lines.{markLine, lifeLine};
-ghost use Rattle.objects_text.specs.Listing.{wholeAt, restOf, lineAt, stopAt, linesFrom, headOf, laterWordOf, readingOf, listOf};
+ghost use Rattle.objects_text.specs.Listing.{wholeAt, restOf, lineAt, stopAt, linesFrom, headOf};
+ghost use Rattle.objects_text.specs.Listing.{thirdWordOf, laterWordOf, readingOf, listOf};
 use create_data::Data;
 use create_data::judge;
 use rules::life_cycle;
@@ -136,15 +138,28 @@ fn put_head(s: &[u8], out: &mut [u8]) -> usize
     put_mark(out, 0, 0, b"HEAD\n")
 }
 
-// Writes how a card of version 2 reads data that one of version 1 refuses.
+// Writes how a card of version 3 reads data that one of version 1 or 2 refuses.
+fn put_third(s: &[u8], at: u16, out: &mut [u8], put: usize) -> usize
+    requires { ⌜ (at < 256) × (put + 8 ≤ length (now out)) ⌝ }
+    ensures { λ r. ⌜ WroteAt put r (now (out .entry)) (now (out .exit)) (markLine at (thirdWordOf (dataOf 3 (now (s .entry))))) ⌝ }
+{
+    match create_data::read(s, 3) {
+        Data::Df(_) => put_mark(out, put, at, b"DF 3\n"),
+        Data::Ef(_) => put_mark(out, put, at, b"EF 3\n"),
+        Data::Bad => put_mark(out, put, at, b"6A80\n"),
+    }
+}
+
+// Writes how a card of version 2 reads data that one of version 1 refuses, and where it refuses them too, how one of version 3.
 fn put_later(s: &[u8], at: u16, out: &mut [u8], put: usize) -> usize
     requires { ⌜ (at < 256) × (put + 8 ≤ length (now out)) ⌝ }
-    ensures { λ r. ⌜ WroteAt put r (now (out .entry)) (now (out .exit)) (markLine at (laterWordOf (dataOf 2 (now (s .entry))))) ⌝ }
+    ensures { λ r. ⌜ WroteAt put r (now (out .entry)) (now (out .exit))
+        (markLine at (laterWordOf (dataOf 2 (now (s .entry))) (dataOf 3 (now (s .entry))))) ⌝ }
 {
     match create_data::read(s, 2) {
         Data::Df(_) => put_mark(out, put, at, b"DF 2\n"),
         Data::Ef(_) => put_mark(out, put, at, b"EF 2\n"),
-        Data::Bad => put_mark(out, put, at, b"6A80\n"),
+        Data::Bad => put_third(s, at, out, put),
     }
 }
 

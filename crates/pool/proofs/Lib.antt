@@ -18,3 +18,4 @@ pub mod Making
 pub mod Totals
 pub mod Wiping
 pub mod Updates
+pub mod Numbered

@@ -6,3 +6,4 @@ pub mod Index
 pub mod Entered
 pub mod Places
 pub mod Wiped
+pub mod Records

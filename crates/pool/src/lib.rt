@@ -9,6 +9,7 @@ pub mod index;
 pub mod laid;
 pub mod moving;
 pub mod placing;
+pub mod records;
 pub mod stretch;
 pub mod wipe;
 

@@ -109,7 +109,7 @@ module _ (img : List ℕ) (s : ℕ) (sent other bodies : List ℕ) (st : State) 
       (root-above (countOf other) (viewAt other) (whole .kin) (omega (arith, whole .header .least)) (currentDfOf other)
       (whole .current .df-low) (λ z. omega (arith, z, whole .current .df-dir))) ∙ e)
 
-  met : Met (createAsks other (createOf sent) st)
+  met : Met (createAsks other bodies (createOf sent) st)
   met = (
     omega arith,
     (

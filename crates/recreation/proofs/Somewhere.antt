@@ -23,7 +23,7 @@ use Rattle.image.specs.Layout.{knownVersion, versionOf, formOf}
 use Rattle.image.specs.Layout.{countOf, currentDfOf, recAt, kindOf, lifeCycleOf, identifierOf, sizeOf, ruleOf, recordBytes}
 use Rattle.image.proofs.Made.{life-made, form-made, rule-made}
 use Rattle.image.proofs.Versions.{known-form, longest-least}
-use Rattle.access.specs.Access.{compact, wellFormed, fitsRecord, grantedOf}
+use Rattle.access.specs.Access.{compact, askedAs, wellFormed, fitsRecord, grantedOf}
 use Rattle.access.proofs.Fits.{fits-says}
 use Rattle.sound.specs.Table.{View, File, viewAt, up, charged, chargeOf}
 use Rattle.sound.specs.Kin.{Placed}
@@ -36,7 +36,9 @@ use Rattle.sound.proofs.Kept.{gone}
 use Rattle.sound.proofs.NewRecords.{viewMade}
 use Rattle.sound.proofs.Fresh.{fresh-version, count, root, root-current, view-root, view-rest, sound-fresh}
 use Rattle.fcp.proofs.Sizes.{file-fits}
-use Rattle.judge_target.specs.Target.{allowedAt}
+use Rattle.referred.proofs.Ticket.{own-rule}
+use Rattle.judge_target.specs.Target.{formAt, ruleAt, allowedAt}
+use Rattle.judge_target.proofs.FromSound.{judgeable}
 use Rattle.card.proofs.Steps.{cond-by}
 use Rattle.sound.proofs.FullTable.{root-above}
 use Rattle.recreation.specs.Recreation.{rightOf, Welcomes, allowing, WelcomeSomewhere}
@@ -112,6 +114,21 @@ module _ (v n total : ℕ) (known : knownVersion v ≡ true) (least : 2 ≤ n) (
   total-is : poolLength card ≡ total
   total-is = ap (λ (x : View). x .size) at-root
 
+  -- its rule stands in the root's own record
+  compact-root : formOf (recAt card 0) ≡ compact
+  compact-root = ap formOf its-root ∙ form-made v (rootHead total compact) [] allowing
+
+  root-form : formAt card 0 ≡ compact
+  unfolding askedAs
+  root-form = ap askedAs compact-root
+
+  root-rule : (bodies : List ℕ) → ruleAt card bodies 0 ≡ allowing
+  root-rule bodies =
+      own-rule (countOf card) card bodies 0 (λ e. omega (arith, e, compact-root)) .1
+      (omega (arith, whole .header .long, whole .header .least), omega arith)
+      (judgeable card whole .ruled 0 (omega (arith, whole .header .least)))
+      ∙ ap ruleOf its-root ∙ rule-made v (rootHead total compact) [] allowing (omega arith)
+
   welcomes : (img bodies r : List ℕ) (x : Sets) → versionOf img ≡ v → (identifierOf r ≡ 0x3F00 → ⊥) → sizeOf r + 64 ≤ total
       → length bodies ≡ total → Welcomes img card bodies r (record { sets = x; channels = 0 })
   unfolding card allowedAt up
@@ -122,12 +139,7 @@ module _ (v n total : ℕ) (known : knownVersion v ≡ true) (least : 2 ≤ n) (
     empty = λ t l f p. nobody t (rw slots at l) f;
     active = rw here (ap lifeOf (ap lifeCycleOf its-root ∙ life-made v (rootHead total compact) [] allowing) ∙ activated-is);
     above = λ k a b. absurd (omega (arith, a, b, level));
-    right = rw (
-      here,
-      ap formOf its-root ∙ form-made v (rootHead total compact) [] allowing,
-      ap ruleOf its-root ∙ rule-made v (rootHead total compact) [] allowing (omega arith),
-    )
-        (all-grants x r);
+    right = rw (here, root-form, root-rule bodies) (all-grants x r);
     room = rw (here, slots) (omega (arith, all-room, fits));
     identifier = λ k l e. other
         (sym e ∙ ap (λ (j : ℕ). viewAt card (up (viewAt card) j (currentDfOf card)) .identifier) (none-above k l)

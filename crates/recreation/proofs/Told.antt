@@ -34,8 +34,8 @@ use Rattle.card.proofs.Answered.{wrong-pool-refused, response-stays}
 use Rattle.recreation.specs.Recreation.{Told, toldBy, SelectTold}
 
 -- a refusal tells nothing
-refusal-silent : (img c : List ℕ) (x : Sets) (w : ℕ) → answerTold (refusal img c x w) ≡ 0
-refusal-silent img c x w = go (eqb w 0x0000) (cond (eqb w 0x6982) (stepJ img c x) Granted)
+refusal-silent : (img pool c : List ℕ) (x : Sets) (w : ℕ) → answerTold (refusal img pool c x w) ≡ 0
+refusal-silent img pool c x w = go (eqb w 0x0000) (cond (eqb w 0x6982) (stepJ img pool c x) Granted)
   where
     go : (b : Bool) (d : Decision) → answerTold (cond b Short (Word w 0 d)) ≡ 0
     go true d = refl
@@ -71,7 +71,7 @@ module _ (img pool c : List ℕ) (st : State) (response : List ℕ) (n : ℕ) (s
   -- bytes were told, so all asks are met
   asks-met : Met (selectAsks img c (length response))
   asks-met = ⊎-elim (λ m. m)
-      (λ f. absurd (omega (arith, t .some, ap answerTold (sym (t .reply) ∙ obeyed .refused (f .0) (f .1) .0), refusal-silent img c (st .sets) (f .0))))
+      (λ f. absurd (omega (arith, t .some, ap answerTold (sym (t .reply) ∙ obeyed .refused (f .0) (f .1) .0), refusal-silent img pool c (st .sets) (f .0))))
       (obeyed .always)
 
   -- .. and the file was found

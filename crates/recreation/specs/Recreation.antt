@@ -68,7 +68,7 @@ pub record Welcomes (img other pool r : List ℕ) (st : State) : Type 0 where
   pub above : (k : ℕ) → 1 ≤ k → k ≤ viewAt other (currentDfOf other) .level
       → lifeOf (lifeAt other (up (viewAt other) k (currentDfOf other))) ≡ terminated → ⊥
   -- rights and room suffice
-  pub right : allowedAt other (currentDfOf other) (rightOf r) (st .sets) ≡ true
+  pub right : allowedAt other pool (currentDfOf other) (rightOf r) (st .sets) ≡ true
   pub room : sizeOf r + 64 ≤ roomFor (countOf other) (viewAt other) (currentDfOf other)
   -- neither it nor a directory above has that identifier
   pub identifier : (k : ℕ) → k ≤ viewAt other (currentDfOf other) .level

@@ -2,10 +2,13 @@
 use mathlib.Core.Path.{_≡_, refl}
 use mathlib.Core.Bool.{false≢true}
 use Prim.Native.Nat.{ℕ, zero, suc}
+use native.Mathlib.Nat.{not-suc-le-zero}
 use native.Mathlib.Omega.{arith}
+use mathlib.Core.List.{[], _∷_}
 use Rattle.rules.specs.declared.Sets.{Sets}
 use Rattle.image.specs.Layout.{longestRule, formsOf, knownVersion, headBytes, field, recordBytes}
 use Rattle.image.proofs.Versions.{known-low}
+use Rattle.pool.specs.Bodies.{bodyBytes}
 use Rattle.sound.specs.Effects.{freshHeader, fresh}
 use Rattle.rows.specs.Rows.{rows, allGive, allSay, BothSides}
 use Rattle.rows.specs.Tries.{SelectTries}
@@ -16,6 +19,7 @@ use Rattle.rows.specs.Bodies.{BinaryRead, LongRead, BinaryWritten, Recor
 use Rattle.rows.specs.Bodies.{BodiesPacked}
 use Rattle.rows.specs.Security.{DeletesTold, StepsTold, AnswersTold}
 use Rattle.rows.specs.Fresh.{FreshBytes}
+use Rattle.rows.specs.RuleFiles.{ReferringTaken, ReferringKept, UpdateDecides, SomeRuled, ReferringTold}
 use Rattle.rows.proofs.Opened.{a-call}
 
 -- on a card of each version
@@ -122,6 +126,36 @@ steps-told = (refl, refl, refl, refl, refl, refl, refl)
 pub answers-told : AnswersTold
 unfolding a-call
 answers-told = (refl, refl, refl, refl, refl)
+
+pub referring-taken : ReferringTaken
+unfolding a-call
+referring-taken = refl
+
+pub referring-kept : ReferringKept
+unfolding a-call
+referring-kept = (refl, refl)
+
+pub update-decides : UpdateDecides
+unfolding a-call
+update-decides = refl
+
+pub some-ruled : SomeRuled
+unfolding a-call bodyBytes
+some-ruled = record {
+  names = record {
+    form = refl;
+    found = record { steps = 0; above = omega arith; here = refl; nearest = λ k l. absurd (not-suc-le-zero l) };
+  };
+  other = λ e. omega (arith, e);
+  linear = refl;
+  first = omega arith;
+  last = omega arith;
+  held = record { padding = 0xFF ∷ 0xFF ∷ 0xFF ∷ []; whole = refl; formed = refl; only = refl };
+}
+
+pub referring-told : ReferringTold
+unfolding a-call
+referring-told = (refl, refl)
 
 pub fresh-bytes : FreshBytes
 unfolding longestRule headBytes field recordBytes freshHeader fresh

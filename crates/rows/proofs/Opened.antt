@@ -12,7 +12,7 @@ use Rattle.rules.specs.Rule.{malformedAt, compactFormed, holdsAt, allowsOf, com
 use Rattle.expanded.specs.Object.{objectsFrom, objectsOf as objectsIn, every, some, several}
 use Rattle.expanded.specs.Condition.{formedPlain, isTemplate as isNesting, formed, scOf, holdsPlain, holds}
 use Rattle.expanded.specs.Expanded.{isAm, amAfter, inPlace, goesOn, expandedFormed, opens, opensOne, expandedGrants}
-use Rattle.access.specs.Access.{wellFormed, fitsRecord, grantedOf}
+use Rattle.access.specs.Access.{askedAs, wellFormed, fitsRecord, grantedOf}
 use Rattle.access.specs.Decision.{decisionOf}
 use Rattle.rules.specs.Value.{goodIdentifier, wholeRecords, goodLength}
 use Rattle.create_data.specs.Data.{isTemplate, ruleGood, bothGood, nameGood, newFile, dfOf, sizedEf, efOf, fileOf, dataOf}
@@ -29,6 +29,7 @@ use Rattle.pool.specs.Gaps.{fits as fitsAt, lowestGap}
 use Rattle.pool.specs.Packed.{startsBelow, below, packedStart, holds as holdsByte, ownerOf, packedByte, listBelow, packedPool}
 use Rattle.pool.specs.Packed.{putStarts, packedImage}
 use Rattle.pool.specs.Places.{gapFor}
+use Rattle.pool.specs.Records.{hasRecord}
 use Rattle.pool.specs.Wiped.{wipeIf, wipeBelow}
 use Rattle.sound.specs.Effects.{created, newBody, newGap, made, filled, clearIf, clearBelow, deleted, wiped, freshHeader, fresh}
 use Rattle.sound.specs.Kin.{rootb, placedAt, placedb, apartAt, siblingsAt, siblingsb, aboveAt, aboveb, sameName, namesAt, namesb}
@@ -39,6 +40,9 @@ use Rattle.sound.specs.Own.{zerosb, paddedb, hasStart, classedb, measuredb, nam
 use Rattle.sound.specs.Sound.{headerb, recordsb, currentb, bodiesb, soundb}
 use Rattle.sound.specs.Table.{up, upward, chargeOf, charged}
 use Rattle.kinship.specs.Search.{isDfNamed, dfNamed}
+use Rattle.referred.specs.Padding.{isFF, isPadding, endsAt, unpaddedEnd}
+use Rattle.referred.specs.Nearest.{firstFound, fileUp, nearestOf}
+use Rattle.referred.specs.Deciding.{namedFileOf, namedRecordOf, isLinear, heldPlace, referredPlace, ownPlace, placeOf, decidingRule}
 use Rattle.judge_target.specs.Steps.{followed}
 use Rattle.judge_target.specs.Target.{currentFile, allowedAt, decisionAt, itself, selected}
 use Rattle.apdu.specs.Apdu.{isTerminate, isKnown, wantsAlone, otherChannel, crowded, wantsTemplate, goodParameters, fitParameters}
@@ -48,7 +52,7 @@ use Rattle.fcp.specs.Template.{recordBytesOf, ruleTag, sizeTag, bodyOf, templat
 use Rattle.effect.specs.Told.{chosen}
 use Rattle.judge_create.specs.Creation.{takesFiles}
 use Rattle.judge_commands.specs.Commands.{selectWord, selecting, mayDelete}
-use Rattle.judge_bodies.specs.Bodies.{binary, hasRecord, recordwise}
+use Rattle.judge_bodies.specs.Bodies.{binary, recordwise}
 use Rattle.judge.specs.Judge.{lifePlan, bodyPlan, planFor, judgeFor, judgeOf}
 use Rattle.judge_security.specs.Security.{efDecision, deletion, lifeDecision, decisionFor, stepJ, denialOf}
 use Rattle.card.specs.Command.{poolFits, fits, dueOf, replyOf, imageOf, poolOf, responseOf}
@@ -58,7 +62,8 @@ unfolding part splice sameList implies either allBelow anyBelow firstBelow sumBe
     holdsOf classOf hasRecords scAt slotsOf nextOf groupLength someGroup lifeOf knownLife newLife canActivate malformedAt compactFormed
     holdsAt allowsOf compactGrants objectsFrom objectsIn every some several formedPlain isNesting formed scOf holdsPlain holds isAm
     amAfter inPlace goesOn expandedFormed opens opensOne expandedGrants longestRule formsOf knownVersion hasBodies formOf wellFormed
-    fitsRecord grantedOf oneRule ruleIn formIn ruleGood ruleTag goodIdentifier wholeRecords goodLength isTemplate bothGood nameGood
+    fitsRecord grantedOf askedAs isFF isPadding endsAt unpaddedEnd firstFound fileUp nearestOf namedFileOf namedRecordOf isLinear
+    heldPlace referredPlace ownPlace placeOf decidingRule oneRule ruleIn formIn ruleGood ruleTag goodIdentifier wholeRecords goodLength isTemplate bothGood nameGood
     newFile dfOf sizedEf efOf fileOf dataOf lacks has onePrivate firstForm dfForm efForm objectAt takenAt takenBelow objectsOf pairOf
     recordLengthIn numberOf fitsName versionOf countOf currentDfOf currentEfOf recAt kindOf descriptorOf lifeCycleOf identifierOf parentOf
     levelOf recordLengthOf sizeOf fieldAt nameOf ruleOf headBytes field recordBytes putRecord withLife setLife setCurrent startOf

@@ -59,6 +59,6 @@ pub taken-turn : (s : List ℕ) (k : ℕ) {o r : Objects} → o ≡ takenBelow k
 unfolding takenBelow
 taken-turn s k p e = rw add-one (e ∙ ap (λ (x : Objects). takenAt s x k) p)
 
-pub taken-all : (s : List ℕ) (k : ℕ) {o : Objects} → k ≤ 11 → 11 ≤ k → o ≡ takenBelow k s → o ≡ objectsOf s
+pub taken-all : (s : List ℕ) (k : ℕ) {o : Objects} → k ≤ 12 → 12 ≤ k → o ≡ takenBelow k s → o ≡ objectsOf s
 unfolding objectsOf
-taken-all s k a b p = let q : k ≡ 11 = omega arith in p ∙ ap (λ (n : ℕ). takenBelow n s) q
+taken-all s k a b p = let q : k ≡ 12 = omega arith in p ∙ ap (λ (n : ℕ). takenBelow n s) q

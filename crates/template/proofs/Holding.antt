@@ -44,7 +44,7 @@ held-none s =
       ends-long = refl;
       absent = λ k e. e;
       low = λ k. omega arith;
-      high = λ k. omega (arith, zeros 11 k);
+      high = λ k. omega (arith, zeros 12 k);
     }
 
 -- two lists with one entry each written over: what holds of the new entries and of each former pair
@@ -58,7 +58,7 @@ written P l m k a e hl hm new j old = ⊎-elim at-k other (same-or j k)
     other : (j ≡ k → ⊥) → P (getD (set l k a) j 0) (getD (set m k e) j 0)
     other n = rw (getD-set-other l k j a 0 n, getD-set-other m k j e 0 n) old
 
-module _ (s : List ℕ) (o : Objects) (k : ℕ) (lt : k < 11) (h : Held s o) where
+module _ (s : List ℕ) (o : Objects) (k : ℕ) (lt : k < 12) (h : Held s o) where
   held-noted : (a e : ℕ) → 0 < a → a ≤ e → e ≤ length s → Held s (noted o k a e)
   held-noted a e f p q =
       let hl : k < length (o .starts) = omega (arith, h .starts-long) in
@@ -83,11 +83,11 @@ module _ (s : List ℕ) (o : Objects) (k : ℕ) (lt : k < 11) (h : Held s o) whe
   unfolding takenAt
   held-taken = held-on (objectAt s (o .next)) (inside s (o .next))
 
-held-below : (s : List ℕ) (n : ℕ) → n ≤ 11 → Held s (takenBelow n s)
+held-below : (s : List ℕ) (n : ℕ) → n ≤ 12 → Held s (takenBelow n s)
 unfolding takenBelow
 held-below s zero l = held-none s
 held-below s (suc n) l = held-taken s (takenBelow n s) n l (held-below s n (omega arith))
 
 pub held : (s : List ℕ) → Held s (objectsOf s)
 unfolding objectsOf
-held s = held-below s 11 (omega arith)
+held s = held-below s 12 (omega arith)

@@ -20,10 +20,10 @@ objectAt s at =
     (cond (ltb (length s) (at + 2 + getD s (at + 1) 0)) Broken
     (Whole (getD s at 0) (at + 2) (at + 2 + getD s (at + 1) 0))))
 
--- the tags in 01's order, which is both the DF's and the EF's, with AB in 8C's place (02 Ticket 3); an object's number is
--- its place here
+-- the tags in 01's order, which is both the DF's and the EF's, with AB and 8B in 8C's place (02 Tickets 3 and 7); an object's
+-- number is its place here
 abbrev pub order : List ℕ
-order = 0x82 ∷ 0x83 ∷ 0x84 ∷ 0x8A ∷ 0x8C ∷ 0xAB ∷ 0x80 ∷ 0x81 ∷ 0xC6 ∷ 0x85 ∷ 0xA5 ∷ []
+order = 0x82 ∷ 0x83 ∷ 0x84 ∷ 0x8A ∷ 0x8C ∷ 0xAB ∷ 0x8B ∷ 0x80 ∷ 0x81 ∷ 0xC6 ∷ 0x85 ∷ 0xA5 ∷ []
 
 -- where the value of object k starts and ends (0 and 0: it is not there), its length, its bytes
 abbrev pub startIn : Objects → ℕ → ℕ
@@ -56,7 +56,7 @@ takenAt s o k = onTag o k (objectAt s (o .next))
 
 -- none yet: the first stands behind 62 LL
 abbrev pub noObjects : Objects
-noObjects = record { starts = replicate 11 0; ends = replicate 11 0; next = 2 }
+noObjects = record { starts = replicate 12 0; ends = replicate 12 0; next = 2 }
 
 -- those among the first n of the list
 unfoldable pub takenBelow : ℕ → List ℕ → Objects
@@ -64,12 +64,12 @@ takenBelow zero s = noObjects
 takenBelow (suc n) s = takenAt s (takenBelow n s) n
 
 unfoldable pub objectsOf : List ℕ → Objects
-objectsOf s = takenBelow 11 s
+objectsOf s = takenBelow 12 s
 
 -- every value stands within the data, and one that is not there is empty
 pub record Held (s : List ℕ) (o : Objects) : Type 0 where
-  pub starts-long : length (o .starts) ≡ 11
-  pub ends-long : length (o .ends) ≡ 11
+  pub starts-long : length (o .starts) ≡ 12
+  pub ends-long : length (o .ends) ≡ 12
   pub absent : (k : ℕ) → startIn o k ≡ 0 → endIn o k ≡ 0
   pub low : (k : ℕ) → startIn o k ≤ endIn o k
   pub high : (k : ℕ) → endIn o k ≤ length s

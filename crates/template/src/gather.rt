@@ -6,9 +6,9 @@ ghost use Rattle.template.specs.Objects.{objectAt, takenAt, objectsOf};
 use crate::Object;
 use crate::Objects;
 
-// The tags in 01's order, AB after 8C, in whose place it may stand (02 Ticket 3). The DF's list and the EF's are both in this
-// order.
-const ORDER: [u8; 11] = [0x82, 0x83, 0x84, 0x8A, 0x8C, 0xAB, 0x80, 0x81, 0xC6, 0x85, 0xA5];
+// The tags in 01's order, AB and 8B after 8C, in whose place one of them may stand (02 Tickets 3 and 7). The DF's list and the
+// EF's are both in this order.
+const ORDER: [u8; 12] = [0x82, 0x83, 0x84, 0x8A, 0x8C, 0xAB, 0x8B, 0x80, 0x81, 0xC6, 0x85, 0xA5];
 
 // The data object at a place: a tag, a length byte 00-7F, and as many bytes.
 pub fn object_at(s: &[u8], at: usize) -> Object
@@ -38,7 +38,7 @@ pub fn object_at(s: &[u8], at: usize) -> Object
 
 // The objects with the next one added, if it is number k of the list.
 fn take(s: &[u8], o: Objects, k: usize) -> Objects
-    requires { ⌜ k < 11 ⌝ }
+    requires { ⌜ k < 12 ⌝ }
     ensures { λ r. ⌜ r ≡ takenAt (now (s .entry)) o k ⌝ }
 {
     let at = o.next;
@@ -60,12 +60,12 @@ pub fn all(s: &[u8]) -> Objects
     ensures { λ r. ⌜ r ≡ objectsOf (now (s .entry)) ⌝ }
 {
     let mut o = Objects {
-        starts: [0; 11],
-        ends: [0; 11],
+        starts: [0; 12],
+        ends: [0; 12],
         next: 2,
     };
     let mut k: usize = 0;
-    while k < 11 {
+    while k < 12 {
         o = take(s, o, k);
         k += 1;
     }

@@ -14,8 +14,8 @@ pub enum Object {
 // The objects that a template holds, by their number in 01's list: where the value of each starts and ends,
 // 0 and 0 for one that is not there; and the place after the last.
 pub struct Objects {
-    pub starts: [usize; 11],
-    pub ends: [usize; 11],
+    pub starts: [usize; 12],
+    pub ends: [usize; 12],
     pub next: usize,
 }
 

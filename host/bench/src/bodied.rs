@@ -8,18 +8,25 @@ use model::edition::{Edition, Version};
 use model::{bodies, Card, Kind, Record};
 
 use crate::shapes::Shape;
+use crate::work::Task;
 
 /// The largest body of a card of many, and of the one that CREATE makes: as many
 /// bytes as are read and written.
 pub const BYTES: u32 = 200;
 /// What a file costs its directory beside its size.
-const FILE_COST: u32 = 64;
+pub const FILE_COST: u32 = 64;
 /// What the pool holds outside all bodies.
 const FREE: u8 = 0xA5;
 
 /// The cards of a size.
 pub fn shapes(slots: usize) -> Vec<Shape> {
-    let shape = |title, card: Card| Shape { title, start: with_pool(&card), wanted: None };
+    let shape = |title, card: Card| Shape {
+        title,
+        start: with_pool(&card),
+        wanted: None,
+        tasks: &Task::BODIED,
+        own: None,
+    };
     vec![
         shape("version 3: 900 files, 800 with bodies", many(slots)),
         shape("version 3: few large bodies", large(slots)),
@@ -44,7 +51,7 @@ fn with_pool(card: &Card) -> Lent {
 }
 
 /// A root and nothing else.
-fn empty(slots: usize) -> Card {
+pub fn empty(slots: usize) -> Card {
     let records = vec![Record::FREE; slots];
     let edition = Edition::of(Version::Three);
     let mut card = Card { edition, current_df: 0, current_ef: None, records };
@@ -53,7 +60,7 @@ fn empty(slots: usize) -> Card {
 }
 
 /// Adds a file in the lowest free slot, and gives that.
-fn add(card: &mut Card, parent: usize, file: Record) -> usize {
+pub fn add(card: &mut Card, parent: usize, file: Record) -> usize {
     let slot = card.lowest_free_slot().unwrap_or(0);
     let level = card.record(parent).level + 1;
     card.put(slot, Record { parent: parent as u16, level, ..file });

@@ -4,7 +4,8 @@
 //! without. The first cards are of version 1, so that their lines compare with
 //! earlier ones; cards of version 2 with rules of both forms follow, and cards of
 //! version 3 with bodies, their commands also beside SELECT and one copy of the
-//! pool. Below each card its slowest command stands beside what is wanted
+//! pool; and cards whose files' rules stand in one file, beside the same cards whose
+//! files have them in their own records. Below each card its slowest command stands beside what is wanted
 //! (docs/SPEED.md).
 //!
 //!     cargo run --release -p bench [-- --milliseconds M] [--shape WORD]
@@ -23,6 +24,7 @@
 mod bodied;
 mod clock;
 mod measured;
+mod referred;
 mod searches;
 mod shapes;
 mod slowest;

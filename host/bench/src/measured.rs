@@ -5,6 +5,7 @@ use std::time::Duration;
 
 use card::{lent, LONGEST_RESPONSE};
 use cases::Lent;
+use model::deciding::place_of;
 
 use crate::bodied::without_bodies;
 use crate::clock::{measure, measure_copy, Times};
@@ -18,6 +19,8 @@ const AGAINST_SELECT: &str = "commands / SELECT of the last file, in turn in one
 const VERSIONS: &str =
     "soundness of version 3 / of the same files on version 2, in turn in one run";
 const OF_POOL: &str = "copies of the pool";
+const AGAINST_OWN: &str =
+    "rules in one file / in the files' own records, the same card, in turn in one run";
 
 /// One shape in all sizes.
 pub struct Measured<'a, W> {
@@ -31,19 +34,21 @@ pub struct Measured<'a, W> {
 impl<W: Write> Measured<'_, W> {
     /// Measures everything and prints it.
     pub fn print(&mut self) -> io::Result<()> {
-        let [.., Shape { title, start, wanted }] = self.shapes;
+        let [.., Shape { title, start, wanted, tasks, own }] = self.shapes;
         let has_bodies = !start.pool.is_empty();
         writeln!(self.out, "\n{title}\n{}", table::columns(&SIZES))?;
         let mut slowest = Slowest::default();
         let mut rows = Vec::new();
-        for &task in if has_bodies { &Task::BODIED[..] } else { &Task::ALL } {
+        for &task in *tasks {
             let cells = self.starts().map(|start| cell(task, start, self.budget));
             writeln!(self.out, "{}", table::row(task.title(), &SIZES, &cells, self.copies))?;
             slowest.see(task, &cells, self.copies);
             rows.push((task, cells));
         }
         writeln!(self.out, "{}", slowest.told(&SIZES, *wanted))?;
-        if has_bodies {
+        if own.is_some() {
+            self.against_own(tasks)
+        } else if has_bodies {
             self.ratios(AGAINST_SELECT, &Task::AGAINST_SELECT)?;
             self.copies_of_the_pool(&rows)?;
             self.versions()
@@ -63,6 +68,19 @@ impl<W: Write> Measured<'_, W> {
             let both = |start| (first.prepared(start), second.prepared(start));
             let ratios = self.starts().map(|start| ratio(both(start), self.budget));
             writeln!(self.out, "{}", table::ratio_row(what, &ratios, 3))?;
+        }
+        Ok(())
+    }
+
+    /// How many times as long each task takes where the rules stand in one file.
+    fn against_own(&mut self, tasks: &[Task]) -> io::Result<()> {
+        writeln!(self.out, "{}", table::ratio_head(AGAINST_OWN, &SIZES))?;
+        for task in tasks {
+            let ratios = self.shapes.each_ref().map(|shape| {
+                let own = shape.own.as_ref().unwrap_or(&shape.start);
+                ratio((task.prepared(own), task.prepared(&shape.start)), self.budget)
+            });
+            writeln!(self.out, "{}", table::ratio_row(task.title(), &ratios, 3))?;
         }
         Ok(())
     }
@@ -122,6 +140,7 @@ fn by_card(call: &Call, lent: &mut Lent) -> u16 {
     match call {
         Call::Sound => u16::from(!lent::is_sound(image)),
         Call::Report => u16::from(lent::report(image).is_err()),
+        Call::Rule(slot) => u16::from(lent::rule_place(image, pool, *slot).is_err()),
         Call::Command(bytes) | Call::Unauthenticated(bytes) => {
             let mut response = [0; LONGEST_RESPONSE];
             let state = match call {
@@ -140,6 +159,7 @@ fn by_model(call: &Call, lent: &mut Lent) -> u16 {
     match call {
         Call::Sound => u16::from(!model::sound(image)),
         Call::Report => u16::from(model::report(image).0),
+        Call::Rule(slot) => u16::from(place_of(image, pool, *slot).0 != 0),
         Call::Command(bytes) | Call::Unauthenticated(bytes) => {
             let mut response = [0; LONGEST_RESPONSE];
             let state = match call {

@@ -1,13 +1,14 @@
 //! The cards that are measured: those of `cases`, which are of version 1, cards
-//! of version 2 with other rules on the same files, and cards of version 3 with
-//! bodies.
+//! of version 2 with other rules on the same files, cards of version 3 with
+//! bodies, and such whose rules stand in a file.
 
 use cases::{worst, Lent};
 use model::edition::{Edition, Version};
 use model::rule::Form;
 use model::Card;
 
-use crate::bodied;
+use crate::work::Task;
+use crate::{bodied, referred};
 
 /// The files that cards of version 2 have.
 pub const FILES: &str = "900 files in 40 directories";
@@ -20,6 +21,11 @@ pub struct Shape {
     /// How many copies of the image a command is to take at most, at the largest
     /// size (docs/SPEED.md).
     pub wanted: Option<f64>,
+    /// What is measured on it.
+    pub tasks: &'static [Task],
+    /// Where its files' rules stand in another file, the same card whose files have
+    /// them in their own records.
+    pub own: Option<Lent>,
 }
 
 /// Where all rights are granted in every state, rules of these bytes in turn.
@@ -42,8 +48,11 @@ pub fn shapes(slots: usize) -> Vec<Shape> {
         title: worst.title,
         start: without_bodies(worst.image),
         wanted: wanted(worst.title),
+        tasks: &Task::ALL,
+        own: None,
     });
-    version_1.chain(version_2).chain(bodied::shapes(slots)).collect()
+    let version_3 = bodied::shapes(slots).into_iter().chain(referred::shapes(slots));
+    version_1.chain(version_2).chain(version_3).collect()
 }
 
 fn without_bodies(image: Vec<u8>) -> Lent {
@@ -68,7 +77,13 @@ fn ruled(mut card: Card, rules: Rules) -> Shape {
         (record.form, record.rule) = (form, rule);
         card.put(slot, record);
     }
-    Shape { title, start: without_bodies(card.encode()), wanted: Some(wanted) }
+    Shape {
+        title,
+        start: without_bodies(card.encode()),
+        wanted: Some(wanted),
+        tasks: &Task::ALL,
+        own: None,
+    }
 }
 
 /// What the cards of version 2 hold. Which rule of 30 bytes is the slowest goes

@@ -1,31 +1,29 @@
 //! What is measured: each call and each kind of command, on a card prepared so
 //! that the command has its effect wherever the card's shape allows it.
 
+mod prepare;
+
 use cases::actions::{bare, delete, select};
-use cases::rules::Rule;
-use cases::template::FileData;
 use cases::Lent;
-use model::rule::Form;
-use model::{Card, Record};
+use model::Card;
 
 use crate::bodied::BYTES;
+use crate::referred::{Ruling, FILE_BYTES};
+use prepare::{
+    beside_last_file, last_file_again, last_slot, of_last_body, of_last_record, on_last_file,
+    refused_by, refused_by_rule, select_last, with_template, NEVER, USER_1,
+};
 
 /// A body of so many bytes finds a gap on every card with bodies.
 const FEW_BYTES: u32 = 40;
-
-/// The AM byte of DEACTIVATE, and two conditions for it: user authentication 1, and
-/// the one that no state opens.
-const DEACTIVATES: u8 = 0x08;
-const USER_1: u8 = 0x11;
-const NEVER: u8 = 0xFF;
-/// Groups of two bytes in the longest rule of version 1.
-const GROUPS: usize = 8;
 
 /// A call with its command.
 #[derive(Clone, PartialEq, Eq, Debug)]
 pub enum Call {
     Sound,
     Report,
+    /// Where the rule of the file in a slot stands.
+    Rule(usize),
     /// Every condition holds that can hold.
     Command(Vec<u8>),
     /// No condition holds but those that always do.
@@ -58,6 +56,12 @@ pub enum Task {
     TerminateCard,
     Lacking,
     Closed,
+    RulePlace,
+    ReadRecord,
+    UpdateRecord,
+    CreateRuled,
+    RuledLacking,
+    RuledClosed,
 }
 
 impl Task {
@@ -103,6 +107,32 @@ impl Task {
         Task::Closed,
     ];
 
+    /// What is measured on a card whose files' rules stand in one file.
+    pub const REFERRED: [Task; 12] = [
+        Task::Sound,
+        Task::SelectFile,
+        Task::SelectFileTemplate,
+        Task::RulePlace,
+        Task::Activate,
+        Task::Deactivate,
+        Task::RuledLacking,
+        Task::RuledClosed,
+        Task::ReadRecord,
+        Task::UpdateRecord,
+        Task::CreateRuled,
+        Task::DeleteFile,
+    ];
+
+    /// What is measured where such a rule is farthest.
+    pub const FAR_UP: [Task; 6] = [
+        Task::Sound,
+        Task::SelectFile,
+        Task::RulePlace,
+        Task::Activate,
+        Task::Deactivate,
+        Task::TerminateDf,
+    ];
+
     /// Each SELECT with the one that answers the template, and what both select.
     pub const TEMPLATES: [(&'static str, Task, Task); 2] = [
         ("the root", Task::SelectRoot, Task::SelectRootTemplate),
@@ -141,8 +171,12 @@ impl Task {
             Task::TerminateEf => "TERMINATE EF",
             Task::TerminateDf => "TERMINATE DF",
             Task::TerminateCard => "TERMINATE CARD USAGE",
-            Task::Lacking => "DEACTIVATE, lacking",
-            Task::Closed => "DEACTIVATE, closed",
+            Task::Lacking | Task::RuledLacking => "DEACTIVATE, lacking",
+            Task::Closed | Task::RuledClosed => "DEACTIVATE, closed",
+            Task::RulePlace => "where the rule stands",
+            Task::ReadRecord => "READ RECORD",
+            Task::UpdateRecord => "UPDATE RECORD",
+            Task::CreateRuled => "CREATE in a ruled DF",
         }
     }
 
@@ -182,80 +216,15 @@ impl Task {
             Task::TerminateCard => Call::Command(bare(0xFE)),
             Task::Lacking => refused_by(&mut card, USER_1),
             Task::Closed => refused_by(&mut card, NEVER),
+            Task::RulePlace => Call::Rule(last_slot(&card)),
+            Task::ReadRecord => of_last_record(&mut card, 0xB2, &[]),
+            Task::UpdateRecord => of_last_record(&mut card, 0xDC, &[0x5A; FILE_BYTES as usize]),
+            Task::CreateRuled => Call::Command(beside_last_file(&mut card, u32::from(FILE_BYTES))),
+            Task::RuledLacking => refused_by_rule(&mut card, Ruling::Lacking),
+            Task::RuledClosed => refused_by_rule(&mut card, Ruling::Closed),
         };
         (Lent { image: card.encode(), pool: start.pool.clone() }, call)
     }
-}
-
-/// The last slot in use; nothing stands beneath it in any of the shapes.
-fn last_slot(card: &Card) -> usize {
-    card.used_slots().last().unwrap_or(0)
-}
-
-/// Makes the last file's directory current, and gives the SELECT of the file.
-fn select_last(card: &mut Card) -> Vec<u8> {
-    let slot = last_slot(card);
-    card.make_current(card.parent(slot));
-    select(card.record(slot).identifier)
-}
-
-/// A SELECT that wants the template: P2 04 and Le 00.
-fn with_template(mut select: Vec<u8>) -> Vec<u8> {
-    select.iter_mut().skip(3).take(1).for_each(|p2| *p2 = 0x04);
-    select.push(0x00);
-    select
-}
-
-/// Takes the last file away, and gives the CREATE of one like it.
-fn last_file_again(card: &mut Card, descriptor: u8) -> Vec<u8> {
-    let slot = last_slot(card);
-    let last = card.record(slot).clone();
-    card.make_current(usize::from(last.parent));
-    card.put(slot, Record::FREE);
-    let mut file = FileData::plain(descriptor, last.identifier, last.size);
-    if file.is_df() && !last.name.is_empty() {
-        file.name = Some(last.name);
-    }
-    file.rule = Rule { form: last.form, bytes: last.rule };
-    file.command()
-}
-
-/// Makes the last file's directory current, and gives the CREATE of another file
-/// of so many bytes in it.
-fn beside_last_file(card: &mut Card, size: u32) -> Vec<u8> {
-    card.make_current(card.parent(last_slot(card)));
-    FileData::plain(0x41, 0x5555, size).command()
-}
-
-/// Makes the last file current, with its directory, and gives the READ or UPDATE
-/// of its first bytes.
-fn of_last_body(card: &mut Card, ins: u8, data: &[u8]) -> Vec<u8> {
-    let slot = last_slot(card);
-    card.make_current(card.parent(slot));
-    card.make_current(slot);
-    [&[0x00, ins, 0x00, 0x00, BYTES as u8], data].concat()
-}
-
-/// Makes the last file current, with its directory, in a life cycle.
-fn on_last_file(card: &mut Card, life_cycle: u8, ins: u8) -> Call {
-    let slot = last_slot(card);
-    card.make_current(card.parent(slot));
-    card.make_current(slot);
-    card.set_life_cycle(slot, life_cycle);
-    Call::Command(bare(ins))
-}
-
-/// Makes the last file current, with its directory, and refuses its DEACTIVATE by a
-/// rule of so many groups as every version takes: none but the last may hold in any
-/// state, so that each is looked at.
-fn refused_by(card: &mut Card, last_condition: u8) -> Call {
-    on_last_file(card, 0x05, 0x04);
-    let slot = last_slot(card);
-    let rule =
-        [[DEACTIVATES, NEVER].repeat(GROUPS - 1), vec![DEACTIVATES, last_condition]].concat();
-    let record = card.record(slot).clone();
-    card.put(slot, Record { form: Form::Compact, rule, ..record });
-    Call::Unauthenticated(bare(0x04))
 }
 
 #[cfg(test)]

@@ -38,12 +38,14 @@ impl MakeError {
 
     /// Why answer 4 was given.
     pub(crate) fn of_rule(kind: Kind, rule: Rule) -> MakeError {
-        match kind.longest_rule(rule.form) {
-            None => MakeError::Form(kind.version, rule.form),
-            Some(longest) if !(1..=longest).contains(&rule.bytes.len()) => {
+        match (kind.longest_rule(rule.form), rule.form) {
+            (None, form) => MakeError::Form(kind.version, form),
+            // Its length is all that can be wrong with it.
+            (Some(_), Form::Referred) => MakeError::Rule(Form::Referred),
+            (Some(longest), _) if !(1..=longest).contains(&rule.bytes.len()) => {
                 MakeError::RuleLength(longest)
             }
-            Some(_) => MakeError::Rule(rule.form),
+            (Some(_), form) => MakeError::Rule(form),
         }
     }
 
@@ -71,8 +73,8 @@ impl fmt::Display for MakeError {
             ),
             MakeError::Form(version, form) => write!(
                 f,
-                "a card of version {version} takes no rule of tag {:02X}; one of version 2 or 3 \
-                 takes 8C and AB",
+                "a card of version {version} takes no rule of tag {:02X}: version 1 takes 8C, \
+                 version 2 also AB, version 3 also 8B",
                 form.tag()
             ),
             MakeError::RuleLength(longest) => {
@@ -99,6 +101,10 @@ fn well_formed(form: Form) -> &'static str {
             "groups of 80 01 AM, with AM below 80, and conditions: 90 00, 97 00, 9E 01 SC, A0 or \
              AF with a length and two conditions or more, four deep at most (80017F9000 allows \
              all)"
+        }
+        Form::Referred => {
+            "three bytes, the identifier of a file and the number of a record (6F0602 is record 2 \
+             of 6F06)"
         }
     }
 }
@@ -181,6 +187,56 @@ impl fmt::Display for CommandError {
 }
 
 impl Error for CommandError {}
+
+/// Why nothing is told of where a rule stands.
+#[derive(Clone, Copy, PartialEq, Eq, Debug)]
+pub enum PlaceError {
+    /// Answer 1: the image is not sound.
+    Damaged,
+    /// Answer 6: the image has bodies, and the pool is not as long as its root's
+    /// total.
+    WrongPool {
+        /// How many bytes the pool must have.
+        wanted: usize,
+        /// How many it has.
+        given: usize,
+    },
+    /// An answer that this version does not know.
+    Unknown(u32),
+    /// Answer 0 with numbers that tell of no place in these buffers.
+    UnknownPlace([u32; 3]),
+}
+
+impl PlaceError {
+    /// The library's number for it.
+    pub fn answer(self) -> u32 {
+        match self {
+            PlaceError::Damaged => 1,
+            PlaceError::WrongPool { .. } => 6,
+            PlaceError::Unknown(answer) => answer,
+            PlaceError::UnknownPlace(_) => 0,
+        }
+    }
+}
+
+impl fmt::Display for PlaceError {
+    fn fmt(&self, f: &mut fmt::Formatter<'_>) -> fmt::Result {
+        match self {
+            PlaceError::Damaged => Damaged.fmt(f),
+            PlaceError::WrongPool { wanted, given } => {
+                CommandError::WrongPool { wanted: *wanted, given: *given }.fmt(f)
+            }
+            PlaceError::Unknown(answer) => unknown(*answer, f),
+            PlaceError::UnknownPlace(numbers) => write!(
+                f,
+                "the card library told where a rule stands by the unknown numbers {numbers:?}: \
+                 build both anew"
+            ),
+        }
+    }
+}
+
+impl Error for PlaceError {}
 
 fn unknown(answer: u32, f: &mut fmt::Formatter<'_>) -> fmt::Result {
     write!(f, "the card library gave the unknown answer {answer}: build both anew")

@@ -30,6 +30,14 @@ extern "C" {
         numbers: *mut u32,
     ) -> c_uint;
     fn hull_report(image: *const u8, image_len: usize, numbers: *mut u32) -> c_uint;
+    fn hull_rule(
+        image: *const u8,
+        image_len: usize,
+        pool: *const u8,
+        pool_len: usize,
+        slot: u32,
+        numbers: *mut u32,
+    ) -> c_uint;
     fn hull_sound(image: *const u8, image_len: usize) -> c_uint;
 }
 
@@ -89,6 +97,21 @@ pub fn report(image: &[u8]) -> (u32, [u32; 4]) {
     // SAFETY: the image is a live slice with its own length, only read; the
     // library writes four numbers, and `numbers` has room for four.
     let answer = unsafe { hull_report(image.as_ptr(), image.len(), numbers.as_mut_ptr()) };
+    (answer, numbers)
+}
+
+/// The answer; where the rule that decides on the file in a slot stands, 0, 1 or
+/// 2 for nowhere, in the image and in the pool, its first byte there and how many
+/// bytes it has. They start as no call could leave them, to show that each is
+/// written.
+pub fn rule(image: &[u8], pool: &[u8], slot: u32) -> (u32, [u32; 3]) {
+    let mut numbers = [u32::MAX; 3];
+    let (image_start, pool_start) = (image.as_ptr(), pool.as_ptr());
+    let written = numbers.as_mut_ptr();
+    // SAFETY: image and pool are live slices with their own lengths, only read;
+    // the library writes three numbers, and `numbers` has room for three.
+    let answer =
+        unsafe { hull_rule(image_start, image.len(), pool_start, pool.len(), slot, written) };
     (answer, numbers)
 }
 

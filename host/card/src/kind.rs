@@ -19,8 +19,8 @@ impl Kind {
     pub const VERSION_1: Kind = Kind::of_version(1);
     /// Compact and expanded rules, of 1 to 30 bytes.
     pub const VERSION_2: Kind = Kind::of_version(2);
-    /// Compact and expanded rules, of 1 to 28 bytes; files have bodies, which
-    /// lie in a pool.
+    /// Compact and expanded rules, of 1 to 28 bytes, and referred ones; files
+    /// have bodies, which lie in a pool.
     pub const VERSION_3: Kind = Kind::of_version(3);
     /// Every kind of card that there is.
     pub const ALL: [Kind; 3] = [Kind::VERSION_1, Kind::VERSION_2, Kind::VERSION_3];
@@ -43,12 +43,14 @@ impl Kind {
     }
 
     /// The most bytes that a rule of a form may have; none where there is no
-    /// such card, or it takes no rule of this form.
+    /// such card, or it takes no rule of this form. A referred rule always has
+    /// as many.
     pub fn longest_rule(self, form: Form) -> Option<usize> {
         match (self.version, form) {
             (1, Form::Compact) => Some(16),
             (2, Form::Compact | Form::Expanded) => Some(30),
             (3, Form::Compact | Form::Expanded) => Some(28),
+            (3, Form::Referred) => Some(REFERENCE_BYTES),
             _ => None,
         }
     }
@@ -66,6 +68,9 @@ impl Default for Kind {
     }
 }
 
+/// Bytes of a referred rule.
+pub const REFERENCE_BYTES: usize = 3;
+
 /// How an access rule is written.
 #[derive(Clone, Copy, PartialEq, Eq, Hash, Debug)]
 pub enum Form {
@@ -73,17 +78,21 @@ pub enum Form {
     Compact,
     /// Groups of an AM object and objects that are conditions.
     Expanded,
+    /// The identifier of a file and the number of a record of it, which holds an
+    /// expanded rule.
+    Referred,
 }
 
 impl Form {
     /// Every form that there is.
-    pub const ALL: [Form; 2] = [Form::Compact, Form::Expanded];
+    pub const ALL: [Form; 3] = [Form::Compact, Form::Expanded, Form::Referred];
 
     /// The library's number for it.
     pub fn number(self) -> u32 {
         match self {
             Form::Compact => 0,
             Form::Expanded => 1,
+            Form::Referred => 2,
         }
     }
 
@@ -92,6 +101,7 @@ impl Form {
         match self {
             Form::Compact => 0x8C,
             Form::Expanded => 0xAB,
+            Form::Referred => 0x8B,
         }
     }
 }
@@ -118,5 +128,10 @@ impl<'a> Rule<'a> {
     /// An expanded rule, the value of an object AB.
     pub const fn expanded(bytes: &'a [u8]) -> Rule<'a> {
         Rule { form: Form::Expanded, bytes }
+    }
+
+    /// A rule that a record of a file keeps, the value of an object 8B.
+    pub const fn referred(bytes: &'a [u8]) -> Rule<'a> {
+        Rule { form: Form::Referred, bytes }
     }
 }

@@ -1,10 +1,11 @@
-//! The four calls of the proved card on buffers of the caller's. They may hold
+//! The five calls of the proved card on buffers of the caller's. They may hold
 //! anything; what is not a sound image with a pool of its length is found and
 //! left alone.
 
-use crate::errors::{CommandError, Damaged, MakeError};
+use crate::errors::{CommandError, Damaged, MakeError, PlaceError};
 use crate::ffi;
 use crate::kind::{Kind, Rule};
+use crate::place::Place;
 use crate::pool_length;
 use crate::security::Security;
 use crate::state::State;
@@ -94,6 +95,24 @@ pub fn report(image: &[u8]) -> Result<Report, Damaged> {
     match ffi::report(image) {
         (0, [total, room, children, beneath]) => Ok(Report { total, room, children, beneath }),
         _ => Err(Damaged),
+    }
+}
+
+/// Where the rule that decides on the file in a slot stands; slot 0 is the
+/// root's. A slot without a file, of any number, is no error. The pool is as for
+/// [`command`].
+pub fn rule_place(image: &[u8], pool: &[u8], slot: usize) -> Result<Place, PlaceError> {
+    // No image has as many slots, so that all that is larger is past the last.
+    let slot = u32::try_from(slot).unwrap_or(u32::MAX);
+    match ffi::rule(image, pool, slot) {
+        (0, numbers) => Place::of_numbers(numbers, image.len(), pool.len())
+            .ok_or(PlaceError::UnknownPlace(numbers)),
+        (1, _) => Err(PlaceError::Damaged),
+        (6, _) => {
+            let wanted = pool_length(image).unwrap_or(0);
+            Err(PlaceError::WrongPool { wanted, given: pool.len() })
+        }
+        (answer, _) => Err(PlaceError::Unknown(answer)),
     }
 }
 

@@ -1,7 +1,7 @@
 //! The proved card, safe to use from Rust.
 //!
 //! [`Card`] owns its image and its pool and is what most programs want;
-//! [`lent`] has the same four calls on buffers of the caller's, sound or not.
+//! [`lent`] has the same five calls on buffers of the caller's, sound or not.
 //! Everything that decides is the proved library; here bytes are handed to it,
 //! and its numbers get names. No input makes a function of this crate panic.
 //!
@@ -26,8 +26,9 @@
 //! | what the caller has authenticated | [`State`] |
 //! | status words and their meaning | [`Word`] |
 //! | what a security refusal lacks | [`Security`] |
+//! | where the rule that decides on a file stands | [`Place`] |
 //! | a word with all that came with it | [`Reply`] |
-//! | what goes wrong | [`MakeError`], [`CommandError`], [`Damaged`], [`RefusedParts`] |
+//! | what goes wrong | [`MakeError`], [`CommandError`], [`PlaceError`], [`Damaged`], [`RefusedParts`] |
 
 #![deny(unsafe_code)]
 #![warn(missing_docs)]
@@ -47,14 +48,16 @@ pub mod ffi;
 mod kind;
 pub mod lent;
 mod owned;
+mod place;
 mod security;
 mod state;
 mod word;
 
-pub use errors::{CommandError, Damaged, MakeError, RefusedParts};
-pub use kind::{Form, Kind, Rule};
+pub use errors::{CommandError, Damaged, MakeError, PlaceError, RefusedParts};
+pub use kind::{Form, Kind, Rule, REFERENCE_BYTES};
 pub use lent::{Answer, Report};
 pub use owned::{Card, Reply};
+pub use place::Place;
 pub use security::Security;
 pub use state::State;
 pub use word::Word;

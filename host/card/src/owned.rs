@@ -2,9 +2,10 @@
 
 use std::fmt;
 
-use crate::errors::{CommandError, Damaged, MakeError, RefusedParts};
+use crate::errors::{CommandError, Damaged, MakeError, PlaceError, RefusedParts};
 use crate::kind::{Kind, Rule};
 use crate::lent::{self, Answer, Report};
+use crate::place::Place;
 use crate::security::Security;
 use crate::state::State;
 use crate::word::Word;
@@ -72,6 +73,18 @@ impl Card {
     /// Reports on the current directory.
     pub fn report(&self) -> Result<Report, Damaged> {
         lent::report(&self.image)
+    }
+
+    /// Where the rule that decides on the file in a slot stands now; see
+    /// [`lent::rule_place`].
+    pub fn rule_place(&self, slot: usize) -> Result<Place, PlaceError> {
+        lent::rule_place(&self.image, &self.pool, slot)
+    }
+
+    /// The bytes of that rule, without padding; none where nothing decides, and
+    /// so everything is closed.
+    pub fn rule_bytes(&self, slot: usize) -> Result<&[u8], PlaceError> {
+        Ok(self.rule_place(slot)?.bytes(&self.image, &self.pool))
     }
 
     /// Asks the library once more whether the image is sound.

@@ -21,7 +21,7 @@ use crate::images;
 use crate::random::Random;
 use crate::target::Target;
 use crate::template::create_command;
-use crate::{editions, life_cycles, pools, rules};
+use crate::{editions, life_cycles, pools, rule_files, rules};
 
 /// A card of more slots is large, and only so many of its files are made again
 /// one by one, so that it takes no longer than many small ones.
@@ -111,10 +111,13 @@ impl Remade {
 }
 
 impl Again {
-    /// Files one by one; now and then large ones.
+    /// Files one by one; now and then large ones, or many with references.
     pub fn files(random: &mut Random) -> Again {
-        let large = random.chance(4);
-        let card = if large { images::sparse_card(random) } else { images::sound_card(random) };
+        let card = match random.below(25) {
+            0 => images::sparse_card(random),
+            1..=3 => rule_files::kept(random).card,
+            _ => images::sound_card(random),
+        };
         Again { image: card.encode(), seed: random.number(), whole: false }
     }
 
@@ -266,11 +269,11 @@ impl Session {
     }
 }
 
-/// Whether new files of both kinds can be made in a directory: it is activated,
-/// and its rule grants it.
+/// Whether new files of both kinds can be made in a directory: it is activated, and
+/// its rule grants it, which a referred one does not once it is made again.
 pub(crate) fn takes_files(card: &Card, df: usize) -> bool {
     let record = card.record(df);
-    let granted = |right| record.grants(right, &State::FULL);
+    let granted = |right| rule::decide(record.form, &record.rule, right, &State::FULL).is_granted();
     let activated = life_cycle::class(record.life_cycle) == Some(life_cycle::Class::Activated);
     activated && granted(Right::CreateDf) && granted(Right::CreateEf)
 }

@@ -1,5 +1,5 @@
 //! CREATE's data with one breach each (01, "CREATE": "Any breach of this
-//! paragraph's data rules ... are 6A80"; 02, Ticket 3).
+//! paragraph's data rules ... are 6A80"; 02, Tickets 3 and 7).
 
 use model::edition::Edition;
 
@@ -11,7 +11,7 @@ use crate::{life_cycles, rules};
 /// only bytes.
 pub fn any(random: &mut Random, edition: Edition) -> Vec<u8> {
     let mut data = good(random, edition);
-    match random.below(14) {
+    match random.below(15) {
         0..=3 => template(&data.objects()),
         4 | 5 => of_a_value(random, data),
         6 | 7 => of_the_list(random, &data, edition),
@@ -20,6 +20,7 @@ pub fn any(random: &mut Random, edition: Edition) -> Vec<u8> {
             data.rule = rules::broken(random, edition);
             template(&data.objects())
         }
+        13 => of_the_reference(random, data, edition),
         _ => {
             let length = random.range(1, 40) as usize;
             let mut bytes = random.bytes(length);
@@ -105,12 +106,36 @@ fn of_the_list(random: &mut Random, data: &FileData, edition: Edition) -> Vec<u8
     template(&objects)
 }
 
-/// A second rule beside the first, each good by itself, of either form.
+/// A second rule beside the first, each good by itself, of any form.
 fn two_rules(random: &mut Random, objects: &mut Vec<Object>, edition: Edition) {
-    let is_rule = |object: &Object| [0x8C, 0xAB].contains(&object.0);
+    let is_rule = |object: &Object| [0x8C, 0xAB, 0x8B].contains(&object.0);
     let place = objects.iter().position(is_rule).unwrap_or(0);
-    let other = rules::well_formed(random, edition).object();
+    let other = rules::of_any_form(random, edition).object();
     objects.insert(place + random.below(2), other);
+}
+
+/// A reference where the edition takes none, of another length, beside another
+/// rule, or not in the rule's place; now and then a good one.
+fn of_the_reference(random: &mut Random, mut data: FileData, edition: Edition) -> Vec<u8> {
+    data.rule = rules::some_reference(random);
+    let mut objects = data.objects();
+    let place = objects.iter().position(|object| *object == data.rule.object()).unwrap_or(0);
+    match random.below(4) {
+        0 => {
+            let length = random.pick([0, 2, 2, 4, 4, 6]);
+            objects[place].1 = random.bytes(length);
+        }
+        1 => {
+            let other = rules::well_formed(random, edition).object();
+            objects.insert(place + random.below(2), other);
+        }
+        2 => {
+            let moved = objects.remove(place);
+            objects.insert(random.below(objects.len() + 1), moved);
+        }
+        _ => {}
+    }
+    template(&objects)
 }
 
 /// Lengths that do not meet, in 62 or in an object, and trailing bytes.

@@ -142,6 +142,15 @@ pub enum Case {
     },
     /// Files made again on another card by their templates.
     Again(Again),
+    /// Which rule decides on a file.
+    Deciding {
+        /// The image.
+        image: Vec<u8>,
+        /// The pool.
+        pool: Vec<u8>,
+        /// The file's slot.
+        slot: usize,
+    },
 }
 
 /// The card on which the line of a template is run.
@@ -173,6 +182,9 @@ impl Case {
             Case::Template { edition, data } => vec![template_line(*edition, data)],
             Case::Rule { rule, state } => rule_lines(rule, *state),
             Case::Again(again) => again.lines(),
+            Case::Deciding { image, pool, slot } => {
+                vec![Line::Deciding { image: image.clone(), pool: pool.clone(), slot: *slot }]
+            }
         }
     }
 }

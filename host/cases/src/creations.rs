@@ -145,7 +145,10 @@ fn by_field(action: Action, random: &mut Random, card: &Card, place: &Place) -> 
             let size = random.range(1, place.most?.min(300));
             let mut data = either(random, identifier, size);
             data.rule = match action {
-                Action::CreateRuled => rules::many_groups(random, card.edition),
+                Action::CreateRuled if random.chance(80) => {
+                    rules::many_groups(random, card.edition)
+                }
+                Action::CreateRuled => rules::of_any_form(random, card.edition),
                 _ => decided::locked(random, card.edition),
             };
             Some(data)

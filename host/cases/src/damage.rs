@@ -1,5 +1,5 @@
 //! Images damaged in one field: for each field of header and record the
-//! values just beyond what soundness allows (01, "Image"; 02, Tickets 3 and 4).
+//! values just beyond what soundness allows (01, "Image"; 02, Tickets 3, 4 and 7).
 
 use model::rule::Form;
 use model::Card;
@@ -147,10 +147,12 @@ fn record(random: &mut Random, card: &Card, field: Field, slot: usize, image: &m
     }
 }
 
-/// A form that the record's rule does not have: unknown, or the other one.
+/// A form that the record's rule does not have: unknown, or one of the others.
 fn wrong_form(random: &mut Random, card: &Card, slot: usize) -> u8 {
-    let other = 1 - card.record(slot).form.number();
-    random.pick([other, other, 2, 3, 0x80, 0x81, 0xFF])
+    let own = card.record(slot).form;
+    let others = Form::ALL.into_iter().filter(|form| *form != own).map(Form::number);
+    let other = random.choose(&others.collect::<Vec<u8>>()).copied().unwrap_or(3);
+    random.pick([other, other, other, 3, 3, 0x80, 0x82, 0xFF])
 }
 
 /// The last bytes of a record, but for a start: zero on version 1; where the rule
@@ -233,13 +235,18 @@ fn name(random: &mut Random, card: &Card, field: Field, slot: usize, image: &mut
 }
 
 /// A length of 0 or beyond what the version takes, a malformed rule, a good one
-/// of a form that the version does not have, padding that is not zero.
+/// of a form that the version does not have, a reference of another length,
+/// padding that is not zero.
 fn rule_bytes(random: &mut Random, card: &Card, field: Field, slot: usize, image: &mut [u8]) {
     let (record, longest) = (card.record(slot), card.edition.longest_rule());
     let length = record.rule.len();
     if field == Field::RulePadding && length < longest {
         let offset = random.range(34 + length as u32, 33 + longest as u32) as usize;
         set(image, at(slot, offset), &[random.byte() | 1]);
+    } else if record.form == Form::Referred || random.chance(20) {
+        let wrong = rules::no_reference(random, card.edition);
+        set(image, at(slot, 3), &[wrong.form.number()]);
+        set_rule(image, slot, longest, &wrong.bytes);
     } else if !card.edition.takes(Form::Expanded) && random.chance(25) {
         // Good on a newer version, and short enough here.
         let newer = expanded::open(random, longest);

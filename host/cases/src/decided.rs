@@ -14,6 +14,8 @@ use crate::{compact, states};
 
 /// Environments that an SC byte can be opened by.
 const ENVIRONMENTS: usize = 15;
+/// Bytes of an expanded group with one SC byte.
+const LEAST_GROUP: usize = 6;
 /// Most groups beside the one that decides.
 const MOST_OTHERS: usize = 3;
 
@@ -62,17 +64,31 @@ pub fn decision(random: &mut Random, state: &State) -> Decision {
     }
 }
 
+/// A wish of any right under any state.
+pub fn some_wish(random: &mut Random) -> Wish {
+    let (state, right) = (state(random), random.pick(Right::ALL));
+    Wish { right, state, decision: decision(random, &state) }
+}
+
 /// A rule that is fit for a record of the edition and decides as wished.
 pub fn rule(random: &mut Random, edition: Edition, wish: &Wish) -> Rule {
     let form = match edition.takes(Form::Expanded) && random.chance(60) {
         true => Form::Expanded,
         false => Form::Compact,
     };
+    Rule { form, bytes: rule_of(random, form, wish, edition.longest_rule()) }
+}
+
+/// The bytes of a compact or an expanded rule, at most so many, that decides as
+/// wished. Of an expanded one at least 6, which name a right and an SC byte.
+pub fn rule_of(random: &mut Random, form: Form, wish: &Wish, longest: usize) -> Vec<u8> {
+    // Each template takes five bytes more, its own two and a condition of three.
+    let deepest = (longest.saturating_sub(LEAST_GROUP) / 5).min(DEEPEST);
     // Denied for good too, where no group names it.
     let unnamed = wish.decision == Decision::Closed && random.chance(20);
     let deciding = match unnamed {
         true => other_group(random, form, wish.right),
-        false => group(random, form, wish, DEEPEST),
+        false => group(random, form, wish, deepest),
     };
     let mut length = deciding.len();
     let mut groups = vec![deciding];
@@ -84,14 +100,14 @@ pub fn rule(random: &mut Random, edition: Edition, wish: &Wish) -> Rule {
                 group(random, form, &Wish { decision, ..*wish }, 1)
             }
         };
-        if length + another.len() <= edition.longest_rule() {
+        if length + another.len() <= longest {
             length += another.len();
             groups.push(another);
         }
     }
     let first = random.below(groups.len());
     groups.rotate_left(first);
-    Rule { form, bytes: groups.concat() }
+    groups.concat()
 }
 
 /// A rule that is fit for a record of the edition; of each right it lacks
@@ -130,7 +146,7 @@ fn other_group(random: &mut Random, form: Form, right: Right) -> Vec<u8> {
     } & !right.bit();
     match form {
         Form::Compact => with_bytes(am, || compact::condition(random)),
-        Form::Expanded => [mode(am), object(tags::BYTE, &[compact::condition(random)])].concat(),
+        _ => [mode(am), object(tags::BYTE, &[compact::condition(random)])].concat(),
     }
 }
 
@@ -154,11 +170,11 @@ fn group(random: &mut Random, form: Form, wish: &Wish, depth: usize) -> Vec<u8> 
             group[1 + before] = byte(random, wish);
             group
         }
-        Form::Expanded => {
-            let mut group = mode(am);
+        _ => {
+            let (mut group, most) = (mode(am), depth);
             let depth = random.below(depth + 1);
             group.extend(condition(random, wish, depth));
-            if depth < 2 && random.chance(40) {
+            if depth < 2 && depth < most && random.chance(40) {
                 let decision = no_more_open(random, wish);
                 group.extend(leaf(random, &Wish { decision, ..*wish }));
             }

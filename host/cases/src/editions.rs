@@ -1,5 +1,5 @@
 //! Versions of images: those that the model knows, and numbers that are none
-//! (01, "Image"; 02, Tickets 3 and 4).
+//! (01, "Image"; 02, Tickets 3, 4 and 7).
 
 use model::edition::{Edition, Version};
 use model::Card;
@@ -70,5 +70,5 @@ pub fn wrong_for(random: &mut Random, card: &Card) -> u16 {
 
 /// A number of a rule's form, known or not.
 pub fn any_form(random: &mut Random) -> u32 {
-    random.pick([0, 1, 2, 3, 0x0100, 0x0101, 0x0001_0001, 0x0100_0000, u32::MAX])
+    random.pick([0, 1, 2, 3, 3, 0x0100, 0x0101, 0x0001_0001, 0x0100_0000, u32::MAX])
 }

@@ -50,7 +50,7 @@ impl Other {
             file.life_cycle = random.pick([0x01, 0x03, 0x05, 0x07]);
         } else if !terminated {
             file.life_cycle = life_cycles::of_a_new_file(random);
-            file.rule = rules::well_formed(random, edition);
+            file.rule = rules::of_any_form(random, edition);
         }
         Other { file, inside, terminated }
     }

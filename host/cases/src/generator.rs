@@ -1,15 +1,17 @@
 //! The kinds of cases, their mix, and the endless row of cases of a seed.
 
+use model::rule::Form;
 use model::{Card, State};
 
+use crate::actions::bare;
 use crate::again::Again;
 use crate::case::Case;
 use crate::damage::{damaged, Field};
 use crate::history::{fitting_command, history, history_with};
 use crate::random::Random;
 use crate::themes::Theme;
-use crate::{bodied, breach, editions, images, makers, pools, raw};
-use crate::{responses, rules, security, states, streams, worst};
+use crate::{bodied, breach, editions, images, makers, places, pools, raw};
+use crate::{responses, rule_files, ruled, rules, security, states, streams, worst};
 
 /// What a case is made for.
 #[derive(Clone, Copy, PartialEq, Eq, PartialOrd, Ord, Debug)]
@@ -34,6 +36,12 @@ pub enum Kind {
     Security,
     /// A history of locked files, under states that open them or lack something.
     Locked,
+    /// A command that asks a rule kept in a file.
+    Referred,
+    /// Which rule decides on a file, and where it stands.
+    Deciding,
+    /// A history in which a rule file is written while another is ruled by it.
+    RuleFiles,
     /// CREATE's data, good or broken.
     Template,
     /// A call of the maker.
@@ -52,7 +60,7 @@ pub enum Kind {
 
 impl Kind {
     /// All kinds with their weights in the mix.
-    pub const MIX: [(Kind, usize); 17] = [
+    pub const MIX: [(Kind, usize); 20] = [
         (Kind::History, 100),
         (Kind::SoundCommand, 300),
         (Kind::SoundReport, 60),
@@ -63,6 +71,9 @@ impl Kind {
         (Kind::Bodies, 140),
         (Kind::Security, 130),
         (Kind::Locked, 20),
+        (Kind::Referred, 130),
+        (Kind::Deciding, 70),
+        (Kind::RuleFiles, 20),
         (Kind::Template, 180),
         (Kind::Make, 30),
         (Kind::Replay, 30),
@@ -166,6 +177,9 @@ pub fn make_case(random: &mut Random, kind: Kind) -> Case {
         }
         Kind::Security => asking(random),
         Kind::Locked => Case::History(history_with(random, Theme::Locked)),
+        Kind::Referred => referring(random),
+        Kind::Deciding => places::case(random),
+        Kind::RuleFiles => Case::History(ruled::history(random)),
         Kind::Template => {
             let edition = editions::any(random);
             Case::Template { edition, data: breach::any(random, edition) }
@@ -207,6 +221,26 @@ fn asking(random: &mut Random) -> Case {
     one_command(random, card.encode(), command, state)
 }
 
+/// A command that asks a rule kept in a file.
+fn referring(random: &mut Random) -> Case {
+    let (kept, command, state) = rule_files::asked(random);
+    let (image, pool) = (kept.card.encode(), kept.pool);
+    let response = responses::lent(random, &image, &pool, &command);
+    Case::OneCommand { image, pool, command, response, state }
+}
+
+/// The rule that is looked for longest: asked for, or where it stands.
+fn worst_reference(random: &mut Random) -> Case {
+    let (worst, pool) = worst::referred_of(worst::MOST_SLOTS);
+    let slot = Card::decode(&worst.image).map_or(0, |card| card.current_df);
+    let image = worst.image;
+    if random.chance(50) {
+        return Case::Deciding { image, pool, slot };
+    }
+    let command = bare(random.pick([0x04, 0x44, 0xE6, 0xFE]));
+    Case::OneCommand { image, pool, command, response: Vec::new(), state: states::any(random) }
+}
+
 /// A rule of any sort under any state, or one made for a decision under its own.
 fn rule_case(random: &mut Random) -> Case {
     let (rule, state) = match random.chance(35) {
@@ -217,6 +251,9 @@ fn rule_case(random: &mut Random) -> Case {
 }
 
 fn worst_case(random: &mut Random) -> Case {
+    if editions::NEWEST.takes(Form::Referred) && random.chance(25) {
+        return worst_reference(random);
+    }
     let mut cards = worst::cards();
     cards.extend(worst::ruled_of(worst::MOST_SLOTS));
     if editions::NEWEST.has_bodies() {

@@ -9,8 +9,9 @@ use crate::actions::{bare, command_for, delete, select_by, Action};
 use crate::case::{History, Lent, Step};
 use crate::images::slot_count;
 use crate::random::Random;
+use crate::rules::{self, Rule};
 use crate::themes::Theme;
-use crate::{decided, editions, pools, responses, rules, states};
+use crate::{decided, editions, pools, responses, states};
 
 /// How often another action is tried where the card gives no occasion.
 const TRIES: usize = 6;
@@ -18,22 +19,22 @@ const TRIES: usize = 6;
 const STEPS_OF_A_GAP: usize = 4;
 
 /// A history being written.
-struct Writer {
-    history: History,
+pub(crate) struct Writer {
+    pub(crate) history: History,
     lent: Lent,
     /// The identifier last deleted, to be created again.
     deleted: Option<u16>,
 }
 
 impl Writer {
-    fn new(random: &mut Random, edition: Edition, slots: usize, theme: Theme) -> Writer {
-        let most = 64 * (slots as u32 - 1);
-        let total = if random.chance(70) { most } else { random.range(1, most) };
-        let rule = match theme {
-            Theme::Rules => rules::well_formed(random, edition),
-            Theme::Locked => decided::locked(random, edition),
-            _ => rules::mostly_open(random, edition),
-        };
+    /// A fresh card with a root of this total and this rule.
+    pub(crate) fn new(
+        random: &mut Random,
+        edition: Edition,
+        slots: usize,
+        total: u32,
+        rule: Rule,
+    ) -> Writer {
         let pool = Vec::new();
         let mut history = History { edition, slots, total, rule, pool, steps: Vec::new() };
         history.pool = pools::right(random, &history.fresh_image());
@@ -46,7 +47,7 @@ impl Writer {
     }
 
     /// Appends a command and runs it.
-    fn push(&mut self, random: &mut Random, bytes: Vec<u8>, state: State) {
+    pub(crate) fn push(&mut self, random: &mut Random, bytes: Vec<u8>, state: State) {
         let Lent { image, pool } = &mut self.lent;
         let response = responses::lent(random, image, pool, &bytes);
         let outcome = command(image, pool, &bytes, &mut response.clone(), &state);
@@ -127,7 +128,15 @@ pub fn history_on(
     slots: usize,
     steps: usize,
 ) -> History {
-    let mut writer = Writer::new(random, edition, slots.max(2), theme);
+    let slots = slots.max(2);
+    let most = 64 * (slots as u32 - 1);
+    let total = if random.chance(70) { most } else { random.range(1, most) };
+    let rule = match theme {
+        Theme::Rules => rules::well_formed(random, edition),
+        Theme::Locked => decided::locked(random, edition),
+        _ => rules::mostly_open(random, edition),
+    };
+    let mut writer = Writer::new(random, edition, slots, total, rule);
     while writer.history.steps.len() < steps {
         let left = steps - writer.history.steps.len();
         if theme == Theme::Bodies && left > STEPS_OF_A_GAP && random.chance(15) {

@@ -159,7 +159,7 @@ fn some_rule(random: &mut Random, edition: Edition) -> Rule {
     if random.chance(60) {
         rules::mostly_open(random, edition)
     } else {
-        rules::well_formed(random, edition)
+        rules::of_any_form(random, edition)
     }
 }
 

@@ -26,11 +26,13 @@
 //! | READ and UPDATE, cards made for them | [`bodies`], [`bodied`] |
 //! | images damaged in one field | [`damage`] |
 //! | raw commands and near-misses | [`raw`] |
-//! | every near-miss in turn | [`near`] |
+//! | every near-miss in turn | [`near`], [`near_kept`] |
 //! | CREATE's data, good and broken | [`template`], [`breach`] |
 //! | versions, life-cycle bytes, states | [`editions`], [`life_cycles`], [`states`] |
-//! | rules of both forms, and what can be wrong with them | [`rules`], [`compact`], [`expanded`], [`flaws`] |
+//! | rules of all forms, and what can be wrong with them | [`rules`], [`compact`], [`expanded`], [`flaws`] |
 //! | rules made for a decision, commands that ask them | [`decided`], [`security`] |
+//! | rules kept in a file, cards ruled by them, histories that write them | [`contents`], [`kept`], [`rule_files`], [`ruled`] |
+//! | where a deciding rule stands | [`places`] |
 //! | maker's calls, replay's streams | [`makers`], [`streams`] |
 //! | pools, response buffers | [`pools`], [`responses`] |
 //! | files made again by their templates | [`again`], [`target`], [`elsewhere`], [`regrown`], [`sorts`] |
@@ -47,6 +49,7 @@ pub mod breach;
 pub mod case;
 pub mod choices;
 pub mod compact;
+pub mod contents;
 pub mod creations;
 pub mod damage;
 pub mod decided;
@@ -57,15 +60,20 @@ pub mod flaws;
 pub mod generator;
 pub mod history;
 pub mod images;
+pub mod kept;
 pub mod layouts;
 pub mod life_cycles;
 pub mod makers;
 pub mod near;
+pub mod near_kept;
+pub mod places;
 pub mod pools;
 pub mod random;
 pub mod raw;
 pub mod regrown;
 pub mod responses;
+pub mod rule_files;
+pub mod ruled;
 pub mod rules;
 pub mod security;
 pub mod sorts;

@@ -1,5 +1,7 @@
 //! Calls of the maker on both sides of each of its checks (01, "Making and
-//! reporting"; 02, Ticket 3).
+//! reporting"; 02, Tickets 3 and 7).
+
+use model::rule::Form;
 
 use crate::case::Case;
 use crate::images::slot_count;
@@ -22,16 +24,19 @@ pub fn call(random: &mut Random) -> Case {
     let rule = match random.below(10) {
         0 => rules::broken(random, edition),
         1 => rules::any(random),
-        2..=5 => rules::some_open(random, edition),
-        _ => rules::well_formed(random, edition),
+        2 if random.chance(50) => rules::no_reference(random, edition),
+        2 | 3 => rules::some_reference(random),
+        4 | 5 => rules::some_open(random, edition),
+        _ => rules::of_any_form(random, edition),
     };
     let version = u32::from(edition.version_number());
     let form = rule.form_number();
+    let unlike = if rule.form == Form::Referred { 25 } else { 10 };
     Case::Make {
         buffer: contents(random, length),
         version: if random.chance(90) { version } else { editions::unknown(random) },
         total,
-        form: if random.chance(90) { form } else { editions::any_form(random) },
+        form: if random.chance(unlike) { editions::any_form(random) } else { form },
         rule: rule.bytes,
     }
 }

@@ -4,13 +4,14 @@
 //! (Ticket 3).
 
 use model::edition::{Edition, Version};
+use model::rule::Form;
 use model::{Card, State};
 
 use crate::actions::{bare, delete, select, select_fcp};
 use crate::case::{Case, History, Lent, Step};
-use crate::editions;
 use crate::rules::{self, Rule};
 use crate::template::FileData;
+use crate::{editions, near_kept};
 
 /// How many bytes too many are tried.
 const BYTES_TOO_MANY: usize = 3;
@@ -141,7 +142,8 @@ pub fn near_misses_of_the_rule() -> Vec<Vec<u8>> {
     replaced.collect()
 }
 
-/// All near-misses of all instructions, and of the expanded rule, as cases.
+/// All near-misses of all instructions, of the expanded rule, and of a rule kept in
+/// a file, as cases.
 pub fn every_near_miss() -> impl Iterator<Item = Case> {
     let older = |image: Vec<u8>| Lent { image, pool: Vec::new() };
     let commands = good_commands().into_iter().flat_map(|good| near_misses_of(&good));
@@ -153,6 +155,7 @@ pub fn every_near_miss() -> impl Iterator<Item = Case> {
             let misses = commands.flat_map(|good| near_misses_of(&good));
             on(card_with_body(records), misses)
         }))
+        .chain(editions::NEWEST.takes(Form::Referred).then(near_kept::every).into_iter().flatten())
 }
 
 /// Each command as a case.

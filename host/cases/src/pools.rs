@@ -20,11 +20,17 @@ pub fn right(random: &mut Random, image: &[u8]) -> Vec<u8> {
 /// A pool for an image, at times of a wrong length.
 pub fn lent(random: &mut Random, image: &[u8]) -> Vec<u8> {
     if has_bodies(image) && random.chance(8) {
-        let length = wrong_length(random, image);
-        random.bytes(length)
+        wrong(random, image)
     } else {
         right(random, image)
     }
+}
+
+/// A pool that an image with bodies does not take; of any length where there
+/// are none.
+pub fn wrong(random: &mut Random, image: &[u8]) -> Vec<u8> {
+    let length = wrong_length(random, image);
+    random.bytes(length)
 }
 
 /// A length near the right one, or far from it.

@@ -1,5 +1,5 @@
-//! Access rules of both forms, as a card's version takes them (01, "Descriptor
-//! and rules"; 02, Ticket 3): open, well formed at random, broken.
+//! Access rules of all forms, as a card's version takes them (01, "Descriptor
+//! and rules"; 02, Tickets 3 and 7): open, well formed at random, broken.
 
 use model::edition::Edition;
 use model::rule::Form;
@@ -31,6 +31,12 @@ impl Rule {
     /// An expanded rule.
     pub fn expanded(bytes: Vec<u8>) -> Rule {
         Rule { form: Form::Expanded, bytes }
+    }
+
+    /// A referred rule: a file's identifier and the number of a record.
+    pub fn referred(identifier: u16, number: u8) -> Rule {
+        let [high, low] = identifier.to_be_bytes();
+        Rule { form: Form::Referred, bytes: vec![high, low, number] }
     }
 
     /// The object in which CREATE's data have it.
@@ -72,7 +78,16 @@ pub fn mostly_open(random: &mut Random, edition: Edition) -> Rule {
     }
 }
 
-/// A rule that is fit for a record of the edition.
+/// A rule that is fit for a record of the edition, now and then a reference.
+pub fn of_any_form(random: &mut Random, edition: Edition) -> Rule {
+    if edition.takes(Form::Referred) && random.chance(15) {
+        some_reference(random)
+    } else {
+        well_formed(random, edition)
+    }
+}
+
+/// A rule that is fit for a record of the edition and decides by itself.
 pub fn well_formed(random: &mut Random, edition: Edition) -> Rule {
     let longest = edition.longest_rule();
     if edition.takes(Form::Expanded) && random.chance(60) {
@@ -104,10 +119,31 @@ pub fn respelled(random: &mut Random, edition: Edition, rule: Vec<u8>) -> Rule {
     }
 }
 
+/// A reference to a file that may be there, or to none.
+pub fn some_reference(random: &mut Random) -> Rule {
+    let store = [0x2F06, 0x2F06, 0x6F07, 0x6F08, 0x7F10, 0x5F3A, 0x3F00, 0xFFFF];
+    let identifier = if random.chance(90) { random.pick(store) } else { random.number16() };
+    Rule::referred(identifier, random.pick([0, 1, 1, 1, 2, 2, 3, 254, 255]))
+}
+
+/// Form 2 as no record of the edition has it: of three bytes where the edition
+/// takes no reference, else of another length, often that of several pairs.
+pub fn no_reference(random: &mut Random, edition: Edition) -> Rule {
+    let mut rule = some_reference(random);
+    if edition.takes(Form::Referred) {
+        let length = random.pick([0, 1, 2, 2, 4, 4, 5, 6, 6, 9, 27, 28]);
+        rule.bytes = random.bytes(length);
+    }
+    rule
+}
+
 /// A rule that no record of the edition takes: malformed, of a wrong length, or
 /// of a form that is not its own.
 pub fn broken(random: &mut Random, edition: Edition) -> Rule {
     let longest = edition.longest_rule();
+    if random.chance(12) {
+        return no_reference(random, edition);
+    }
     if !edition.takes(Form::Expanded) {
         return match random.below(10) {
             0..=4 => Rule::compact(compact::broken(random, longest)),
@@ -130,7 +166,7 @@ pub fn any(random: &mut Random) -> Rule {
     let edition = crate::editions::any(random);
     let longest = random.range(17, 60) as usize;
     match random.below(10) {
-        0..=4 => well_formed(random, edition),
+        0..=4 => of_any_form(random, edition),
         5..=7 => broken(random, edition),
         8 => {
             let length = random.below(20);

@@ -30,14 +30,12 @@ const CREATIONS: [Action; 10] = [
 ];
 
 /// A command, and whose rule it asks for which right.
-type Asking = (Vec<u8>, Vec<(usize, Right)>);
+pub(crate) type Asking = (Vec<u8>, Vec<(usize, Right)>);
 
 /// A card, a command on it, and the state under which it is asked.
 pub fn asked(random: &mut Random) -> (Card, Vec<u8>, State) {
     let mut card = some_card(random);
-    let found = (0..TRIES).find_map(|_| command(random, &card));
-    let of_the_card = || (bare(0xFE), vec![(0, Right::Terminate)]);
-    let (command, asks) = found.unwrap_or_else(of_the_card);
+    let (command, asks) = some_command(random, &card);
     let state = decided::state(random);
     for (slot, right) in asks {
         let wish = Wish { right, state, decision: decided::decision(random, &state) };
@@ -51,10 +49,15 @@ pub fn asked(random: &mut Random) -> (Card, Vec<u8>, State) {
 
 /// A rule of any right under a state, which it was made for.
 pub fn rule_and_state(random: &mut Random) -> (crate::Rule, State) {
-    let (state, right) = (decided::state(random), random.pick(Right::ALL));
-    let wish = Wish { right, state, decision: decided::decision(random, &state) };
+    let wish = decided::some_wish(random);
     let edition = crate::editions::any(random);
-    (decided::rule(random, edition, &wish), state)
+    (decided::rule(random, edition, &wish), wish.state)
+}
+
+/// A command for a card that asks one of its rules, or two.
+pub(crate) fn some_command(random: &mut Random, card: &Card) -> Asking {
+    let found = (0..TRIES).find_map(|_| command(random, card));
+    found.unwrap_or_else(|| (bare(0xFE), vec![(0, Right::Terminate)]))
 }
 
 /// A small card, more often one with an EF that can be read.
@@ -67,7 +70,7 @@ fn some_card(random: &mut Random) -> Card {
 }
 
 /// Mostly no other channel; bits that do not count, seldom one that does.
-fn channels(random: &mut Random) -> u8 {
+pub(crate) fn channels(random: &mut Random) -> u8 {
     match random.below(20) {
         0 => random.pick([0x02, 0x04, 0x08, 0x0E, 0xFF]),
         1 | 2 => random.pick([0x01, 0xF0, 0xF1]),

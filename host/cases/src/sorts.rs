@@ -6,7 +6,7 @@ use std::collections::BTreeMap;
 use crate::again::{Played, Remade};
 
 /// Every sort of file that a template can tell of.
-pub const TOLD: [&str; 15] = [
+pub const TOLD: [&str; 16] = [
     "DF",
     "EF",
     "with a name",
@@ -14,6 +14,7 @@ pub const TOLD: [&str; 15] = [
     "with a compact rule of 16 bytes",
     "with a compact rule of more bytes",
     "with an expanded rule",
+    "with a referred rule",
     "with a rule of 30 bytes",
     "with a rule of 28 bytes",
     "life cycle 01",
@@ -72,7 +73,7 @@ fn sorts_of(file: &Remade) -> Vec<String> {
     let part = |at: usize, length: usize| file.old.get(at..at + length).unwrap_or_default();
     let size = part(12, 4).iter().fold(0, |size, &byte| size << 8 | u32::from(byte));
     let life_cycle = part(2, 1).iter().map(|byte| format!("life cycle {byte:02X}"));
-    let compact = part(3, 1) == [0];
+    let [compact, expanded, referred] = [0, 1, 2].map(|form| part(3, 1) == [form]);
     let rule_bytes = part(33, 1).first().copied().unwrap_or(0);
     let others = [
         (true, ALL),
@@ -82,7 +83,8 @@ fn sorts_of(file: &Remade) -> Vec<String> {
         (part(10, 2) != [0, 0], "with records"),
         (compact && rule_bytes == 16, "with a compact rule of 16 bytes"),
         (compact && rule_bytes > 16, "with a compact rule of more bytes"),
-        (!compact, "with an expanded rule"),
+        (expanded, "with an expanded rule"),
+        (referred, "with a referred rule"),
         (rule_bytes == 30, "with a rule of 30 bytes"),
         (rule_bytes == 28, "with a rule of 28 bytes"),
         (size >= 0x4000, LARGE),

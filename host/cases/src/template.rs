@@ -206,7 +206,7 @@ pub fn good(random: &mut Random, edition: Edition) -> FileData {
         data.name = Some(random.bytes(length));
     }
     data.life_cycle = life_cycles::of_a_new_file(random);
-    data.rule = rules::well_formed(random, edition);
+    data.rule = rules::of_any_form(random, edition);
     debug_assert!(model::rule::fit(edition, data.rule.form, &data.rule.bytes));
     if random.chance(10) {
         fill_to(&mut data, random.pick([0x7E, 0x7F]));

@@ -69,6 +69,33 @@ pub fn far_apart_of(slots: usize) -> Vec<Worst> {
     vec![Worst { title: "bodies far apart", image: bodies_far_apart(slots).encode() }]
 }
 
+/// A card of version 3 with so many slots, at least 16, and its pool, on which a
+/// rule is looked for through as many directories as can be, and is as long as
+/// can be (02, Ticket 7). Every directory refers to the first record of a file in
+/// the root; the innermost is current.
+pub fn referred_of(slots: usize) -> (Worst, Vec<u8>) {
+    let mut filling = Filling::new(slots);
+    filling.card.edition = Edition::of(Version::Three);
+    let rule = [mode(0x7F), object(tags::NEVER, &[]).repeat(125), object(tags::ALWAYS, &[])];
+    let rule = rule.concat();
+    let size = rule.len() as u32;
+    let record_length = rule.len() as u16;
+    filling.add(0, Record { descriptor: 0x42, record_length, ..ef(0x2F06, size) });
+    let (mut parent, mut total) = (0, filling.card.room(0) as u32);
+    while total > 64 {
+        total -= 64;
+        parent = filling.add(parent, df(0x7000 + filling.next as u16, total));
+    }
+    for record in filling.card.records.iter_mut().filter(|record| record.is_df()) {
+        (record.form, record.rule) = (Form::Referred, vec![0x2F, 0x06, 1]);
+    }
+    filling.card.make_current(parent);
+    let mut pool = rule;
+    pool.resize(largest_total(slots) as usize, 0);
+    let title = "a rule looked for through every directory";
+    (Worst { title, image: filling.card.encode() }, pool)
+}
+
 /// EFs in the root in half the slots, the last one's body the lowest, all with
 /// the same gap below; the room is larger than any gap.
 fn bodies_far_apart(slots: usize) -> Card {

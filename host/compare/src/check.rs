@@ -4,7 +4,9 @@
 use cases::{Case, History, Lent};
 use model::ledger::{current_df_slot, Ledger};
 use model::lines::Case as Line;
+use model::rule::Form;
 use model::words::Word;
+use model::Card;
 
 use crate::again::check_again;
 use crate::contents::{self, Contents};
@@ -15,12 +17,14 @@ use crate::ledger::{heard, Ledger as Stated};
 use crate::opened;
 use crate::outcome::{run, Outcome};
 use crate::rights::lines_of_rule;
+use crate::standing;
 use crate::subject::Pair;
 use crate::tally::Tally;
 
-/// Compares card and model on one line, what both give with demand 1, and what the
-/// card refuses for security with what it does under full sets; gives what both
-/// give, or nothing where the card has no call for the line.
+/// Compares card and model on one line, what both give with demand 1, what the
+/// card refuses for security with what it does under full sets, and where it says
+/// that a rule stands with what stands there; gives what both give, or nothing where
+/// the card has no call for the line.
 pub fn check_line(
     pair: Pair,
     line: &Line,
@@ -39,6 +43,10 @@ pub fn check_line(
     }
     if let Some(complaint) = opened::complaint(pair.card, line, &given) {
         return Err(Disagreement::Opened { line: line.clone().into(), complaint });
+    }
+    if let Some(complaint) = standing::complaint(pair.card, line, &given) {
+        let (line, given) = (line.clone().into(), given.into());
+        return Err(Disagreement::Standing { line, given, complaint });
     }
     tally.count(line, &given);
     Ok(Some(given))
@@ -104,8 +112,20 @@ fn differ(model: &Ledger, stated: &Stated) -> Option<String> {
     })
 }
 
-/// Plays a history command by command; after each a report, the ledgers and what
-/// the files hold.
+/// Where another file keeps the current file's rule, asks where it stands: whoever
+/// wrote that file may have changed it.
+fn check_rule(pair: Pair, lent: &Lent, tally: &mut Tally) -> Result<(), Disagreement> {
+    let Some(card) = Card::decode(&lent.image) else { return Ok(()) };
+    let slot = card.current_ef.unwrap_or(card.current_df);
+    if card.record(slot).form != Form::Referred {
+        return Ok(());
+    }
+    let Lent { image, pool } = lent.clone();
+    check_line(pair, &Line::Deciding { image, pool, slot }, tally).map(|_| ())
+}
+
+/// Plays a history command by command; after each a report, where the current
+/// file's rule stands, the ledgers and what the files hold.
 pub fn check_history(pair: Pair, history: &History, tally: &mut Tally) -> Result<(), Disagreement> {
     let made = check_line(pair, &history.make(), tally)?;
     let Some(Outcome::Make { answer: 0, buffer: image }) = made else {
@@ -120,6 +140,7 @@ pub fn check_history(pair: Pair, history: &History, tally: &mut Tally) -> Result
         let Some(Outcome::Command { told, image, pool, response }) = outcome else { continue };
         let before = std::mem::replace(&mut lent, Lent { image, pool });
         let report = check_line(pair, &Line::Report { image: lent.image.clone() }, tally)?;
+        check_rule(pair, &lent, tally)?;
         tally.ledger_steps += 1;
         let (command, word) = (step.command.as_slice(), told.word);
         let slot = current_df_slot(&before.image);

@@ -44,6 +44,16 @@ pub enum Disagreement {
         /// What it does.
         complaint: String,
     },
+    /// Card and model agree where a rule stands, and not with what stands there or
+    /// with commands that ask it.
+    Standing {
+        /// The line.
+        line: Box<Line>,
+        /// What both give.
+        given: Box<Outcome>,
+        /// What is wrong.
+        complaint: String,
+    },
     /// Card and model agree, and a file's template does not make it again.
     Again {
         /// The card that holds the file.
@@ -77,6 +87,9 @@ impl fmt::Display for Disagreement {
             }
             Disagreement::Opened { line, complaint } => {
                 write!(f, "{}\n# told of the refusal: {complaint}", line.line())
+            }
+            Disagreement::Standing { line, given, complaint } => {
+                write!(f, "{}\n# both give {given}\n# and yet: {complaint}", line.line())
             }
             Disagreement::Again { lines, complaint, .. } => {
                 writeln!(f, "# a file is not made again: {complaint}; the calls:")?;

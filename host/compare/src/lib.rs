@@ -1,8 +1,9 @@
 //! The proved card against the model (01: "Other cases are run by program and
 //! compared with an independent one"): answer, word, numbers and every byte
 //! of image, pool and response buffer, what demand 1 says of them, what full
-//! sets open of what was refused, demand 3's two ledgers and what the files hold
-//! beside every history, and files made again by their templates.
+//! sets open of what was refused, where a deciding rule stands, demand 3's two
+//! ledgers and what the files hold beside every history, and files made again by
+//! their templates.
 //!
 //! A disagreement is shrunk to the smallest case that still shows it, and
 //! told as a line of the vectors, which the program `compare` runs again.
@@ -15,11 +16,12 @@
 //! | how much was compared, what disagrees | [`tally`], [`disagreement`] |
 //! | what demand 1 says of a command | [`demand1`] |
 //! | what lacking and closed mean, by full sets | [`opened`] |
+//! | where a rule stands, by what stands there and by commands that ask it | [`standing`] |
 //! | demand 3's ledger, and what is said of a command with it | [`ledger`], [`demand3`] |
 //! | what the files of a history hold | [`contents`] |
 //! | files made again by their templates | [`again`] |
 //! | whether a rule is fit, and its seven decisions, by other calls | [`rights`] |
-//! | making a case smaller | [`shrink`], [`pieces`], [`smaller`], [`laid`] |
+//! | making a case smaller | [`shrink`], [`pieces`], [`parts`], [`smaller`], [`laid`], [`records`] |
 //! | stored and shared vectors | [`vectors`] |
 
 #![forbid(unsafe_code)]
@@ -35,10 +37,13 @@ pub mod laid;
 pub mod ledger;
 pub mod opened;
 pub mod outcome;
+pub mod parts;
 pub mod pieces;
+pub mod records;
 pub mod rights;
 pub mod shrink;
 pub mod smaller;
+pub mod standing;
 pub mod subject;
 pub mod tally;
 pub mod vectors;

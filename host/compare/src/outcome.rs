@@ -41,6 +41,16 @@ pub enum Outcome {
         /// What is printed.
         output: Vec<u8>,
     },
+    /// D.
+    Rule {
+        /// 0, 1 or 6.
+        answer: u32,
+        /// Where the rule stands: 0 nowhere, 1 in the image, 2 in the pool; its
+        /// first byte there; how many bytes.
+        numbers: [u32; 3],
+        /// The bytes there; none if they are not all in the buffer.
+        rule: Vec<u8>,
+    },
 }
 
 /// Runs a line; nothing for E and W, for which the card has no call of its
@@ -62,8 +72,28 @@ pub fn run(subject: &dyn Subject, line: &Line) -> Option<Outcome> {
             Some(Outcome::Report { answer, numbers, sound: subject.sound(image) })
         }
         Line::Replay { input } => Some(Outcome::Replay { output: subject.replay(input) }),
+        Line::Deciding { image, pool, slot } => {
+            // No image has as many slots, so that all that is larger is past the last.
+            let slot = u32::try_from(*slot).unwrap_or(u32::MAX);
+            let (answer, numbers) = subject.rule(image, pool, slot);
+            let rule = part(image, pool, numbers).unwrap_or_default().to_vec();
+            Some(Outcome::Rule { answer, numbers, rule })
+        }
         Line::Decide { .. } | Line::Fit { .. } => None,
     }
+}
+
+/// The part of image or pool that a rule's three numbers tell; nothing for
+/// nowhere, and where it is not all in its buffer.
+pub fn part<'a>(image: &'a [u8], pool: &'a [u8], numbers: [u32; 3]) -> Option<&'a [u8]> {
+    let [sort, from, length] = numbers.map(|number| usize::try_from(number).ok());
+    let (from, length) = (from?, length?);
+    let buffer = match sort? {
+        1 => image,
+        2 => pool,
+        _ => return None,
+    };
+    buffer.get(from..from.checked_add(length)?)
 }
 
 impl Outcome {
@@ -80,17 +110,29 @@ impl Outcome {
                 format!("R {answer} {total} {room} {children} {beneath}")
             }
             Outcome::Replay { output } => format!("Y {}", hex(output)),
+            Outcome::Rule { numbers: [sort, from, _], rule, .. } => {
+                let sort = match sort {
+                    0 => "none".to_string(),
+                    1 => "record".to_string(),
+                    2 => "pool".to_string(),
+                    unknown => unknown.to_string(),
+                };
+                format!("D {sort} {from} {}", hex(rule))
+            }
         }
     }
 }
 
-/// The vectors' result, and for a report what the vectors do not tell.
+/// The vectors' result, and for a report and a rule what the vectors do not tell.
 impl fmt::Display for Outcome {
     fn fmt(&self, f: &mut fmt::Formatter<'_>) -> fmt::Result {
         f.write_str(&self.result())?;
         match self {
             Outcome::Report { sound: true, .. } => f.write_str(" (sound)"),
             Outcome::Report { sound: false, .. } => f.write_str(" (not sound)"),
+            Outcome::Rule { answer, numbers: [.., length], .. } => {
+                write!(f, " (answer {answer}, {length} bytes)")
+            }
             _ => Ok(()),
         }
     }

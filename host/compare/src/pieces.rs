@@ -5,14 +5,19 @@ use model::lines::Case as Line;
 use model::State;
 
 use crate::laid::{laid, pool_for, Laying};
-use crate::smaller::{cut, freed, lifted, packed, short_records, slots_of, tightened};
+use crate::parts::{bytes_of, image_of, pool_of, response_of};
+use crate::parts::{
+    with_bytes, with_bytes_of_image, with_pool, with_response, with_slot, with_state,
+};
+use crate::records::{changed, changes_of, owned, Change};
+use crate::smaller::{cut, freed, lifted, packed, rank, short_records, slots_of, tightened};
 
 /// The room that tightening leaves: none, or enough that a CREATE can still
 /// succeed.
 const ROOMS: [u32; 4] = [0, 128, 512, 4096];
 
 /// What counts as smaller: fewer bytes, then more plain ones among them, then a
-/// plainer state.
+/// plainer state, or a lower slot.
 pub fn weight(line: &Line) -> (usize, usize, usize) {
     let image = image_of(line).unwrap_or(&[]);
     let bytes = bytes_of(line);
@@ -25,6 +30,7 @@ pub fn weight(line: &Line) -> (usize, usize, usize) {
         Line::Command { state, .. } if *state == State::FULL => 0,
         Line::Command { state, .. } if *state == State::EMPTY => 1,
         Line::Command { state, .. } if state.channels == 0 => 2,
+        Line::Deciding { slot, .. } => *slot,
         _ => 3,
     };
     (image.len() + bytes.len() + response.len() + pool.len(), marked, state)
@@ -47,6 +53,12 @@ pub enum Piece {
     Tighten(u32, Laying),
     /// The same, with records of one byte.
     TightenRecords(u32, Laying),
+    /// Records in which rules are kept, smaller or plainer.
+    Records(usize, Change),
+    /// References from a slot on, of so many records, become open rules.
+    Own(usize, usize),
+    /// Another slot that is asked for.
+    Slot(usize),
     /// One byte of the image zero.
     ImageByte(usize),
     /// Bytes of the command, rule or input from a place on left out.
@@ -85,6 +97,11 @@ pub fn pieces_of(line: &Line) -> Vec<Piece> {
             all.extend(ROOMS.map(|room| Piece::TightenRecords(room, laying)));
         }
     }
+    all.extend([0, slots].map(Piece::Slot));
+    for width in std::iter::once(slots).chain(halves(slots)) {
+        all.extend((0..slots).step_by(width).map(|slot| Piece::Own(slot, width)));
+    }
+    all.extend(changes_of(image).into_iter().map(|(slot, change)| Piece::Records(slot, change)));
     for width in halves(bytes) {
         all.extend((0..bytes).rev().step_by(width).map(|at| Piece::Remove(at, width)));
     }
@@ -112,13 +129,26 @@ impl Piece {
             Piece::Slots(slots) => with_image(line, cut(image_of(line)?, slots)?),
             Piece::Free(slot, count) => with_image(line, freed(image_of(line)?, slot, count)?),
             Piece::Lift(slot, count) => with_image(line, lifted(image_of(line)?, slot, count)?),
-            Piece::Pack(spare) => with_image(line, packed(image_of(line)?, spare)?),
+            Piece::Pack(spare) => {
+                let new = packed(image_of(line)?, spare)?;
+                moved(line, with_image(line, new)?)
+            }
             Piece::Tighten(room, laying) => {
-                with_bodies(line, tightened(image_of(line)?, room)?, laying)
+                let new = tightened(image_of(line)?, room)?;
+                moved(line, with_bodies(line, new, laying)?)
             }
             Piece::TightenRecords(room, laying) => {
-                with_bodies(line, tightened(&short_records(image_of(line)?)?, room)?, laying)
+                let new = tightened(&short_records(image_of(line)?)?, room)?;
+                moved(line, with_bodies(line, new, laying)?)
             }
+            Piece::Records(slot, change) => {
+                let (image, pool) = changed(image_of(line)?, pool_of(line), slot, change)?;
+                with_pool(&with_bytes_of_image(line, image)?, pool)
+            }
+            Piece::Own(slot, count) => {
+                with_bytes_of_image(line, owned(image_of(line)?, slot, count)?)
+            }
+            Piece::Slot(slot) => with_slot(line, slot),
             Piece::ImageByte(at) => with_bytes_of_image(line, zeroed(image_of(line)?, at)?),
             Piece::Byte(at) => Some(with_bytes(line, zeroed(bytes_of(line), at)?)),
             Piece::Data => Some(with_bytes(line, without_data(bytes_of(line))?)),
@@ -166,40 +196,6 @@ fn zeroed(bytes: &[u8], at: usize) -> Option<Vec<u8>> {
     Some(bytes)
 }
 
-fn image_of(line: &Line) -> Option<&[u8]> {
-    match line {
-        Line::Command { image, .. } | Line::Report { image } => Some(image),
-        Line::Make { buffer, .. } => Some(buffer),
-        _ => None,
-    }
-}
-
-/// The command, the maker's rule, or replay's input.
-fn bytes_of(line: &Line) -> &[u8] {
-    match line {
-        Line::Command { command, .. } => command,
-        Line::Make { rule, .. } => rule,
-        Line::Replay { input } => input,
-        _ => &[],
-    }
-}
-
-/// The response buffer of a command.
-fn response_of(line: &Line) -> &[u8] {
-    match line {
-        Line::Command { response, .. } => response,
-        _ => &[],
-    }
-}
-
-/// The pool of a command.
-fn pool_of(line: &Line) -> &[u8] {
-    match line {
-        Line::Command { pool, .. } => pool,
-        _ => &[],
-    }
-}
-
 /// The line with a smaller image, and a pool for it.
 fn with_image(line: &Line, new: Vec<u8>) -> Option<Line> {
     with_bodies(line, new, Laying::High)
@@ -214,51 +210,10 @@ fn with_bodies(line: &Line, new: Vec<u8>, laying: Laying) -> Option<Line> {
     Some(with_pool(&smaller, pool).unwrap_or(smaller))
 }
 
-/// The line with other bytes for its image, and nothing else changed.
-fn with_bytes_of_image(line: &Line, new: Vec<u8>) -> Option<Line> {
-    let mut line = line.clone();
-    match &mut line {
-        Line::Command { image, .. } | Line::Report { image } => *image = new,
-        Line::Make { buffer, .. } => *buffer = new,
-        _ => return None,
+/// The line whose used records were put side by side, asked for the same file.
+fn moved(before: &Line, after: Line) -> Option<Line> {
+    match before {
+        Line::Deciding { image, slot, .. } => with_slot(&after, rank(image, *slot)),
+        _ => Some(after),
     }
-    Some(line)
-}
-
-fn with_bytes(line: &Line, new: Vec<u8>) -> Line {
-    let mut line = line.clone();
-    match &mut line {
-        Line::Command { command, .. } => *command = new,
-        Line::Make { rule, .. } => *rule = new,
-        Line::Replay { input } => *input = new,
-        _ => {}
-    }
-    line
-}
-
-fn with_response(line: &Line, new: Vec<u8>) -> Option<Line> {
-    let mut line = line.clone();
-    match &mut line {
-        Line::Command { response, .. } => *response = new,
-        _ => return None,
-    }
-    Some(line)
-}
-
-fn with_pool(line: &Line, new: Vec<u8>) -> Option<Line> {
-    let mut line = line.clone();
-    match &mut line {
-        Line::Command { pool, .. } => *pool = new,
-        _ => return None,
-    }
-    Some(line)
-}
-
-fn with_state(line: &Line, new: State) -> Option<Line> {
-    let mut line = line.clone();
-    match &mut line {
-        Line::Command { state, .. } => *state = new,
-        _ => return None,
-    }
-    Some(line)
 }

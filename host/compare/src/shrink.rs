@@ -21,7 +21,8 @@ pub fn smallest(pair: Pair, found: Disagreement) -> Disagreement {
     match found {
         Disagreement::Line { line, .. }
         | Disagreement::Demand1 { line, .. }
-        | Disagreement::Opened { line, .. } => {
+        | Disagreement::Opened { line, .. }
+        | Disagreement::Standing { line, .. } => {
             let shows = |line: &Line| check_line(pair, line, &mut Tally::default()).is_err();
             let line = smallest_line(*line, &shows);
             match check_line(pair, &line, &mut Tally::default()) {
@@ -70,9 +71,10 @@ fn smallest_again(pair: Pair, whole: &Again) -> Option<Disagreement> {
 /// A disagreement that shows in one line is made smaller as that.
 fn smaller_of_another_sort(pair: Pair, found: Disagreement) -> Disagreement {
     match found {
-        Disagreement::Line { .. } | Disagreement::Demand1 { .. } | Disagreement::Opened { .. } => {
-            smallest(pair, found)
-        }
+        Disagreement::Line { .. }
+        | Disagreement::Demand1 { .. }
+        | Disagreement::Opened { .. }
+        | Disagreement::Standing { .. } => smallest(pair, found),
         _ => found,
     }
 }

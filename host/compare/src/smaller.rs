@@ -53,6 +53,11 @@ pub fn freed(image: &[u8], slot: usize, count: usize) -> Option<Vec<u8>> {
 pub fn lifted(image: &[u8], slot: usize, count: usize) -> Option<Vec<u8>> {
     let gone = slot..slot + count;
     let mut smaller = freed(image, slot, count)?;
+    // A current EF moves with its directory.
+    let ef = number(image, CURRENT_EF)?;
+    if ef != NO_EF && !gone.contains(&usize::from(ef)) {
+        put(&mut smaller, CURRENT_EF, ef)?;
+    }
     let mut used: Vec<usize> = (1..slots_of(image)).filter(|&at| is_used(&smaller, at)).collect();
     used.sort_by_key(|&at| number(image, at_record(at) + LEVEL));
     for at in used {
@@ -89,6 +94,18 @@ pub fn packed(image: &[u8], spare: usize) -> Option<Vec<u8>> {
     let ef = number(image, CURRENT_EF)?;
     put(&mut smaller, CURRENT_EF, if ef == NO_EF { NO_EF } else { place(ef)? })?;
     cut(&smaller, slots)
+}
+
+/// Where a slot's record is when the used records stand side by side; a free slot
+/// comes behind them.
+pub fn rank(image: &[u8], slot: usize) -> usize {
+    let before =
+        |end: usize| (0..end.min(slots_of(image))).filter(|&at| is_used(image, at)).count();
+    if is_used(image, slot) {
+        before(slot)
+    } else {
+        before(usize::MAX).max(2) + slot.saturating_sub(slots_of(image))
+    }
 }
 
 /// The image with sizes no larger than they must be: an EF of one byte or one
@@ -138,8 +155,9 @@ fn nearest_left(image: &[u8], slot: u16, gone: &std::ops::Range<usize>) -> Optio
     Some(left)
 }
 
+/// Past every image for a slot that none has.
 fn at_record(slot: usize) -> usize {
-    HEADER + RECORD * slot
+    RECORD.saturating_mul(slot).saturating_add(HEADER)
 }
 
 fn is_used(image: &[u8], slot: usize) -> bool {

@@ -1,5 +1,6 @@
 //! Who can be compared: whatever offers the calls of 01 with their numbers.
 
+use model::deciding::{place_of, Place};
 use model::replay::{MOST_BYTES, ROOT_RULE};
 use model::{fcp, State};
 
@@ -33,6 +34,11 @@ pub trait Subject {
 
     /// The report's answer and numbers.
     fn report(&self, image: &[u8]) -> (u32, [u32; 4]);
+
+    /// Where the rule stands that decides on the file in a slot (02, Ticket 7): the
+    /// answer; 0 nowhere, 1 in the image or 2 in the pool, its first byte there, and
+    /// how many bytes it has.
+    fn rule(&self, image: &[u8], pool: &[u8], slot: u32) -> (u32, [u32; 3]);
 
     /// Whether the image is sound.
     fn sound(&self, image: &[u8]) -> bool;
@@ -107,6 +113,10 @@ impl Subject for Proved {
         card::ffi::report(image)
     }
 
+    fn rule(&self, image: &[u8], pool: &[u8], slot: u32) -> (u32, [u32; 3]) {
+        card::ffi::rule(image, pool, slot)
+    }
+
     fn sound(&self, image: &[u8]) -> bool {
         card::ffi::sound(image) == 1
     }
@@ -137,6 +147,16 @@ impl Subject for Model {
     fn report(&self, image: &[u8]) -> (u32, [u32; 4]) {
         let (answer, numbers) = model::report(image);
         (u32::from(answer), numbers)
+    }
+
+    fn rule(&self, image: &[u8], pool: &[u8], slot: u32) -> (u32, [u32; 3]) {
+        let (answer, place) = place_of(image, pool, slot as usize);
+        let numbers = match place {
+            Place::Nowhere => [0; 3],
+            Place::InImage { from, to } => [1, from as u32, (to - from) as u32],
+            Place::InPool { from, to } => [2, from as u32, (to - from) as u32],
+        };
+        (answer, numbers)
     }
 
     fn sound(&self, image: &[u8]) -> bool {

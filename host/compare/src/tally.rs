@@ -38,6 +38,12 @@ pub struct Tally {
     pub packings: u64,
     /// Files made again by their templates.
     pub made_again: u64,
+    /// Questions where a rule stands.
+    pub places: u64,
+    /// Those whose rule stands in the pool.
+    pub in_pools: u64,
+    /// Those of a good card and pool whose rule stands nowhere.
+    pub nowhere: u64,
 }
 
 impl Tally {
@@ -57,6 +63,11 @@ impl Tally {
             }
             Outcome::Report { .. } => self.reports += 1,
             Outcome::Replay { .. } => self.replays += 1,
+            Outcome::Rule { answer, numbers: [sort, ..], .. } => {
+                self.places += 1;
+                self.in_pools += u64::from(*sort == 2);
+                self.nowhere += u64::from((*answer, *sort) == (0, 0));
+            }
         }
     }
 
@@ -90,6 +101,9 @@ impl std::ops::AddAssign for Tally {
         self.updates += other.updates;
         self.packings += other.packings;
         self.made_again += other.made_again;
+        self.places += other.places;
+        self.in_pools += other.in_pools;
+        self.nowhere += other.nowhere;
     }
 }
 
@@ -97,12 +111,14 @@ impl fmt::Display for Tally {
     fn fmt(&self, f: &mut fmt::Formatter<'_>) -> fmt::Result {
         let Tally { cases, makes, commands, effects, lacking, closed, reports, replays, .. } = self;
         let Tally { ledger_steps, templates, reads, updates, packings, made_again, .. } = self;
+        let Tally { places, in_pools, nowhere, .. } = self;
         write!(
             f,
             "{cases} cases, {commands} commands ({effects} with effect, {lacking} lacking, {closed} \
              closed, {ledger_steps} beside the ledger, {templates} with a template, {reads} READ, \
              {updates} UPDATE, {packings} that moved bodies), {made_again} files made again, \
-             {makes} makes, {reports} reports, {replays} replays"
+             {makes} makes, {reports} reports, {replays} replays, {places} rules looked for \
+             ({in_pools} in the pool, {nowhere} nowhere)"
         )
     }
 }

@@ -2,7 +2,8 @@
 //! Steps A to G are here and common to all; steps H to L stand, in their
 //! order, in the module of each command. The response buffer is looked at last
 //! of all (02, Ticket 2), the pool's length before the command (Ticket 4). A
-//! refusal for security has a number beside its word (Ticket 6).
+//! refusal for security has a number beside its word (Ticket 6); the rule that
+//! refuses may stand in the pool (Ticket 7), so every judge is lent it.
 
 use crate::answers::{Answer, DONE, SHORT_BUFFER, UNSOUND, WRONG_POOL};
 use crate::bodies;
@@ -183,11 +184,11 @@ fn judge(card: &mut Card, pool: &mut [u8], command: &[u8], state: &State) -> Res
         Instruction::Update(unit) => read_update::update(card, pool, command, unit, state),
         Instruction::Create => create::run(card, pool, data, state),
         Instruction::Delete => delete::run(card, pool, number16(data, 0), state),
-        Instruction::Activate => change::activate(card, state),
-        Instruction::Deactivate => change::deactivate(card, state),
-        Instruction::TerminateEf => change::terminate_ef(card, state),
-        Instruction::TerminateDf => change::terminate_df(card, state),
-        Instruction::TerminateCard => change::terminate_card(card, state),
+        Instruction::Activate => change::activate(card, pool, state),
+        Instruction::Deactivate => change::deactivate(card, pool, state),
+        Instruction::TerminateEf => change::terminate_ef(card, pool, state),
+        Instruction::TerminateDf => change::terminate_df(card, pool, state),
+        Instruction::TerminateCard => change::terminate_card(card, pool, state),
     };
     word.map(Told::word)
 }

@@ -1,21 +1,21 @@
 //! The one place for what differs between cards: the level (how many tickets
 //! of document 02 have landed), the image version and the variant. 01, "Image"
-//! (version 1, header bytes 11 to 15 zero); 02, Ticket 3 (version 2) and Ticket
-//! 4 (version 3).
+//! (version 1, header bytes 11 to 15 zero); 02, Ticket 3 (version 2), Ticket 4
+//! (version 3) and Ticket 7 (rules kept in a file).
 
 use crate::rule::Form;
 
 /// How many tickets the model contains; names the vectors it is tested with.
-pub const LEVEL: u8 = 6;
+pub const LEVEL: u8 = 7;
 
 /// The image version, header bytes 3 and 4.
 #[derive(Clone, Copy, PartialEq, Eq, Debug)]
 pub enum Version {
     /// Compact rules of up to 16 bytes, no bodies.
     One,
-    /// Rules of either form, of up to 30 bytes, no bodies.
+    /// Compact and expanded rules of up to 30 bytes, no bodies.
     Two,
-    /// Rules of either form, of up to 28 bytes, bodies in a pool.
+    /// Rules of all three forms, of up to 28 bytes, bodies in a pool.
     Three,
 }
 
@@ -100,7 +100,8 @@ impl Edition {
     pub fn takes(self, form: Form) -> bool {
         match self.version {
             Version::One => form == Form::Compact,
-            Version::Two | Version::Three => true,
+            Version::Two => form != Form::Referred,
+            Version::Three => true,
         }
     }
 

@@ -18,6 +18,7 @@
 //! | descriptor, life cycle | [`descriptor`], [`life_cycle`] |
 //! | rules of each form | [`rule`], [`compact`], [`expanded`] |
 //! | security state, what a rule decides under it | [`security`], [`decision`] |
+//! | which rule decides, and where it stands | [`deciding`] |
 //! | maker, report, replay | [`maker`], [`mod@report`], [`mod@replay`] |
 //! | steps A to G of a command | [`mod@command`] |
 //! | why a command is refused | [`refusal`] |
@@ -45,6 +46,7 @@ pub mod card;
 pub mod command;
 pub mod commands;
 pub mod compact;
+pub mod deciding;
 pub mod decision;
 pub mod descriptor;
 pub mod edition;

@@ -3,6 +3,7 @@
 //! hex, `-` for none; sets and channels are hex numbers, all others decimal.
 
 use crate::bytes::byte;
+use crate::deciding::{deciding, Place};
 use crate::edition::{Edition, Version};
 use crate::rule::{self, Form, Right};
 use crate::security::State;
@@ -65,6 +66,15 @@ pub enum Case {
         /// The rule, of any length.
         rule: Vec<u8>,
     },
+    /// D: which rule decides on a file.
+    Deciding {
+        /// The image.
+        image: Vec<u8>,
+        /// The pool; on a card without bodies of any length.
+        pool: Vec<u8>,
+        /// The file's slot.
+        slot: usize,
+    },
 }
 
 impl Case {
@@ -117,6 +127,11 @@ impl Case {
                 form: form.parse().ok()?,
                 rule: from_hex(rule)?,
             }),
+            ["D", image, pool, slot] => Some(Case::Deciding {
+                image: from_hex(image)?,
+                pool: from_hex(pool)?,
+                slot: slot.parse().ok()?,
+            }),
             _ => None,
         }
     }
@@ -139,6 +154,9 @@ impl Case {
                 format!("E {form} {} {}", hex(rule), sets(state))
             }
             Case::Fit { version, form, rule } => format!("W {version} {form} {}", hex(rule)),
+            Case::Deciding { image, pool, slot } => {
+                format!("D {} {} {slot}", hex(image), hex(pool))
+            }
         }
     }
 
@@ -166,14 +184,16 @@ impl Case {
             Case::Fit { version, form, rule } => {
                 format!("W {}", u8::from(fit(*version, *form, rule)))
             }
+            Case::Deciding { image, pool, slot } => format!("D {}", place(image, pool, *slot)),
         }
     }
 }
 
 /// Seven digits, b7 first: 0 granted, 1 lacking, 2 closed; or `malformed`, which
-/// a rule of an unknown form is too.
+/// a rule of an unknown form is too. A reference has no card here, so it leads
+/// nowhere, and that is closed.
 fn decisions(form: u32, rule: &[u8], state: &State) -> String {
-    let well_formed = |form: &Form| rule::groups(*form, rule).is_some();
+    let well_formed = |form: &Form| rule::well_formed(*form, rule);
     let Some(form) = Form::from_number(form).filter(well_formed) else {
         return "malformed".to_string();
     };
@@ -187,6 +207,18 @@ fn fit(version: u32, form: u32, rule: &[u8]) -> bool {
         (Some(version), Some(form)) => rule::fit(Edition::of(version), form, rule),
         _ => false,
     }
+}
+
+/// Record or pool, the offset in image or pool, and the rule. No answer is told:
+/// a card that is refused has no deciding rule either.
+fn place(image: &[u8], pool: &[u8], slot: usize) -> String {
+    let place = deciding(image, pool, slot);
+    let (name, from) = match place {
+        Place::Nowhere => ("none", 0),
+        Place::InImage { from, .. } => ("record", from),
+        Place::InPool { from, .. } => ("pool", from),
+    };
+    format!("{name} {from} {}", hex(place.bytes(image, pool)))
 }
 
 fn state(messaging: &str, external: &str, user: &str, channels: &str) -> Option<State> {

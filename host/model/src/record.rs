@@ -1,13 +1,11 @@
-//! One record of the image: the table of 01, "Image", with byte 3 as 02, Ticket
-//! 3, has it, and the last two bytes as Ticket 4 has them. Decoding checks what
+//! One record of the image: the table of 01, "Image", with byte 3 as 02, Tickets
+//! 3 and 7, have it, and the last two bytes as Ticket 4 has them. Decoding checks what
 //! the layout alone says (lengths, padding, zero bytes); [`crate::soundness`]
 //! checks what the fields mean, and whether the version has the rule's form.
 
 use crate::bytes::{all_zero, byte, number16, number32, part, push_padded, rest};
-use crate::decision::Decision;
 use crate::edition::Edition;
-use crate::rule::{self, Form, Right};
-use crate::security::State;
+use crate::rule::Form;
 
 /// Bytes in a record.
 pub const RECORD_BYTES: usize = 64;
@@ -18,7 +16,8 @@ const FORM_AT: usize = 3;
 const NAME_LENGTH_AT: usize = 16;
 const NAME_AT: usize = 17;
 const RULE_LENGTH_AT: usize = 33;
-const RULE_AT: usize = 34;
+/// Where the rule stands.
+pub const RULE_AT: usize = 34;
 /// Where the start of a body stands, in a version with bodies.
 const START_AT: usize = 62;
 
@@ -56,7 +55,7 @@ pub struct Record {
     pub name: Vec<u8>,
     /// How the rule is written.
     pub form: Form,
-    /// Access rule.
+    /// Access rule; of a referred one the three bytes.
     pub rule: Vec<u8>,
     /// Where an EF's body starts in the pool; 0 in a DF, and where there are no
     /// bodies.
@@ -99,16 +98,6 @@ impl Record {
     /// that the largest size does not wrap.
     pub fn charge(&self) -> u64 {
         charge(self.size)
-    }
-
-    /// What the file's rule decides on a right.
-    pub fn decide(&self, right: Right, state: &State) -> Decision {
-        rule::decide(self.form, &self.rule, right, state)
-    }
-
-    /// Whether the file's rule grants a right.
-    pub fn grants(&self, right: Right, state: &State) -> bool {
-        self.decide(right, state).is_granted()
     }
 
     /// Reads 64 bytes; nothing if the layout is broken.

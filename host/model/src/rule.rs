@@ -1,6 +1,7 @@
 //! Access rules, whatever their form: what they can allow, and how one
-//! decides. How each form is written stands in [`compact`] and [`expanded`];
-//! both are read into the same groups.
+//! decides. How the first two forms are written stands in [`compact`] and
+//! [`expanded`]; both are read into the same groups. A referred rule has no
+//! groups of its own: [`crate::deciding`] tells which rule decides for it.
 
 use crate::decision::Decision;
 use crate::edition::Edition;
@@ -58,17 +59,23 @@ pub enum Form {
     Compact,
     /// Data objects, tag AB.
     Expanded,
+    /// Identifier and record number of a rule kept in a file, tag 8B.
+    Referred,
 }
 
 impl Form {
     /// All forms.
-    pub const ALL: [Form; 2] = [Form::Compact, Form::Expanded];
+    pub const ALL: [Form; 3] = [Form::Compact, Form::Expanded, Form::Referred];
+
+    /// Those of rules that decide by themselves.
+    pub const DECIDING: [Form; 2] = [Form::Compact, Form::Expanded];
 
     /// The number in record byte 3, in the maker's call and in the vectors.
     pub fn number(self) -> u8 {
         match self {
             Form::Compact => 0,
             Form::Expanded => 1,
+            Form::Referred => 2,
         }
     }
 
@@ -129,11 +136,16 @@ impl Group {
     }
 }
 
-/// The groups of a rule of any length, or nothing if it is malformed.
+/// Bytes of a referred rule.
+pub const REFERENCE_BYTES: usize = 3;
+
+/// The groups of a rule of any length, or nothing if it is malformed or a
+/// referred one, whose bytes are not judged.
 pub fn groups(form: Form, rule: &[u8]) -> Option<Vec<Group>> {
     match form {
         Form::Compact => compact::groups(rule),
         Form::Expanded => expanded::groups(rule),
+        Form::Referred => None,
     }
 }
 
@@ -142,11 +154,21 @@ pub fn groups(form: Form, rule: &[u8]) -> Option<Vec<Group>> {
 pub fn fit(edition: Edition, form: Form, rule: &[u8]) -> bool {
     edition.takes(form)
         && (1..=edition.longest_rule()).contains(&rule.len())
-        && groups(form, rule).is_some()
+        && well_formed(form, rule)
+}
+
+/// Whether a rule, of any length, is written as its form asks. Of a reference only the length
+/// is asked: whether it leads to a rule is seen when a command comes.
+pub fn well_formed(form: Form, rule: &[u8]) -> bool {
+    match form {
+        Form::Compact | Form::Expanded => groups(form, rule).is_some(),
+        Form::Referred => rule.len() == REFERENCE_BYTES,
+    }
 }
 
 /// What the rule, of any length, decides on the right: one group suffices; a
-/// right that no group names, and a malformed rule, are closed.
+/// right that no group names, a malformed rule, and a reference by itself are
+/// closed.
 pub fn decide(form: Form, rule: &[u8], right: Right, state: &State) -> Decision {
     let groups = groups(form, rule).unwrap_or_default();
     Decision::of_alternatives(groups.iter().map(|group| group.decide(right, state)))

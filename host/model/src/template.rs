@@ -1,5 +1,5 @@
-//! The data of CREATE, step H: 01, "CREATE", first paragraph; 02, Ticket 3 (a
-//! rule in either form). Every breach is 6A80, so reading gives the new file or nothing.
+//! The data of CREATE, step H: 01, "CREATE", first paragraph; 02, Tickets 3 and 7
+//! (a rule of each form). Every breach is 6A80, so reading gives the new file or nothing.
 
 use crate::bytes::{number16, value};
 use crate::card::RESERVED_IDENTIFIERS;
@@ -28,6 +28,8 @@ pub mod tags {
     pub const COMPACT_RULE: u8 = 0x8C;
     /// Expanded rule, in the place of a compact one.
     pub const EXPANDED_RULE: u8 = 0xAB;
+    /// Referred rule, in the place of a compact one.
+    pub const REFERRED_RULE: u8 = 0x8B;
     /// Size of an EF's body.
     pub const EF_SIZE: u8 = 0x80;
     /// Total of a DF.
@@ -44,6 +46,7 @@ pub mod tags {
         match form {
             Form::Compact => COMPACT_RULE,
             Form::Expanded => EXPANDED_RULE,
+            Form::Referred => REFERRED_RULE,
         }
     }
 }

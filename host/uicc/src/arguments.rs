@@ -6,7 +6,7 @@ mod options;
 use std::ffi::OsString;
 use std::path::{Path, PathBuf};
 
-use card::{Kind, State};
+use card::{Form, Kind, State};
 
 use crate::body::Part;
 use crate::file_path::FilePath;
@@ -37,9 +37,16 @@ impl Fresh {
     /// The card in a few words.
     pub fn describe(&self) -> String {
         let Fresh { kind, slots, total, rule } = self;
+        let closed = match rule.rule().form {
+            Form::Compact | Form::Expanded => "",
+            Form::Referred => {
+                " (allows nothing: no file is there to keep it, and none can be made)"
+            }
+        };
         let (version, rule) = (kind.version, rule.row());
         format!(
-            "fresh card of version {version}, {slots} slots, root total {total}, root rule {rule}"
+            "fresh card of version {version}, {slots} slots, root total {total}, root rule \
+             {rule}{closed}"
         )
     }
 

@@ -73,6 +73,7 @@ pub fn form(form: Form) -> &'static str {
     match form {
         Form::Compact => "compact rule (8C)",
         Form::Expanded => "expanded rule (AB)",
+        Form::Referred => "referred rule (8B)",
     }
 }
 

@@ -140,6 +140,7 @@ pub fn title(form: Form) -> &'static str {
     match form {
         Form::Compact => "rule (8C)",
         Form::Expanded => "rule (AB)",
+        Form::Referred => "rule (8B)",
     }
 }
 

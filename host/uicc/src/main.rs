@@ -3,11 +3,11 @@
 //! the bodies of files (`read`, `write`), writes the script that makes the files
 //! of a card again (`export`), and explains access rules (`rule`).
 //!
-//! The proved card decides everything, also whether it takes a rule and whether
-//! anything opens a command that it refused. Only `show` and `export`, `read` and
-//! `write` to see where they are on a path, and the words for what a rule asks
-//! read the records of an image by the model, once the proved card has found it
-//! sound.
+//! The proved card decides everything, also whether it takes a rule, where the
+//! rule of a file stands, and whether anything opens a command that it refused.
+//! Only `show` and `export`, `read` and `write` to see where they are on a path,
+//! and the words for what a rule asks and for why the search for one denies read
+//! the records of an image by the model, once the proved card has found it sound.
 
 #![forbid(unsafe_code)]
 
@@ -28,6 +28,7 @@ mod pool;
 mod refusal;
 mod rule;
 mod script;
+mod standing;
 mod store;
 mod transfer;
 mod tree;

@@ -7,7 +7,7 @@ use card::{Card, State, Word};
 use crate::arguments::Fresh;
 use crate::pieces::{READ_BINARY, READ_RECORD};
 use crate::script::Step;
-use crate::{describe, dump, fcp, hint, meaning, refusal, store, Done};
+use crate::{describe, dump, fcp, hint, meaning, refusal, standing, store, Done};
 
 /// What only a CREATE is answered.
 const WRONG_DATA: Word = Word(0x6A80);
@@ -47,7 +47,7 @@ fn play(card: &mut Card, steps: &[Step], state: &State) -> Result<String, String
         let reply = reply.map_err(|error| format!("line {line}, {name}: {error}"))?;
         let (word, meaning) = (reply.word, meaning::of(command, &reply, card.kind()));
         told += &format!("{line:>4}  {name:<width$}  {word}  {meaning}\n");
-        told += &answered(command, &reply.data);
+        told += &answered(command, &reply.data, card);
         if word == WRONG_DATA {
             let hint = hint::of_rule(command, card.kind());
             told += &hint.map_or_else(String::new, |(title, why)| fcp::line(title, &why));
@@ -65,14 +65,15 @@ fn play(card: &mut Card, steps: &[Step], state: &State) -> Result<String, String
 }
 
 /// The data of a command, in lines below its own: what READ read, from its start
-/// in the file or in the record on, else a template.
-fn answered(command: &[u8], data: &[u8]) -> String {
+/// in the file or in the record on, else the template of the file that is current
+/// now, with the rule that a reference in it leads to.
+fn answered(command: &[u8], data: &[u8], card: &Card) -> String {
     match command {
         _ if data.is_empty() => String::new(),
         [_, READ_BINARY, high, low, ..] => {
             dump::below(data, usize::from(u16::from_be_bytes([*high, *low])))
         }
         [_, READ_RECORD, ..] => dump::below(data, 0),
-        _ => fcp::told(data),
+        _ => fcp::told(data) + &standing::below(card),
     }
 }

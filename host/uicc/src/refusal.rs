@@ -11,6 +11,7 @@ use model::Card as Decoded;
 use crate::fcp;
 use crate::pieces::{READ_BINARY, READ_RECORD, UPDATE_BINARY, UPDATE_RECORD};
 use crate::rule::{self, Need};
+use crate::standing::{Origin, Standing};
 
 /// More words of rules make no sentence.
 const LONGEST: usize = 120;
@@ -22,6 +23,8 @@ struct Asked {
     form: Form,
     right: &'static str,
     need: Need,
+    /// Where a reference leads.
+    origin: Option<Origin>,
 }
 
 impl Asked {
@@ -30,14 +33,16 @@ impl Asked {
     }
 }
 
-/// Lines below the command's: each rule that it asked, one of which suffices, and
-/// what is missing, if a part of it is done.
+/// Lines below the command's: each rule that it asked, one of which suffices, with
+/// the record that keeps it or why there is none, and what is missing, if a part
+/// of it is done.
 pub fn below(command: &[u8], card: &Card, state: &State) -> String {
     let asked = asked(command, card);
     let mut lines = String::new();
     for (number, rule) in asked.iter().enumerate() {
         let or = if number == 0 { "" } else { "or " };
         lines += &fcp::folded_line(fcp::title(rule.form), &format!("{or}{}", rule.words()));
+        lines.extend(rule.origin.as_ref().map(Origin::line));
     }
     let missing = missing(&asked, state);
     lines + &missing.map_or_else(String::new, |need| fcp::folded_line("missing", &need.words()))
@@ -47,18 +52,19 @@ pub fn below(command: &[u8], card: &Card, state: &State) -> String {
 /// `uicc show`.
 pub fn in_short(command: &[u8], card: &Card, state: &State) -> String {
     let asked = asked(command, card);
-    let rules: Vec<_> = asked.iter().map(Asked::words).collect();
     let missing = missing(&asked, state);
     let missing = missing.map_or_else(String::new, |need| format!("; missing: {}", need.words()));
-    let told = format!("{}{missing}", rules.join("; or "));
-    match told.len() {
+    let told = |tell: fn(&Asked) -> String, or: &str| {
+        let clause = |rule: &Asked| rule.origin.as_ref().map_or_else(String::new, Origin::clause);
+        let rules = asked.iter().map(|rule| tell(rule) + &clause(rule));
+        rules.collect::<Vec<_>>().join(or)
+    };
+    let whose = |rule: &Asked| format!("of {:04X}, {}", rule.identifier, rule.right);
+    // What a reference leads to is told in any case.
+    match asked.iter().map(|rule| rule.words().len()).sum::<usize>() + missing.len() {
         0 => String::new(),
-        1..=LONGEST => format!("; rule {told}"),
-        _ => {
-            let whose = |rule: &Asked| format!("of {:04X}, {}", rule.identifier, rule.right);
-            let whose: Vec<_> = asked.iter().map(whose).collect();
-            format!("; uicc show tells the long rule {}", whose.join(" or "))
-        }
+        1..=LONGEST => format!("; rule {}{missing}", told(Asked::words, "; or ")),
+        _ => format!("; uicc show tells the long rule {}", told(whose, " or ")),
     }
 }
 
@@ -69,22 +75,24 @@ fn missing(asked: &[Asked], state: &State) -> Option<Need> {
     (missing != whole).then_some(missing)
 }
 
-/// The rules that a command asks on a card. The records of a sound card hold
-/// rules that can be read, so that none is left out.
+/// The rules that a command asks on a card. A sound card tells of each file which
+/// rule decides, and it can be read, so that none is left out.
 fn asked(command: &[u8], card: &Card) -> Vec<Asked> {
-    let Some(card) = Decoded::decode(card.image()) else { return Vec::new() };
+    let Some(decoded) = Decoded::decode(card.image()) else { return Vec::new() };
     let asked = |(slot, right): (usize, Right)| {
-        let record = card.record(slot);
-        let rule = rule::of_record(record);
+        let record = decoded.record(slot);
+        let standing = Standing::of(card, &decoded, slot).ok()?;
         let right = right.bit();
+        let need = standing.rule().map_or(Ok(Need::Never), |rule| rule::needed(rule, right));
         Some(Asked {
             identifier: record.identifier,
-            form: rule.form,
+            form: rule::of_record(record).form,
             right: rule::owner(record).names(right).first().copied()?,
-            need: rule::needed(rule, right).ok()?,
+            need: need.ok()?,
+            origin: standing.origin(),
         })
     };
-    rights(command, &card).into_iter().filter_map(asked).collect()
+    rights(command, &decoded).into_iter().filter_map(asked).collect()
 }
 
 /// Whose rule a command asks for which right: step J of each. A command that was

@@ -1,21 +1,25 @@
 //! Access rules for people: read from hex, told in words, and what is wrong
 //! with one that is malformed.
 //!
-//! Both forms are groups, which are alternatives: an AM byte names rights, and
+//! Two forms are groups, which are alternatives: an AM byte names rights, and
 //! conditions follow. In a compact rule each right has an SC byte of its own;
-//! in an expanded one each condition serves for all rights of its group.
+//! in an expanded one each condition serves for all rights of its group. The
+//! third form is a reference to a record that holds an expanded rule; which one
+//! that is on a card, `standing` tells.
 
 mod compact;
 mod expanded;
 mod explain;
 mod folded;
 mod need;
+mod reference;
 mod words;
 mod written;
 
 pub use explain::{explain, takers};
 pub use folded::folded;
 pub use need::Need;
+pub use reference::Reference;
 pub use words::{needed, words, Owner};
 pub use written::{object, read, Written};
 
@@ -74,6 +78,11 @@ impl Malformed {
         Malformed { around: self.around.or(Some((at, tag))), ..self }
     }
 
+    /// Why, without the place.
+    pub fn why(&self) -> &str {
+        &self.why
+    }
+
     /// The same for people, where a rule of so many bytes stands behind
     /// `before` others. Places count from 1.
     pub fn tell(&self, before: usize, length: usize) -> String {
@@ -91,6 +100,7 @@ pub fn of_record(record: &Record) -> Rule<'_> {
     let form = match record.form {
         model::rule::Form::Compact => Form::Compact,
         model::rule::Form::Expanded => Form::Expanded,
+        model::rule::Form::Referred => Form::Referred,
     };
     Rule { form, bytes: &record.rule }
 }
@@ -104,11 +114,24 @@ pub fn owner(record: &Record) -> Owner {
     }
 }
 
-/// The groups of a rule of any length, if it is well formed.
+/// The groups of a rule of any length, if it is well formed. A reference has
+/// none of its own.
 pub fn groups(rule: Rule) -> Result<Vec<Group>, Malformed> {
     match rule.form {
         Form::Compact => compact::groups(rule.bytes),
         Form::Expanded => expanded::groups(rule.bytes),
+        Form::Referred => {
+            Reference::read(rule.bytes)?;
+            Err(Malformed::new(0, "a reference has no groups: the record that it names has"))
+        }
+    }
+}
+
+/// What is wrong with a rule of any length, if anything is.
+pub fn malformed(rule: Rule) -> Option<Malformed> {
+    match rule.form {
+        Form::Compact | Form::Expanded => groups(rule).err(),
+        Form::Referred => Reference::read(rule.bytes).err(),
     }
 }
 

@@ -3,9 +3,10 @@
 use std::collections::HashMap;
 
 use card::{Card, Rule};
-use model::{Card as Decoded, Record};
+use model::Card as Decoded;
 
 use crate::rule::{self, Owner};
+use crate::standing::{Origin, Standing};
 use crate::{bar, describe, hex, pool};
 
 /// Deeper levels are no longer drawn further to the right; they are numbered.
@@ -43,7 +44,9 @@ pub fn show(card: &Card) -> Result<String, String> {
         let life_cycle = describe::life_cycle(record.life_cycle);
         let start = if record.is_ef() { record.start.to_string() } else { String::new() };
         let measures = measures(&record.size.to_string(), &start);
-        let (rule, notes) = (rules.number(record).to_string(), notes(&decoded, *slot));
+        let standing = Standing::of(card, &decoded, *slot)?;
+        let rule = Shown { owner: rule::owner(record), own: rule::of_record(record), standing };
+        let (rule, notes) = (rules.number(rule).to_string(), notes(&decoded, *slot));
         told += &line(width, [place, kind, &life_cycle, &measures, &rule, &notes]);
     }
     Ok(told + &pool::map(&decoded).unwrap_or_default() + &rules.told())
@@ -55,37 +58,63 @@ fn line(width: usize, [place, kind, life_cycle, measures, rule, notes]: [&str; 6
     format!("{}\n", text.trim_end())
 }
 
+/// The rule of a file.
+#[derive(Clone, PartialEq, Eq, Hash)]
+struct Shown<'a> {
+    owner: Owner,
+    /// What its record has, maybe a reference.
+    own: Rule<'a>,
+    standing: Standing<'a>,
+}
+
+impl Shown<'_> {
+    /// Where it stands, and what it allows.
+    fn told(&self, number: usize) -> String {
+        let (owner, object) = (self.owner.plural(), rule::object(self.own));
+        let deciding = self.standing.rule();
+        let (head, mut parts) = match (self.standing.origin(), deciding) {
+            (None, _) => (format!("of {owner}, in their own records"), Vec::new()),
+            (Some(Origin::Record(words)), rule) => {
+                let bytes = hex::row(rule.map_or(&[], |rule| rule.bytes));
+                (format!("of {owner}"), vec![format!("kept in {words}: {bytes}")])
+            }
+            (Some(Origin::Nowhere(why)), _) => {
+                (format!("of {owner}"), vec![format!("denies everything: {why}")])
+            }
+        };
+        let allowed = deciding.map(|rule| rule::words(rule, self.owner));
+        let malformed = |_| vec!["malformed".to_string()];
+        parts.extend(allowed.map_or_else(Vec::new, |parts| parts.unwrap_or_else(malformed)));
+        let mut told = format!("\nrule {number}, {head}: {object}\n");
+        for part in parts {
+            told += &format!("      {}\n", rule::folded(&part, 6));
+        }
+        told
+    }
+}
+
 /// The rules of a card, each once. A directory's and a file's are two, since
-/// they are read differently.
+/// they are read differently, and so are references that lead to two places.
 #[derive(Default)]
 struct Rules<'a> {
-    rules: Vec<(Owner, Rule<'a>)>,
-    numbers: HashMap<(Owner, Rule<'a>), usize>,
+    rules: Vec<Shown<'a>>,
+    numbers: HashMap<Shown<'a>, usize>,
 }
 
 impl<'a> Rules<'a> {
-    /// The number of a file's rule, from 1.
-    fn number(&mut self, record: &'a Record) -> usize {
-        let rule = (rule::owner(record), rule::of_record(record));
-        *self.numbers.entry(rule).or_insert_with(|| {
-            self.rules.push(rule);
-            self.rules.len()
-        })
+    /// The number of a rule, from 1.
+    fn number(&mut self, rule: Shown<'a>) -> usize {
+        if let Some(number) = self.numbers.get(&rule) {
+            return *number;
+        }
+        self.rules.push(rule.clone());
+        self.numbers.insert(rule, self.rules.len());
+        self.rules.len()
     }
 
-    /// What each of them allows.
+    /// Where each of them stands, and what it allows.
     fn told(&self) -> String {
-        let mut told = String::new();
-        for (number, (owner, rule)) in (1..).zip(&self.rules) {
-            let (object, owner_named) = (rule::object(*rule), owner.plural());
-            told += &format!("\nrule {number}, of {owner_named}: {object}\n");
-            let parts =
-                rule::words(*rule, *owner).unwrap_or_else(|_| vec!["malformed".to_string()]);
-            for part in parts {
-                told += &format!("      {}\n", rule::folded(&part, 6));
-            }
-        }
-        told
+        (1..).zip(&self.rules).map(|(number, rule)| rule.told(number)).collect()
     }
 }
 

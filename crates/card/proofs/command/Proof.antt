@@ -34,7 +34,7 @@ judge-requires c κs = search call-sound
 tell-requires : tie.Need-tell-requires
 tell-requires c κs =
     let j = c .before .before .before in
-    let w = j .before .before .before .before in
+    let w = j .before .before .before .before .before in
     let r = w .before .before .before .before in
     call-tells _ _ _ _ (r .before .sound .ensures) (r .if1 .left) (w .before .pool-fits .ensures) (w .if2 .left) (j .judge .ensures)
 
@@ -57,15 +57,15 @@ returns-3 : tie.Need-returns-3
 returns-3 c = search call-short
 
 denial-requires : tie.Need-denial-requires
-denial-requires c κs = (search call-sound, c .before .before .before .before .before .before .before .before .before .before .judge .ensures)
+denial-requires c κs = (search call-sound, c .before .before .before .before .before .before .before .before .before .before .before .judge .ensures)
 
 apply-requires : tie.Need-apply-requires
 apply-requires c κs =
-    let j = c .before .before .before .before .before .before .before .before .before .before .before .before .before in
-    let w = j .before .before .before .before in
+    let j = c .before .before .before .before .before .before .before .before .before .before .before .before .before .before in
+    let w = j .before .before .before .before .before in
     let r = w .before .before .before .before in
     call-applies _ _ _ _ (r .before .sound .ensures) (r .if1 .left) (w .before .pool-fits .ensures) (w .if2 .left) (j .judge .ensures)
-    (j .before .before .count .ensures .0)
+    (j .before .before .before .count .ensures .0)
 
 same-length-7 : tie.Need-same-length-7
 same-length-7 c = search needs
@@ -77,7 +77,15 @@ same-length-9 : tie.Need-same-length-9
 same-length-9 c = search needs
 
 returns-4 : tie.Need-returns-4
-returns-4 c = search call-done
+returns-4 c =
+    let d = c .before .before .before .before in
+    let k = d .before .before .before in
+    let l = k .before .before .before .before .before .before .before .before in
+    let j = l .before .before .before .before in
+    let w = j .before .before .before .before .before in
+    let r = w .before .before .before .before in
+    call-done _ _ _ _ (r .before .sound .ensures) (r .if1 .left) (w .before .pool-fits .ensures) (w .if2 .left) (j .judge .ensures)
+    (l .tell .ensures) (k .before .before .before .before .told .given .1) (k .denial .ensures) (d .apply .ensures)
 
 pub command-spec : {M : Type 1} → statement M
 command-spec =

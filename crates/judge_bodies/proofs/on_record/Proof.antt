@@ -1,6 +1,7 @@
 -- `judge_bodies::on_record`: its early returns are the steps of `onRecord`.
 use Rattle.laws.proofs.Branches.{answers, given}
-use Rattle.judge_bodies.proofs.Touching.{touches, times-small, from-one}
+use Rattle.judge_bodies.proofs.Touching.{touches}
+use Rattle.pool.proofs.Numbered.{times-small, from-one}
 use borrow.Author.Needs.{needs}
 use Prim.Native.Nat.{_-_}
 use native.Mathlib.Omega.{arith}

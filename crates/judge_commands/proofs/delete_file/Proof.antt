@@ -16,7 +16,7 @@ enum-known-s c = search needs
 
 deleting-it-requires : tie.Need-deleting-it-requires
 deleting-it-requires c κs =
-    (search needs, child-stands _ _ _ _ _ (sym (c .before .before .before .child-named .ensures) ∙ c .before .s .given .1) .low)
+    (search needs, child-stands _ _ _ _ _ (sym (c .before .before .before .child-named .ensures) ∙ c .before .s .given .1))
 
 enum-told : tie.Need-enum-told
 enum-told c = search needs
@@ -24,12 +24,12 @@ enum-told c = search needs
 returns : tie.Need-returns
 unfolding followed
 returns c =
-    found-use _ (deleting _ _ _) _ (c .before .before .before .before .child-named .ensures) (c .before .before .s .given .1)
+    found-use _ (deleting _ _ _ _) _ (c .before .before .before .before .child-named .ensures) (c .before .before .s .given .1)
     (c .deleting-it .ensures)
 
 returns-2 : tie.Need-returns-2
 unfolding followed
-returns-2 c = found-none _ (deleting _ _ _) _ (c .before .before .child-named .ensures) (c .enum-told .given .1)
+returns-2 c = found-none _ (deleting _ _ _ _) _ (c .before .before .child-named .ensures) (c .enum-told .given .1)
 
 pub delete-file-spec : {M : Type 1} → statement M
 delete-file-spec =

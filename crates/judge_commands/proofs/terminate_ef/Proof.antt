@@ -11,14 +11,14 @@ unfolding followed
 returns c = search (unlesses, answers, tests) depth 30
 
 allowed-requires : tie.Need-allowed-requires
-allowed-requires c κs = (search needs, c .before .before .pre .1 (c .if1 .left) .low)
+allowed-requires c κs = (search needs, c .before .before .before .pre .1 (c .if1 .left))
 
 returns-2 : tie.Need-returns-2
 unfolding followed
 returns-2 c = search (unlesses, answers, tests) depth 30
 
 terminated-up-requires : tie.Need-terminated-up-requires
-terminated-up-requires c κs = (search needs, c .before .before .before .before .pre .1 (c .before .before .if1 .left))
+terminated-up-requires c κs = (search needs, c .before .before .before .before .before .pre .1 (c .before .before .if1 .left))
 
 returns-3 : tie.Need-returns-3
 unfolding followed

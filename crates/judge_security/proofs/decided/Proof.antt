@@ -16,7 +16,7 @@ unfolding decisionFor
 returns c = search (is-eq, refl) depth 30
 
 sent-data-requires : tie.Need-sent-data-requires
-sent-data-requires c κs = create-long _ (c .before .before .before .before .before .pre .1 .1 .1) refl (c .if2 .taken)
+sent-data-requires c κs = create-long _ (c .before .before .before .before .before .before .pre .1 .1 .1) refl (c .if2 .taken)
 
 version-requires : tie.Need-version-requires
 version-requires c κs = search needs
@@ -32,7 +32,7 @@ unfolding decisionFor
 returns-2 c = search (not-eq, is-eq, on-new) depth 30
 
 sent-identifier-requires : tie.Need-sent-identifier-requires
-sent-identifier-requires c κs = delete-long _ (c .before .before .before .before .before .before .pre .1 .1 .1) refl (c .if3 .taken)
+sent-identifier-requires c κs = delete-long _ (c .before .before .before .before .before .before .before .pre .1 .1 .1) refl (c .if3 .taken)
 
 on-deletion-requires : tie.Need-on-deletion-requires
 on-deletion-requires c κs = search needs

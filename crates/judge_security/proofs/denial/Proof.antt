@@ -9,7 +9,7 @@ is-denied-requires : tie.Need-is-denied-requires
 is-denied-requires c κs = search needs
 
 returns : tie.Need-returns
-returns c = not-denied _ _ _ _ (c .before .is-denied .ensures) (c .if1 .taken)
+returns c = not-denied _ _ _ _ _ (c .before .is-denied .ensures) (c .if1 .taken)
 
 count-requires : tie.Need-count-requires
 count-requires c κs = search needs
@@ -19,17 +19,17 @@ current-df-requires c κs = search needs
 
 decided-requires : tie.Need-decided-requires
 decided-requires c κs = (
-  rw (c .before .before .count .ensures .0, c .before .current-df .ensures .0) (judgeable _ (c .before .before .before .before .before .before .before .pre .0)),
+  rw (c .before .before .count .ensures .0, c .before .current-df .ensures .0) (judgeable _ (c .before .before .before .before .before .before .before .before .pre .0)),
   (
     c .before .current-df .ensures .0,
-    denied-needs _ _ _ _ (c .before .before .before .before .is-denied .ensures) (c .before .before .before .if1 .left)
-        (c .before .before .before .before .before .before .before .pre .1),
+    denied-needs _ _ _ _ _ (c .before .before .before .before .is-denied .ensures) (c .before .before .before .if1 .left)
+        (c .before .before .before .before .before .before .before .before .pre .1),
   ),
 )
 
 returns-2 : tie.Need-returns-2
 returns-2 c =
-    denied-decides _ _ _ _ (c .before .before .before .before .before .is-denied .ensures) (c .before .before .before .before .if1 .left)
+    denied-decides _ _ _ _ _ (c .before .before .before .before .before .is-denied .ensures) (c .before .before .before .before .if1 .left)
     (c .before .before .before .count .ensures .0) (c .before .before .current-df .ensures .0) (c .decided .ensures)
 
 pub denial-spec : {M : Type 1} → statement M

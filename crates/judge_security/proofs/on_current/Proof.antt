@@ -13,7 +13,7 @@ current-file-requires c κs = search needs
 decided-requires : tie.Need-decided-requires
 decided-requires c κs = (
   search needs,
-  current-stands _ _ _ _ (c .before .before .before .pre .0) (c .before .before .before .pre .1) (c .current-file .ensures) .low,
+  current-stands _ _ _ _ (c .before .before .before .before .pre .0) (c .before .before .before .before .pre .1) (c .current-file .ensures),
 )
 
 returns : tie.Need-returns
@@ -26,7 +26,7 @@ current-file-requires-2 c κs = search needs
 decided-requires-2 : tie.Need-decided-requires-2
 decided-requires-2 c κs = (
   search needs,
-  current-stands _ _ _ _ (c .before .before .before .before .pre .0) (c .before .before .before .before .pre .1) (c .current-file2 .ensures) .low,
+  current-stands _ _ _ _ (c .before .before .before .before .before .pre .0) (c .before .before .before .before .before .pre .1) (c .current-file2 .ensures),
 )
 
 returns-2 : tie.Need-returns-2

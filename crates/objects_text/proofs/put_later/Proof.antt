@@ -1,4 +1,4 @@
--- `put_later`: the word of what a card of version 2 reads.
+-- `put_later`: the word of what a card of version 2 reads, or else one of version 3.
 use Rattle.objects_text.proofs.Listed.{later-put}
 use borrow.Author.Needs.{needs}
 use Rattle.objects_text.proofs.put_later.Statement.{statement}
@@ -28,11 +28,8 @@ put-mark-requires-2 c κs = search needs
 enum-told-3 : tie.Need-enum-told-3
 enum-told-3 c = search needs
 
-slice-aggregate-put-mark-3 : tie.Need-slice-aggregate-put-mark-3
-slice-aggregate-put-mark-3 c = search needs
-
-put-mark-requires-3 : tie.Need-put-mark-requires-3
-put-mark-requires-3 c κs = search needs
+put-third-requires : tie.Need-put-third-requires
+put-third-requires c κs = search needs
 
 same-length : tie.Need-same-length
 same-length c = search needs
@@ -55,8 +52,8 @@ same-length-3 c = search needs
 
 returns-3 : tie.Need-returns-3
 returns-3 c =
-    later-put _ _ _ _ (c .before .before .before .before .before .before .before .read .ensures .0)
-    (c .before .before .before .before .before .enum-told3 .given .1) (c .before .before .put-mark3 .ensures)
+    later-put _ _ _ _ (c .before .before .before .before .before .before .read .ensures .0)
+    (c .before .before .before .before .enum-told3 .given .1) (c .before .before .put-third .ensures)
 
 pub put-later-spec : {M : Type 1} → statement M
 put-later-spec =
@@ -70,8 +67,7 @@ put-later-spec =
     slice-aggregate-put-mark-2
     put-mark-requires-2
     enum-told-3
-    slice-aggregate-put-mark-3
-    put-mark-requires-3
+    put-third-requires
     same-length
     returns
     same-length-2

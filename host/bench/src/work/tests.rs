@@ -29,21 +29,21 @@ fn the_commands_do_what_their_titles_say() {
     for worst in shapes(64) {
         let has_ef = ["identifier", "files", "version 2"].map(|part| worst.title.contains(part));
         let has_ef = has_ef.contains(&true);
-        let bodied = !worst.start.pool.is_empty();
-        for task in if bodied { &Task::BODIED[..] } else { &Task::ALL } {
-            let (Lent { mut image, mut pool }, call) = task.prepared(&worst.start);
+        let starts = [Some(&worst.start), worst.own.as_ref()].into_iter().flatten();
+        for (start, task) in starts.flat_map(|start| worst.tasks.iter().map(move |t| (start, t))) {
+            let (Lent { mut image, mut pool }, call) = task.prepared(start);
             assert!(card::lent::is_sound(&image), "{}, {task:?}", worst.title);
             let (bytes, state) = match call {
                 Call::Command(bytes) => (bytes, State::FULL),
                 Call::Unauthenticated(bytes) => (bytes, State::EMPTY),
-                Call::Sound | Call::Report => continue,
+                Call::Sound | Call::Report | Call::Rule(_) => continue,
             };
             let wanted = match task {
                 Task::UnknownInstruction => (0x6D00, Security::NoRefusal),
                 Task::SelectNothing => (0x6A82, Security::NoRefusal),
                 Task::TerminateEf if !has_ef => (0x6986, Security::NoRefusal),
-                Task::Lacking => (0x6982, Security::Lacking),
-                Task::Closed => (0x6982, Security::Closed),
+                Task::Lacking | Task::RuledLacking => (0x6982, Security::Lacking),
+                Task::Closed | Task::RuledClosed => (0x6982, Security::Closed),
                 _ => (0x9000, Security::NoRefusal),
             };
             let mut response = [0; card::LONGEST_RESPONSE];
@@ -51,7 +51,8 @@ fn the_commands_do_what_their_titles_say() {
             let answer = answer.expect("a sound card, its pool and a long response");
             let given = (answer.word.0, answer.security);
             assert_eq!(given, wanted, "{}, {task:?}", worst.title);
-            let has_data = format!("{task:?}").contains("Template") || *task == Task::Read;
+            let has_data = format!("{task:?}").contains("Template")
+                || matches!(task, Task::Read | Task::ReadRecord);
             assert_eq!(answer.data_length > 0, has_data, "{}, {task:?}", worst.title);
         }
     }
@@ -61,7 +62,7 @@ fn the_commands_do_what_their_titles_say() {
 #[test]
 fn bodies_are_moved_by_one_create_and_not_by_the_other() {
     let shapes = [16, 128, 1023].into_iter().flat_map(shapes);
-    for worst in shapes.filter(|shape| !shape.start.pool.is_empty()) {
+    for worst in shapes.filter(|shape| shape.tasks == Task::BODIED) {
         for (task, moves) in [(Task::CreateInGap, false), (Task::CreateMoving, true)] {
             let (Lent { mut image, mut pool }, call) = task.prepared(&worst.start);
             let before = Card::decode(&image).expect("a card");

@@ -76,9 +76,11 @@ fn every_error_says_what_to_do() {
         (MakeError::Version(4), 2, "no card of version 4: choose 1, 2 or 3"),
         (MakeError::Total, 3, "64 bytes for each slot but the root"),
         (MakeError::Form(1, Form::Expanded), 4, "version 1 takes no rule of tag AB"),
+        (MakeError::Form(2, Form::Referred), 4, "takes no rule of tag 8B: version 1 takes 8C"),
         (MakeError::RuleLength(30), 4, "1 to 30 bytes"),
         (MakeError::Rule(Form::Compact), 4, "one SC byte for each of its bits"),
         (MakeError::Rule(Form::Expanded), 4, "four deep at most"),
+        (MakeError::Rule(Form::Referred), 4, "three bytes, the identifier of a file"),
         (MakeError::Unknown(9), 9, "build both anew"),
     ] {
         assert_eq!(error.answer(), answer);
@@ -94,17 +96,21 @@ fn unknown_numbers_are_refused() {
     for kind in [0, 4, 255, 0x0001_0001, 0x0100_0003, u32::MAX] {
         assert_eq!(made(kind, 0, Rule::OPEN.bytes), 2, "{kind:X}");
     }
-    for form in [2, 3, 0x0100, 0x0001_0000, u32::MAX] {
+    for form in [3, 4, 0x0100, 0x0102, 0x0001_0000, 0x0001_0002, u32::MAX] {
         for kind in [2, 3] {
             assert_eq!(made(kind, form, Rule::OPEN.bytes), 4, "{form:X}");
             assert_eq!(made(kind, form, OPEN.bytes), 4, "{form:X}");
+            assert_eq!(made(kind, form, &OPEN.bytes[..3]), 4, "{form:X}");
         }
     }
     assert_eq!([1, 2, 3].map(|kind| made(kind, 0, Rule::OPEN.bytes)), [0, 0, 0]);
     assert_eq!([1, 2, 3].map(|kind| made(kind, 1, OPEN.bytes)), [4, 0, 0]);
+    assert_eq!([1, 2, 3].map(|kind| made(kind, 2, &OPEN.bytes[..3])), [4, 4, 0]);
     // Each form read as the other.
     assert_eq!([2, 3].map(|kind| made(kind, 1, Rule::OPEN.bytes)), [4, 4]);
     assert_eq!([2, 3].map(|kind| made(kind, 0, OPEN.bytes)), [4, 4]);
+    assert_eq!([2, 3].map(|kind| made(kind, 2, OPEN.bytes)), [4, 4]);
+    assert_eq!([2, 3].map(|kind| made(kind, 2, Rule::OPEN.bytes)), [4, 4]);
 }
 
 #[test]
@@ -120,6 +126,7 @@ fn a_refused_buffer_is_left_alone() {
         (Kind::VERSION_1, 64, OPEN),
         (Kind::VERSION_2, 64, Rule::expanded(&[0x90, 0x00])),
         (Kind::VERSION_3, 64, Rule::compact(&[0; 29])),
+        (Kind::VERSION_3, 64, Rule::referred(&[0; 4])),
     ] {
         assert!(lent::make(&mut whole, kind, total, rule).is_err(), "{kind:?} {rule:?}");
         assert!(whole.iter().all(|&byte| byte == 0xA5), "{kind:?} {rule:?}");
@@ -136,6 +143,7 @@ fn an_image_tells_its_kind() {
         (Kind::VERSION_2, OPEN),
         (Kind::VERSION_3, Rule::OPEN),
         (Kind::VERSION_3, OPEN),
+        (Kind::VERSION_3, Rule::referred(&[0x6F, 0x06, 0x02])),
     ] {
         let card = Card::make(2, kind, 64, rule).expect("a card");
         assert_eq!(card.kind(), kind);
@@ -167,7 +175,7 @@ fn no_bytes_make_the_maker_panic() {
     for seed in 0..4000 {
         let mut noise = noise(seed);
         let mut byte = || noise.next().unwrap_or_default();
-        let (kind, form) = (u32::from(byte() % 5), u32::from(byte() % 3));
+        let (kind, form) = (u32::from(byte() % 5), u32::from(byte() % 4));
         let total = u32::from(byte());
         let rule: Vec<u8> = (0..byte() % 34).map(|_| byte() % 0x14).collect();
         let mut image = vec![0xA5; image_length(2 + usize::from(byte() % 4))];

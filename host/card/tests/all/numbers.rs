@@ -1,8 +1,9 @@
 //! The bare numbers: each is written by every call, whatever it answers; and the
 //! header's numbers are the wrapper's.
 
-use card::{ffi, largest_total, CommandError, Form, Kind, MakeError, Security};
-use card::{FEWEST_SLOTS, HEADER_BYTES, LONGEST_RESPONSE, MOST_SLOTS, RECORD_BYTES};
+use card::{ffi, largest_total, CommandError, Form, Kind, MakeError, Place, Security};
+use card::{FEWEST_SLOTS, HEADER_BYTES, LONGEST_RESPONSE, MOST_SLOTS};
+use card::{RECORD_BYTES, REFERENCE_BYTES};
 
 use crate::common::{fresh_of, read, select, select_told, update, CREATE_EF};
 
@@ -72,6 +73,7 @@ fn the_header_has_the_same_numbers() {
         ("HULL_RESPONSE_MOST", LONGEST_RESPONSE),
         ("HULL_COMMAND_NUMBERS", ffi::command(&mut [], &mut [], &[], &mut [], FULL, 0).1.len()),
         ("HULL_REPORT_NUMBERS", ffi::report(&[]).1.len()),
+        ("HULL_RULE_NUMBERS", ffi::rule(&[], &[], 0).1.len()),
         ("HULL_NOT_SOUND", answer(CommandError::Damaged.answer())),
         ("HULL_VERSION_1", answer(Kind::VERSION_1.number())),
         ("HULL_VERSION_2", answer(Kind::VERSION_2.number())),
@@ -79,8 +81,10 @@ fn the_header_has_the_same_numbers() {
         ("HULL_RULE_MOST", longest(Kind::VERSION_2)),
         ("HULL_RULE_MOST_1", longest(Kind::VERSION_1)),
         ("HULL_RULE_MOST_3", longest(Kind::VERSION_3)),
+        ("HULL_RULE_REFERRED", REFERENCE_BYTES),
         ("HULL_COMPACT", answer(Form::Compact.number())),
         ("HULL_EXPANDED", answer(Form::Expanded.number())),
+        ("HULL_REFERRED", answer(Form::Referred.number())),
         ("HULL_BAD_LENGTH", answer(MakeError::Length.answer())),
         ("HULL_BAD_TOTAL", answer(MakeError::Total.answer())),
         ("HULL_BAD_RULE", answer(MakeError::Rule(Form::Compact).answer())),
@@ -89,6 +93,9 @@ fn the_header_has_the_same_numbers() {
         ("HULL_NO_SECURITY_REFUSAL", answer(Security::NoRefusal.number())),
         ("HULL_LACKING", answer(Security::Lacking.number())),
         ("HULL_CLOSED", answer(Security::Closed.number())),
+        ("HULL_NOWHERE", answer(Place::Nowhere.number())),
+        ("HULL_IN_IMAGE", answer(Place::InImage { from: 0, to: 1 }.number())),
+        ("HULL_IN_POOL", answer(Place::InPool { from: 0, to: 1 }.number())),
     ] {
         let line = format!("#define {name} {value}u");
         assert!(HEADER.lines().any(|other| other == line), "{line}");

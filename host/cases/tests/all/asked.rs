@@ -1,10 +1,12 @@
-//! What a command shows of the rules that it asks at step J (02, Ticket 6).
+//! What a command shows of the rules that it asks at step J (02, Tickets 6 and 7).
 
+use cases::Rule;
+use model::deciding::rule_of;
 use model::lines::Case as Line;
-use model::rule::{groups, Condition, Form, Right};
+use model::rule::{decide, groups, Condition, Form, Right};
 use model::soundness::sound_card;
 use model::template;
-use model::{command, words, Card, Decision, Outcome, Record, State};
+use model::{command, words, Card, Decision, Outcome, State};
 
 /// One command on a sound image, which asks a rule or two.
 pub struct Asked {
@@ -12,8 +14,8 @@ pub struct Asked {
     command: Vec<u8>,
     state: State,
     outcome: Outcome,
-    /// Whose rule is asked, and for which right; of DELETE the child's first.
-    rules: Vec<(Record, Right)>,
+    /// The rule that is asked, and for which right; of DELETE the child's first.
+    rules: Vec<(Rule, Right)>,
     /// The same with full sets on a card all of whose rules are open, no other
     /// channel and the right pool.
     open: Outcome,
@@ -26,7 +28,8 @@ impl Asked {
             return None;
         };
         let card = sound_card(&image)?;
-        let rules = rules_of(&card, &bytes)?;
+        let asks = asks_of(&card, &bytes)?.into_iter();
+        let rules = asks.map(|(slot, right)| (deciding(&card, &pool, slot), right)).collect();
         let run = |card: &Card, pool: &mut [u8], state: &State| {
             command(&mut card.encode(), pool, &bytes, &mut response.clone(), state)
         };
@@ -56,15 +59,15 @@ impl Asked {
             };
             names.push(format!("{how} before {later}"));
         }
-        if let [(record, right)] = self.rules.as_slice() {
-            names.extend(of_conditions(record, *right, &self.state));
-            names.extend(self.of_state(how, record, *right));
+        if let [(rule, right)] = self.rules.as_slice() {
+            names.extend(of_conditions(rule, *right, &self.state));
+            names.extend(self.of_state(how, rule, *right));
         }
         names
     }
 
     fn decisions(&self) -> impl Iterator<Item = Decision> + '_ {
-        self.rules.iter().map(|(record, right)| record.decide(*right, &self.state))
+        self.rules.iter().map(|(rule, right)| decided(rule, *right, &self.state))
     }
 
     /// A refusal before step J, though the rule does not grant it.
@@ -87,18 +90,18 @@ impl Asked {
         if let [own, directory] = decisions {
             return format!("{ins:02X} own {}, directory {}", name(*own), name(*directory));
         }
-        let (record, right) = &self.rules[0];
+        let (rule, right) = &self.rules[0];
         let kind = match (ins, right) {
             (0xE0, Right::CreateDf) => " DF",
             (0xE0, _) => " EF",
             _ => "",
         };
-        let form = if record.form == Form::Compact { "compact" } else { "expanded" };
+        let form = if rule.form == Form::Compact { "compact" } else { "expanded" };
         format!("{ins:02X}{kind} {form} {}", name(decisions[0]))
     }
 
     /// How many bits the state has, and whether one more would do.
-    fn of_state(&self, how: &str, record: &Record, right: Right) -> Vec<String> {
+    fn of_state(&self, how: &str, rule: &Rule, right: Right) -> Vec<String> {
         let State { messaging, external, user, .. } = self.state;
         let sets = [messaging, external, user];
         let with = match sets.iter().map(|set| set.count_ones()).sum::<u32>() {
@@ -112,7 +115,7 @@ impl Asked {
             let mut sets = sets;
             sets[bit / 16] |= 1 << (bit % 16);
             let [messaging, external, user] = sets;
-            record.grants(right, &State { messaging, external, user, channels: 0 })
+            decided(rule, right, &State { messaging, external, user, channels: 0 }).is_granted()
         });
         let for_one = (how == "lacking" && one_more).then(|| "lacking for one bit".to_string());
         [format!("{how} with {with}")].into_iter().chain(for_one).collect()
@@ -127,11 +130,26 @@ fn name(decision: Decision) -> &'static str {
     }
 }
 
-/// Whose rules a command asks that is well made as far as they are concerned.
-fn rules_of(card: &Card, command: &[u8]) -> Option<Vec<(Record, Right)>> {
+/// The rule that decides on the file in a slot; where there is none, the
+/// reference that leads nowhere, which opens nothing.
+fn deciding(card: &Card, pool: &[u8], slot: usize) -> Rule {
+    let own = card.record(slot);
+    match rule_of(card, pool, slot) {
+        Ok(found) => Rule { form: found.form, bytes: found.rule.to_vec() },
+        Err(_) => Rule { form: own.form, bytes: own.rule.clone() },
+    }
+}
+
+fn decided(rule: &Rule, right: Right, state: &State) -> Decision {
+    decide(rule.form, &rule.bytes, right, state)
+}
+
+/// Whose rules a command asks, and for which rights, that is well made as far as
+/// they are concerned.
+pub fn asks_of(card: &Card, command: &[u8]) -> Option<Vec<(usize, Right)>> {
     let (df, ef) = (card.current_df, card.current_ef);
     let &[0x00, ins, ..] = command else { return None };
-    let asked = match (ins, command.get(5..)) {
+    Some(match (ins, command.get(5..)) {
         (0x44, _) => vec![(ef.unwrap_or(df), Right::Activate)],
         (0x04, _) => vec![(ef.unwrap_or(df), Right::Deactivate)],
         (0xE8, _) => vec![(ef?, Right::Terminate)],
@@ -149,14 +167,13 @@ fn rules_of(card: &Card, command: &[u8]) -> Option<Vec<(Record, Right)>> {
         (0xB0 | 0xB2, _) if card.edition.has_bodies() => vec![(ef?, Right::READ)],
         (0xD6 | 0xDC, _) if card.edition.has_bodies() => vec![(ef?, Right::UPDATE)],
         _ => return None,
-    };
-    Some(asked.into_iter().map(|(slot, right)| (card.record(slot).clone(), right)).collect())
+    })
 }
 
 /// What a rule that denies shows of its conditions for a right.
-fn of_conditions(record: &Record, right: Right, state: &State) -> Vec<String> {
-    let decision = record.decide(right, state);
-    let groups = groups(record.form, &record.rule).unwrap_or_default();
+fn of_conditions(rule: &Rule, right: Right, state: &State) -> Vec<String> {
+    let decision = decided(rule, right, state);
+    let groups = groups(rule.form, &rule.bytes).unwrap_or_default();
     let named: Vec<_> = groups.iter().filter(|group| group.rights & right.bit() != 0).collect();
     let conditions: Vec<_> = named.iter().flat_map(|group| &group.conditions).collect();
     let mut names = Vec::new();

@@ -133,7 +133,7 @@ fn cards_made_for_bodies_show_everything() {
 
 #[test]
 fn images_show_words_and_places() {
-    let counts = counts(Kind::SoundCommand, 10_000);
+    let counts = counts(Kind::SoundCommand, 20_000);
     for ins in ["B0", "D6", "B2", "DC"] {
         let wanted = ["9000", "6700", "6982", "6985", "6986"].map(|word| format!("{ins} {word}"));
         shows("on images", &counts, 1, &wanted.each_ref().map(String::as_str));

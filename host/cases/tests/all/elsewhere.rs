@@ -45,7 +45,8 @@ impl Before {
 
     /// Whether the rule of the current directory grants a right.
     fn grants(&self, right: Right, state: &State) -> bool {
-        self.card.record(self.card.current_df).grants(right, state)
+        let directory = self.card.record(self.card.current_df);
+        model::rule::decide(directory.form, &directory.rule, right, state).is_granted()
     }
 
     /// What the ticket asks for, each with whether it is so.

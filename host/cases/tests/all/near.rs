@@ -7,9 +7,11 @@ use cases::near::{
     card, card_of_version_two, card_with_body, create_expanded, every_near_miss, good_commands,
     good_for_body, near_misses_of, near_misses_of_the_rule, RESPONSE,
 };
-use cases::{editions, Case, Lent};
+use cases::{editions, near_kept, Case, Lent};
 use model::command::Instruction;
+use model::deciding::{deciding, Place};
 use model::edition::Edition;
+use model::lines::Case as Line;
 use model::{command, sound, words, State, Word};
 
 /// The word of a command on the card of the near-misses.
@@ -160,7 +162,53 @@ fn they_are_all_given_as_cases() {
     let misses = |good: &[Vec<u8>]| good.iter().map(|one| near_misses_of(one).len()).sum::<usize>();
     let of_bodies: usize =
         [false, true].map(|records| misses(&good_for_body(records))).iter().sum();
+    let kept = near_kept::every().count();
     let all = misses(&good_commands()) + near_misses_of_the_rule().len() + of_bodies;
-    assert_eq!(every_near_miss().count(), all);
-    assert!(every_near_miss().all(|case| matches!(case, Case::OneCommand { .. })));
+    assert_eq!(every_near_miss().count(), all + kept);
+    let commands = |case: &Case| matches!(case, Case::OneCommand { .. });
+    assert!(every_near_miss().take(all).all(|case| commands(&case)));
+    let asked = |case: &Case| matches!(case, Case::Deciding { .. });
+    let (asked, others): (Vec<_>, Vec<_>) = near_kept::every().partition(asked);
+    assert!(others.iter().all(commands));
+    assert_eq!(asked.len(), 255 * (near_kept::LENGTH + 5), "a record, and a reference's bytes");
+    assert_eq!(others.len(), asked.len() + 255 * 5, "as many READs, and CREATE's 8B");
+}
+
+/// The rule kept in a file grants the READ, and still does with many another byte
+/// in it; no byte of the padding may be another.
+#[test]
+fn near_misses_of_a_rule_kept_in_a_file() {
+    let lent = near_kept::card();
+    let place = near_kept::record().start;
+    let rule = place..place + near_kept::RULE.len();
+    let found = deciding(&lent.image, &lent.pool, near_kept::RULED_FILE);
+    assert_eq!(found, Place::InPool { from: rule.start, to: rule.end });
+    let mut counts = BTreeMap::new();
+    for line in near_kept::every().flat_map(|case| case.lines()) {
+        let (bytes, changed) = match &line {
+            Line::Deciding { image, pool, .. } => (None, (image, pool)),
+            Line::Command { image, pool, command, .. } => (Some(command), (image, pool)),
+            _ => panic!("no other line"),
+        };
+        let padding = (rule.end..near_kept::record().end).any(|at| changed.1[at] != 0xFF);
+        let result = line.result();
+        let told = match (bytes.map(|bytes| bytes[1]), result.as_str()) {
+            (None, "D none 0 -") => "nowhere",
+            (None, _) if result.starts_with("D pool ") => "found",
+            (None, _) => "another place",
+            (Some(0xB0), _) if result.starts_with("C 0 9000") => "read",
+            (Some(0xB0), _) if result.starts_with("C 0 6982") => "refused",
+            (Some(0xB0), _) if result.starts_with("C 1 0000") => "unsound",
+            (_, _) if result.starts_with("C 0 9000") => "made",
+            (_, _) if result.starts_with("C 0 6A80") => "not made",
+            _ => panic!("{result:.20}"),
+        };
+        assert!(!padding || ["nowhere", "refused"].contains(&told), "{told}");
+        *counts.entry(told).or_insert(0) += 1;
+    }
+    // Of CREATE's 8B the three bytes of the value may be any.
+    assert_eq!((counts["made"], counts["not made"]), (3 * 255, 2 * 255));
+    assert_eq!(counts["unsound"], 2 * 255, "form and length of the reference");
+    assert_eq!(counts.get("another place"), None);
+    assert!(counts["read"] > 800 && counts["read"] < counts["found"], "{counts:?}");
 }

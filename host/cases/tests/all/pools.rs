@@ -62,7 +62,7 @@ fn pools_of_all_lengths() {
     let wrong = ["v3 one short 6", "v3 one long 6", "v3 none 6", "v3 other 6"];
     let any = ["v1 none", "v2 none", "v1 other", "v2 other"];
     for (kind, cases) in
-        [(Kind::SoundCommand, 3000), (Kind::NearMiss, 3000), (Kind::RawCommand, 3000)]
+        [(Kind::SoundCommand, 5000), (Kind::NearMiss, 5000), (Kind::RawCommand, 5000)]
     {
         let counts = counts(kind, cases);
         each_at_least(&counts, 10, &wrong);

@@ -10,7 +10,7 @@ use model::State;
 /// How many cases are tried: of a card that may be right, and of one that is
 /// wrong, where most often the first few will do.
 const CASES: usize = 1500;
-const MOST_CASES: usize = 3000;
+const MOST_CASES: usize = 6000;
 
 /// Tag and value.
 pub type Object = (u8, Vec<u8>);
@@ -79,12 +79,31 @@ pub type Spoil = fn(&Came, &mut Left, Told) -> Told;
 pub struct Impostor {
     pub command: Spoil,
     pub report: fn([u32; 4]) -> [u32; 4],
+    pub rule: Retell,
     pub sound: fn(bool) -> bool,
     pub make: fn(&mut [u8]),
 }
 
-pub const HONEST: Impostor =
-    Impostor { command: |_, _, told| told, report: |n| n, sound: |s| s, make: |_| {} };
+/// What a card was asked where a rule stands.
+pub struct Sought<'a> {
+    pub image: &'a [u8],
+    pub pool: &'a [u8],
+    pub slot: u32,
+}
+
+/// The answer where a rule stands, and its three numbers.
+pub type Stands = (u32, [u32; 3]);
+
+/// What a wrong card says where a rule stands after the right one has answered.
+pub type Retell = fn(&Sought, Stands) -> Stands;
+
+pub const HONEST: Impostor = Impostor {
+    command: |_, _, told| told,
+    report: |n| n,
+    rule: |_, stands| stands,
+    sound: |s| s,
+    make: |_| {},
+};
 
 impl Subject for Impostor {
     fn make(&self, buffer: &mut [u8], version: u32, total: u32, form: u32, rule: &[u8]) -> u32 {
@@ -110,6 +129,10 @@ impl Subject for Impostor {
     fn report(&self, image: &[u8]) -> (u32, [u32; 4]) {
         let (answer, numbers) = Model.report(image);
         (answer, (self.report)(numbers))
+    }
+
+    fn rule(&self, image: &[u8], pool: &[u8], slot: u32) -> Stands {
+        (self.rule)(&Sought { image, pool, slot }, Model.rule(image, pool, slot))
     }
 
     fn sound(&self, image: &[u8]) -> bool {
@@ -141,6 +164,10 @@ impl Subject for Maker {
         Model.report(image)
     }
 
+    fn rule(&self, image: &[u8], pool: &[u8], slot: u32) -> Stands {
+        Model.rule(image, pool, slot)
+    }
+
     fn sound(&self, image: &[u8]) -> bool {
         Model.sound(image)
     }
@@ -156,7 +183,7 @@ pub fn found(pair: Pair, kind: Option<Kind>) -> Option<Disagreement> {
     found_among(CASES, pair, kind)
 }
 
-fn found_among(count: usize, pair: Pair, kind: Option<Kind>) -> Option<Disagreement> {
+pub fn found_among(count: usize, pair: Pair, kind: Option<Kind>) -> Option<Disagreement> {
     let all = kind.map_or(Generator::new(9), |kind| Generator::only(9, kind));
     let mut tally = Tally::default();
     let first = all.take(count).find_map(|made| check_case(pair, &made.case, &mut tally).err())?;
@@ -169,8 +196,8 @@ pub fn found_line(title: &str, impostor: &Impostor, kind: Option<Kind>) -> Line 
     found_line_among(MOST_CASES, title, impostor, kind)
 }
 
-fn found_line_among(count: usize, title: &str, impostor: &Impostor, kind: Option<Kind>) -> Line {
-    let pair = Pair { card: impostor, model: &Model };
+pub fn found_line_among(count: usize, title: &str, card: &dyn Subject, kind: Option<Kind>) -> Line {
+    let pair = Pair { card, model: &Model };
     let found = found_among(count, pair, kind);
     let found = found.unwrap_or_else(|| panic!("not found in {count}: {title}, {kind:?}"));
     let told = found.to_string();
@@ -184,6 +211,10 @@ fn found_line_among(count: usize, title: &str, impostor: &Impostor, kind: Option
     }
 }
 
+/// The most bytes of a small card: a file, another that keeps its rule, and a
+/// directory, whose bodies and totals pay for a slot or two more.
+const SMALL: usize = 16 + 64 * 6;
+
 /// A wrong command is found among all kinds of cases, and told on a small card.
 pub fn found_small(title: &str, command: Spoil) {
     found_small_within(MOST_CASES, title, command);
@@ -193,7 +224,7 @@ pub fn found_small(title: &str, command: Spoil) {
 pub fn found_small_within(count: usize, title: &str, command: Spoil) {
     let line = found_line_among(count, title, &Impostor { command, ..HONEST }, None);
     let small = match &line {
-        Line::Command { response, image, .. } => image.len() <= 272 && response.len() <= 72,
+        Line::Command { response, image, .. } => image.len() <= SMALL && response.len() <= 72,
         Line::Replay { input } => input.len() < 40,
         _ => false,
     };

@@ -3,10 +3,11 @@
 
 use crate::impostor::Came;
 use compare::Told;
+use model::deciding::rule_of;
 use model::descriptor::Class;
 use model::rule::{groups, Condition, Right};
 use model::soundness::sound_card;
-use model::{template, Decision, Record, State};
+use model::{template, Card, Decision, State};
 
 /// How decisions are made, and how several of them become one.
 #[derive(Clone, Copy)]
@@ -51,9 +52,11 @@ impl Judge {
         }
     }
 
-    /// What a file's rule decides on a right.
-    fn rule(&self, file: &Record, right: Right, state: &State) -> Decision {
-        let groups = groups(file.form, &file.rule).unwrap_or_default();
+    /// What the rule decides on a right that decides on a file, wherever it stands.
+    fn rule(&self, card: &Card, slot: usize, right: Right, came: &Came) -> Decision {
+        let Ok(deciding) = rule_of(card, came.pool, slot) else { return Decision::Closed };
+        let state = came.state;
+        let groups = groups(deciding.form, deciding.rule).unwrap_or_default();
         let named = groups.iter().filter(|group| group.rights & right.bit() != 0);
         let decided = named.map(|group| {
             let row = group.conditions.iter().map(|one| self.condition(one, state));
@@ -64,16 +67,16 @@ impl Judge {
 
     /// What the rules decide that the command asks.
     pub fn command(&self, came: &Came) -> Option<Decision> {
-        let asked = asked(came)?;
-        let decided = asked.iter().map(|(file, right)| self.rule(file, *right, came.state));
+        let (card, asked) = asked(came)?;
+        let decided = asked.iter().map(|(slot, right)| self.rule(&card, *slot, *right, came));
         decided.reduce(self.deletion)
     }
 }
 
-/// The files whose rules a command asks, with the right, on a sound image: for
-/// DELETE the child before the directory. Only the instruction is looked at and
-/// what names the rule; an earlier step may refuse the command.
-fn asked(came: &Came) -> Option<Vec<(Record, Right)>> {
+/// The card and the slots whose rules a command asks, with the right, on a sound
+/// image: for DELETE the child before the directory. Only the instruction is looked
+/// at and what names the rule; an earlier step may refuse the command.
+pub fn asked(came: &Came) -> Option<(Card, Vec<(usize, Right)>)> {
     let card = sound_card(came.image)?;
     let (df, ef) = (card.current_df, card.current_ef);
     let asks = match came.command {
@@ -95,7 +98,7 @@ fn asked(came: &Came) -> Option<Vec<(Record, Right)>> {
         }
         _ => return None,
     };
-    Some(asks.into_iter().map(|(slot, right)| (card.record(slot).clone(), right)).collect())
+    Some((card, asks))
 }
 
 /// The same with another number for security.

@@ -32,6 +32,7 @@ fn lines_are_run_again() {
     assert!(run.status.success(), "{}", text(&run.stderr));
     let told = text(&run.stdout);
     assert!(told.lines().filter(|line| line.starts_with("both give C 0 ")).count() > 100);
+    assert!(told.contains("both give D pool ") && told.contains("both give D none 0 - (answer 0"));
     assert!(told.contains("the card has no call for this line"));
 }
 

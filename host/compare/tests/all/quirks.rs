@@ -5,6 +5,7 @@
 use crate::impostor::{Came, Left, Object};
 use cases::template::{create_command, template};
 use compare::Told;
+use model::deciding::rule_of;
 use model::edition::{Edition, Version};
 use model::rule::{Condition, Form, Group, Right};
 use model::security::condition;
@@ -201,31 +202,49 @@ fn byte_for(decision: Decision, state: &State) -> u8 {
     }
 }
 
-/// A card on which the expanded rules decide by these quirks.
+/// A card on which the expanded rules decide by these quirks, wherever they stand.
 pub fn deciding(came: &Came, left: &mut Left, told: Told, quirks: &Quirks) -> Told {
+    decided_by(came, left, told, |card, slot| {
+        let found = rule_of(card, came.pool, slot).ok();
+        let rule = found.filter(|found| found.form == Form::Expanded)?.rule;
+        Some(Right::ALL.map(|right| quirks.decides(rule, right, came.state)))
+    })
+}
+
+/// A card on which the rules of files decide as this tells of their slots: on each
+/// right in turn, or where it tells nothing as they do. Only slots are looked at
+/// that a command can ask.
+pub fn decided_by(
+    came: &Came,
+    left: &mut Left,
+    told: Told,
+    decides: impl Fn(&Card, usize) -> Option<[Decision; 7]>,
+) -> Told {
     let Some(card) = sound_card(came.image).filter(|_| came.command.get(1) != Some(&0xA4)) else {
         return told;
     };
+    let may_be_asked = |slot: &usize| {
+        let current = [0, card.current_df, card.current_ef.unwrap_or(0)];
+        current.contains(slot) || card.parent(*slot) == card.current_df
+    };
+    let slots = card.used_slots().filter(may_be_asked);
+    let decided: Vec<_> = slots.filter_map(|slot| Some((slot, decides(&card, slot)?))).collect();
     let mut read = card.clone();
-    read.records.iter_mut().filter(|record| is_expanded(record)).for_each(|record| {
-        let decided = |right| quirks.decides(&record.rule, right, came.state);
-        let bytes = Right::ALL.map(|right| byte_for(decided(right), came.state));
-        (record.form, record.rule) = (Form::Compact, [&[0x7F][..], &bytes].concat());
-        assert!(compact::groups(&record.rule).is_some());
-    });
+    for (slot, decisions) in &decided {
+        let bytes = decisions.map(|decision| byte_for(decision, came.state));
+        let (form, rule) = (Form::Compact, [&[0x7F][..], &bytes].concat());
+        assert!(compact::groups(&rule).is_some());
+        read.put(*slot, Record { form, rule, ..read.record(*slot).clone() });
+    }
     let given = came.given_on(&read.encode(), came.command);
     let told = left.replace(&given);
     let Some(mut after) = Card::decode(&given.image) else { return told };
-    for (slot, old) in card.records.iter().enumerate().filter(|(_, old)| is_expanded(old)) {
+    for (slot, _) in decided {
         if after.record(slot).is_used() {
-            let (form, rule) = (old.form, old.rule.clone());
+            let Record { form, rule, .. } = card.record(slot).clone();
             after.put(slot, Record { form, rule, ..after.record(slot).clone() });
         }
     }
     left.image.copy_from_slice(&after.encode());
     told
-}
-
-fn is_expanded(record: &Record) -> bool {
-    record.is_used() && record.form == Form::Expanded
 }

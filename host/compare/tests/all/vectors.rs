@@ -12,14 +12,21 @@ use model::vectors::{case_lines, shared_file, shared_text, stored_text};
 use model::State;
 
 /// The kinds of lines; each text has some of each.
-const KINDS: [char; 6] = ['C', 'M', 'R', 'Y', 'E', 'W'];
-/// The longest rule that a record of any version takes.
+const KINDS: [char; 7] = ['C', 'M', 'R', 'Y', 'E', 'W', 'D'];
+/// The longest rule that a record of any version takes, and that another file keeps.
 const LONGEST_RULE: usize = 30;
+const LONGEST_KEPT: usize = 255;
 
-/// Whether the card can be asked: of E, only what a record can hold.
+/// Whether the card can be asked: of E, only what a record can hold, and of
+/// expanded rules what a file can keep.
 fn can_be_asked(line: &str) -> bool {
-    let rule = line.split(' ').nth(2).filter(|_| line.starts_with('E'));
-    rule.map_or(true, |rule| rule != "-" && rule.len() <= 2 * LONGEST_RULE)
+    let mut fields = line.split(' ').skip(1);
+    let (Some(form), Some(rule), true) = (fields.next(), fields.next(), line.starts_with('E'))
+    else {
+        return true;
+    };
+    let longest = if form == "1" { LONGEST_KEPT } else { LONGEST_RULE };
+    rule != "-" && rule.len() <= 2 * longest
 }
 
 /// Runs a text against the proved card; no line of these kinds may be left out.
@@ -37,7 +44,7 @@ fn all_agree(text: &str, fewest: usize) -> BTreeMap<char, usize> {
 #[test]
 fn every_stored_case_agrees() {
     let text = stored_text().expect("the stored cases are there");
-    all_agree(&text, 10);
+    all_agree(&text, 6);
 }
 
 #[test]
@@ -79,6 +86,10 @@ impl Subject for OneMore {
         (answer, [total, room, children, beneath + 1])
     }
 
+    fn rule(&self, image: &[u8], pool: &[u8], slot: u32) -> (u32, [u32; 3]) {
+        Proved.rule(image, pool, slot)
+    }
+
     fn sound(&self, image: &[u8]) -> bool {
         Proved.sound(image)
     }
@@ -111,7 +122,12 @@ fn a_wrong_rule_fails_the_vectors() {
     };
     let silent = Impostor { command: |_, _, told| numbered(told, 0), ..HONEST };
     let forgetful = Maker(|version, _| (version, 0));
-    let cases: [(&dyn Subject, char); 6] = [
+    let short = Impostor {
+        rule: |_, (answer, [sort, from, length])| (answer, [sort, from, length.saturating_sub(1)]),
+        ..HONEST
+    };
+    let cases: [(&dyn Subject, char); 7] = [
+        (&short, 'D'),
         (&denying, 'E'),
         (&forgetful, 'E'),
         (&forgetful, 'W'),

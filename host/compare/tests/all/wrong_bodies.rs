@@ -5,6 +5,7 @@ use crate::impostor::{found_small_in, word, Came, Left, Spoil};
 use cases::Kind;
 use compare::Told;
 use model::bodies::body;
+use model::deciding::decide;
 use model::rule::{Form, Right};
 use model::soundness::sound_card;
 use model::{Card, Record};
@@ -136,7 +137,8 @@ const BODIES: [(&str, Spoil); 17] = [
     ("b1 and b2 are swapped", |came, left, told| {
         let swap = |card: &mut Card, ef| {
             let mut file = card.record(ef).clone();
-            let byte = |right| if file.grants(right, came.state) { 0x00 } else { 0xFF };
+            let granted = |right| decide(card, came.pool, ef, right, came.state).is_granted();
+            let byte = |right| if granted(right) { 0x00 } else { 0xFF };
             let rule = [0x03, byte(Right::READ), byte(Right::UPDATE)];
             (file.form, file.rule) = (Form::Compact, rule.to_vec());
             card.put(ef, file);

@@ -64,7 +64,16 @@ fn what_the_files_hold_finds_what_both_sides_do_wrong() {
         found_by_contents(title, command, expected);
     }
     found_by_contents("READ gives zeros", spoilt_read, "READ gives other bytes");
-    found_by_contents("UPDATE writes a byte too many", spoilt_update, "than were written");
+    found_by_contents(
+        "UPDATE writes into another body",
+        |c, l, t| spoilt_update(c, l, t, true),
+        "than were written",
+    );
+    found_by_contents(
+        "UPDATE writes a free byte",
+        |c, l, t| spoilt_update(c, l, t, false),
+        "was free and changed",
+    );
 }
 
 fn spoilt_read(came: &Came, left: &mut Left, told: Told) -> Told {
@@ -76,10 +85,15 @@ fn spoilt_read(came: &Came, left: &mut Left, told: Told) -> Told {
     told
 }
 
-fn spoilt_update(came: &Came, left: &mut Left, told: Told) -> Told {
+/// One byte too many is changed, in a body or in none.
+fn spoilt_update(came: &Came, left: &mut Left, told: Told, in_a_body: bool) -> Told {
     let changed = (0..came.pool.len()).rfind(|&at| came.pool[at] != left.pool[at]);
-    if let ([_, 0xD6 | 0xDC, ..], Some(at)) = (came.command, changed) {
-        left.pool.iter_mut().skip(at + 1).take(1).for_each(|byte| *byte = !*byte);
+    let card = Card::decode(came.image).filter(|card| card.edition.has_bodies());
+    if let ([_, 0xD6 | 0xDC, ..], Some(at), Some(card)) = (came.command, changed, card) {
+        let holds = |slot: &usize| bodies::body(card.record(*slot)).contains(&(at + 1));
+        if bodies::in_order(&card).iter().any(holds) == in_a_body {
+            left.pool.iter_mut().skip(at + 1).take(1).for_each(|byte| *byte = !*byte);
+        }
     }
     told
 }

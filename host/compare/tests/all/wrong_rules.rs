@@ -166,7 +166,7 @@ fn without_a_quirk_nothing_is_wrong() {
         let honest = Impostor { command, ..HONEST };
         let pair = Pair { card: &honest, model: &Model };
         let kinds = [Kind::Template, Kind::SoundCommand, Kind::DamagedCommand, Kind::Security];
-        for kind in kinds {
+        for kind in kinds.into_iter().chain([Kind::Referred]) {
             assert_eq!(found(pair, Some(kind)), None);
         }
     }

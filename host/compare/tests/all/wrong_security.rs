@@ -1,10 +1,9 @@
 //! Cards that get Ticket 6 of 02 wrong are found, and told in a small form: what
 //! is lacking and what is closed, DELETE's two rules, and where the number is 0.
-//! Each row says within how many cases of the mix its card is found; so it was
-//! with each of six seeds.
+//! Each row says within how many cases of the mix its card is found.
 
 use crate::impostor::{
-    found, found_small_in, found_small_within, Came, Impostor, Left, Spoil, HONEST,
+    found, found_among, found_small_in, found_small_within, Came, Impostor, Left, Spoil, HONEST,
 };
 use crate::judge::{numbered, telling, Judge, RIGHT};
 use cases::Kind;
@@ -76,7 +75,7 @@ const JUDGES: [(usize, &str, Spoil); 12] = [
         let groups = |all: &[Decision]| all.first().copied().unwrap_or(Decision::Closed);
         telling(came, told, &Judge { groups, ..RIGHT })
     }),
-    (300, "the last group that names the right", |came, _, told| {
+    (800, "the last group that names the right", |came, _, told| {
         let groups = |all: &[Decision]| all.last().copied().unwrap_or(Decision::Closed);
         telling(came, told, &Judge { groups, ..RIGHT })
     }),
@@ -242,6 +241,16 @@ fn full_sets_find_what_both_sides_tell_wrongly() {
     }
 }
 
+/// Rules kept in files are among what full sets open, and do not.
+#[test]
+fn full_sets_find_what_both_sides_tell_wrongly_of_rules_in_files() {
+    for (_, title, command) in JUDGES.into_iter().chain(TOLD) {
+        let wrong = Impostor { command, ..HONEST };
+        let found = found_among(6000, Pair { card: &wrong, model: &wrong }, Some(Kind::Referred));
+        assert!(matches!(found, Some(Disagreement::Opened { .. })), "{title}: {found:?}");
+    }
+}
+
 /// What is closed is told so under full sets too.
 #[test]
 fn a_rule_that_is_closed_under_one_state_alone_is_found() {
@@ -266,9 +275,9 @@ fn a_rule_that_is_closed_under_one_state_alone_is_found() {
 /// And demand 1 finds these.
 #[test]
 fn demand_1_finds_numbers_that_both_sides_tell_wrongly() {
-    for (_, title, command) in WITHOUT {
+    for (count, title, command) in WITHOUT {
         let wrong = Impostor { command, ..HONEST };
-        match found(Pair { card: &wrong, model: &wrong }, None) {
+        match found_among(count, Pair { card: &wrong, model: &wrong }, None) {
             Some(Disagreement::Demand1 { .. }) => {}
             other => panic!("{title}: {other:?}"),
         }
@@ -280,7 +289,8 @@ fn demand_1_finds_numbers_that_both_sides_tell_wrongly() {
 fn without_a_flaw_nothing_is_told_wrongly() {
     let honest = Impostor { command: |came, _, told| telling(came, told, &RIGHT), ..HONEST };
     let pair = Pair { card: &honest, model: &Model };
-    for kind in [Kind::Security, Kind::SoundCommand, Kind::Locked, Kind::Rule] {
+    for kind in [Kind::Security, Kind::SoundCommand, Kind::Locked, Kind::Rule, Kind::Referred] {
         assert_eq!(found(pair, Some(kind)), None, "{kind:?}");
     }
+    assert_eq!(found_among(100, pair, Some(Kind::RuleFiles)), None);
 }

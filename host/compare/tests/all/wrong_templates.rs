@@ -6,6 +6,7 @@ use crate::impostor::{
 };
 use cases::Kind;
 use compare::{Disagreement, Pair, Told};
+use model::deciding::decide;
 use model::life_cycle::is_deactivated;
 use model::lines::Case as Line;
 use model::rule::Right;
@@ -139,9 +140,9 @@ const STRICT: [(&str, Spoil); 4] = [
     }),
     ("both rights are asked for", |came, left, told| {
         let decided = creation(came, told).map_or(Decision::Granted, |(card, _)| {
-            let directory = card.record(card.current_df);
-            let both = [Right::CreateDf, Right::CreateEf];
-            Decision::of_all_together(both.map(|right| directory.decide(right, came.state)))
+            let (df, both) = (card.current_df, [Right::CreateDf, Right::CreateEf]);
+            let decided = both.map(|right| decide(&card, came.pool, df, right, came.state));
+            Decision::of_all_together(decided)
         });
         match decided {
             Decision::Granted => told,

@@ -1,8 +1,9 @@
-//! CREATE FILE in the current DF: 01, "CREATE"; 02, Ticket 4 (the new body) and
-//! Ticket 6.
+//! CREATE FILE in the current DF: 01, "CREATE"; 02, Ticket 4 (the new body),
+//! Tickets 6 and 7.
 
 use crate::bodies;
 use crate::card::{slot_number, Card};
+use crate::deciding;
 use crate::decision::Decision;
 use crate::descriptor::Class;
 use crate::record::{charge, Kind, Record};
@@ -18,7 +19,7 @@ use crate::words::{
 /// Steps H, J, K and L, then the effect.
 pub fn run(card: &mut Card, pool: &mut [u8], data: &[u8], state: &State) -> Result<Word, Refusal> {
     let new = template::read(data, card.edition).ok_or(WRONG_DATA)?;
-    step_j_security(decide(card, &new, state))?;
+    step_j_security(decide(card, pool, &new, state))?;
     step_k_life_cycle(card)?;
     step_l_identifier(card, &new)?;
     step_l_name(card, &new)?;
@@ -33,12 +34,12 @@ pub fn run(card: &mut Card, pool: &mut [u8], data: &[u8], state: &State) -> Resu
 }
 
 /// Bit b3 of the current DF's rule for a DF, b2 for an EF.
-fn decide(card: &Card, new: &NewFile, state: &State) -> Decision {
+fn decide(card: &Card, pool: &[u8], new: &NewFile, state: &State) -> Decision {
     let right = match new.class {
         Class::Df => Right::CreateDf,
         _ => Right::CreateEf,
     };
-    card.record(card.current_df).decide(right, state)
+    deciding::decide(card, pool, card.current_df, right, state)
 }
 
 /// The current DF is deactivated or terminated, or one above is terminated.

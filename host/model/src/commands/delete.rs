@@ -1,8 +1,9 @@
 //! DELETE FILE, a child of the current DF: 01, "DELETE"; 02, Ticket 4 (deleted
-//! bodies) and Ticket 6 (its two rules). No life cycle is checked.
+//! bodies), Ticket 6 (its two rules) and Ticket 7. No life cycle is checked.
 
 use crate::bodies;
 use crate::card::Card;
+use crate::deciding;
 use crate::decision::Decision;
 use crate::record::Record;
 use crate::refusal::{step_j_security, Refusal};
@@ -18,7 +19,7 @@ pub fn run(
     state: &State,
 ) -> Result<Word, Refusal> {
     let child = step_i_child(card, identifier)?;
-    step_j_security(decide(card, child, state))?;
+    step_j_security(decide(card, pool, child, state))?;
     let mut deleted = card.beneath(child);
     deleted.push(child);
     for slot in deleted {
@@ -41,8 +42,8 @@ fn step_i_child(card: &Card, identifier: u16) -> Result<usize, Word> {
 
 /// The child's b7 or the current DF's b1: alternatives, so that lacking wins
 /// over closed.
-fn decide(card: &Card, child: usize, state: &State) -> Decision {
-    let by_child = card.record(child).decide(Right::DeleteSelf, state);
-    let by_directory = card.record(card.current_df).decide(Right::DeleteChild, state);
+fn decide(card: &Card, pool: &[u8], child: usize, state: &State) -> Decision {
+    let by_child = deciding::decide(card, pool, child, Right::DeleteSelf, state);
+    let by_directory = deciding::decide(card, pool, card.current_df, Right::DeleteChild, state);
     Decision::of_alternatives([by_child, by_directory])
 }

@@ -1,6 +1,6 @@
 //! READ BINARY, UPDATE BINARY, READ RECORD and UPDATE RECORD on the current EF:
-//! 02, Ticket 4, coded as in 01, "The order in which a command is judged"; Ticket
-//! 6.
+//! 02, Ticket 4, coded as in 01, "The order in which a command is judged"; Tickets
+//! 6 and 7.
 
 use std::ops::Range;
 
@@ -8,6 +8,7 @@ use crate::bodies;
 use crate::bytes::{byte, number16, rest};
 use crate::card::Card;
 use crate::command::Told;
+use crate::deciding::decide;
 use crate::descriptor::{class, Class};
 use crate::life_cycle;
 use crate::record::Record;
@@ -39,7 +40,7 @@ pub fn read(
     unit: Unit,
     state: &State,
 ) -> Result<Told, Refusal> {
-    let file = step_i_to_k(card, Right::READ, state)?;
+    let file = step_i_to_k(card, pool, Right::READ, state)?;
     let length = match byte(command, 4) {
         0 => LE_ZERO,
         le => usize::from(le),
@@ -57,7 +58,7 @@ pub fn update(
     unit: Unit,
     state: &State,
 ) -> Result<Word, Refusal> {
-    let file = step_i_to_k(card, Right::UPDATE, state)?;
+    let file = step_i_to_k(card, pool, Right::UPDATE, state)?;
     let data = rest(command, 5);
     let place = place(file, unit, number16(command, 2), data.len())?;
     if let Some(part) = pool.get_mut(place) {
@@ -68,10 +69,15 @@ pub fn update(
 
 /// The current EF, if its rule grants the right, it is activated, and nothing
 /// above it is terminated.
-fn step_i_to_k<'a>(card: &'a Card, right: Right, state: &State) -> Result<&'a Record, Refusal> {
+fn step_i_to_k<'a>(
+    card: &'a Card,
+    pool: &[u8],
+    right: Right,
+    state: &State,
+) -> Result<&'a Record, Refusal> {
     let slot = card.current_ef.ok_or(NO_CURRENT_EF)?;
     let file = card.record(slot);
-    step_j_security(file.decide(right, state))?;
+    step_j_security(decide(card, pool, slot, right, state))?;
     let usable = life_cycle::is_activated(file.life_cycle) && !card.is_terminated_above(slot);
     refuse_if(!usable, CONDITIONS_NOT_SATISFIED)?;
     Ok(file)

@@ -30,6 +30,11 @@ fn call_with_image(image: &[u8], random: &mut Random) {
             let _ = (card.above(slot), card.beneath(slot).len(), card.children(slot).count());
             let _ = (card.room(slot), card.charged(slot), card.record(slot).charge());
             let _ = (card.is_terminated(slot), card.is_terminated_above(slot));
+            let pool = random.bytes(60);
+            let _ = deciding::decide(&card, &pool, slot, Right::READ, &state);
+            let (answer, place) = deciding::place_of(image, &pool, slot);
+            assert!([0, 1, 6].contains(&answer));
+            let _ = place.bytes(&pool, image);
             let mut changed = card.clone();
             changed.put(slot, Record::FREE);
             changed.set_life_cycle(slot, 5);
@@ -95,7 +100,9 @@ fn call_with_bytes(bytes: &[u8], random: &mut Random) {
             let _ = fcp::template(&record);
         }
     }
-    let _ = objects::all(bytes);
+    let _ = (objects::all(bytes), deciding::before_padding(bytes));
+    let place = deciding::Place::InPool { from: random.below(50), to: random.below(50) };
+    let _ = place.bytes(&[], bytes);
     let _ = ledger::announced(bytes);
     let unsound = Record { rule: bytes.to_vec(), size: u32::MAX, ..Record::FREE };
     let _ = fcp::template(&unsound);
@@ -164,8 +171,12 @@ fn a_good_header_before_random_records() {
             for (at, limit) in [(5, 4), (7, slots + 1), (9, 4), (11, 3), (15, 9)] {
                 record[at] = random.below(limit) as u8;
             }
-            record[3] = random.below(2) as u8;
-            record[33] = 1;
+            record[3] = random.below(3) as u8;
+            record[33] = if record[3] == 2 { 3 } else { 1 };
+            if record[3] == 2 {
+                record[35] = random.below(4) as u8;
+                record[36] = random.below(3) as u8;
+            }
             if version == 3 && record[0] == 2 {
                 record[63] = random.below(20) as u8;
             }

@@ -4,7 +4,8 @@
 //! on replay in scope.rs, on Ticket 2 (A35, A37 to A41) in fcp.rs, on Ticket 3
 //! (A42 to A50) in expanded.rs and version_two.rs, on Ticket 4 (A51 to A60) in
 //! bodies.rs, pool.rs, reading.rs and read_order.rs, on Ticket 6 (A61, A62) in
-//! decisions.rs and security.rs.
+//! decisions.rs and security.rs, on Ticket 7 (A63 to A71) in deciding.rs,
+//! padding.rs and referred.rs.
 
 use crate::common::*;
 use model::edition::Edition;

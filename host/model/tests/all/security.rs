@@ -6,14 +6,14 @@ use crate::lent::Lent;
 use model::words::*;
 use model::{command, State, Word};
 
-const ROOT: usize = 0;
-const DF: usize = 1;
-const BYTES: usize = 2;
-const RECORDS: usize = 3;
+pub const ROOT: usize = 0;
+pub const DF: usize = 1;
+pub const BYTES: usize = 2;
+pub const RECORDS: usize = 3;
 
 /// 3F00 { 7F10 { 6F01 of 9 bytes, 6F02 of 3 records } }, all open; 7F10 is
 /// current, and this EF in it.
-fn card(ef: Option<&str>) -> Lent {
+pub fn card(ef: Option<&str>) -> Lent {
     let mut lent = Lent::with(
         8,
         &[
@@ -29,7 +29,7 @@ fn card(ef: Option<&str>) -> Lent {
 }
 
 /// Gives a file another rule.
-fn set_rule(lent: &mut Lent, slot: usize, form: u8, rule: &str) {
+pub fn set_rule(lent: &mut Lent, slot: usize, form: u8, rule: &str) {
     let (rule, at) = (bytes(rule), 16 + 64 * slot);
     lent.image[at + 3] = form;
     lent.image[at + 33..at + 62].fill(0);
@@ -48,19 +48,19 @@ fn all_but(bit: u8, sc: u8) -> [(u8, String); 2] {
 
 /// Word and number of a command; what else must hold of it is asserted.
 #[track_caller]
-fn told(lent: &Lent, text: &str, state: &State) -> (Word, u8) {
+pub fn told(lent: &Lent, text: &str, state: &State) -> (Word, u8) {
     let (outcome, _) = lent.clone().ask(text, 256, state);
     assert_eq!(outcome.answer, 0, "{text}");
     (outcome.word, outcome.security)
 }
 
-const USER_1: State = State { user: 2, ..State::EMPTY };
+pub const USER_1: State = State { user: 2, ..State::EMPTY };
 /// All sets full but for user bit 1.
 const ALL_BUT_USER_1: State = State { user: !2, ..State::FULL };
 
 /// The commands with which a rule is asked: the EF that is current, whose rule,
 /// which bit of it.
-fn commands() -> Vec<(Option<&'static str>, String, usize, u8)> {
+pub fn commands() -> Vec<(Option<&'static str>, String, usize, u8)> {
     vec![
         (None, ACTIVATE.into(), DF, 0x10),
         (Some("6F01"), ACTIVATE.into(), BYTES, 0x10),

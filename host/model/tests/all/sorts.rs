@@ -7,7 +7,7 @@ use model::lines::{from_hex, Case};
 use model::rule::Right;
 use model::soundness::sound_card;
 use model::vectors::case_lines;
-use model::{bodies, objects, Card};
+use model::{bodies, deciding, objects, Card};
 
 /// How many cases are stored, or a few more.
 pub const STORED_CASES: usize = 400;
@@ -69,7 +69,7 @@ fn met_with_fcp(case: &str, result: &str) -> String {
     }
 }
 
-/// Of a rule's object what Ticket 3 brought: AB, and more than 16 bytes.
+/// Of a rule's object what Tickets 3 and 7 brought: AB, more than 16 bytes, 8B.
 fn rule_object(template: &[u8]) -> String {
     let mut left = template;
     while let Some((object, after)) = objects::first(left) {
@@ -77,17 +77,20 @@ fn rule_object(template: &[u8]) -> String {
         match object.tag {
             0x8C => return long.to_string(),
             0xAB => return format!(" AB{long}"),
+            0x8B => return " 8B".to_string(),
             _ => left = after,
         }
     }
     String::new()
 }
 
-/// What a command met, or sent, of Ticket 3: the rule in CREATE's data; else the
-/// form of the rule that lets it pass or refuses it, of DELETE the directory's.
+/// What a command met, or sent, of Tickets 3 and 7: the rule in CREATE's data;
+/// else the form of the rule that lets it pass or refuses it, of DELETE the
+/// directory's, and of a referred one where it led.
 fn met_with_rules(instruction: &str, case: &str, result: &str) -> String {
     let fields: Vec<&str> = case.split(' ').collect();
-    let (&[_, image, command, ..], Some(word)) = (fields.as_slice(), result.split(' ').nth(2))
+    let (&[_, image, command, _, _, _, _, pool, _], Some(word)) =
+        (fields.as_slice(), result.split(' ').nth(2))
     else {
         return String::new();
     };
@@ -100,15 +103,41 @@ fn met_with_rules(instruction: &str, case: &str, result: &str) -> String {
             }
             _ => card.current_df,
         };
-        (card.edition.version_number(), card.record(target).form.number())
+        let led = where_it_led(&card, &from_hex(pool).unwrap_or_default(), target);
+        (card.edition.version_number(), card.record(target).form.number(), led)
     });
     match (instruction, word, asked) {
         ("A4", ..) | (_, _, None) => String::new(),
-        ("E0", "6A80" | "9000", Some((version, _))) => {
+        ("E0", "6A80" | "9000", Some((version, _, _))) => {
             format!(" v{version}{}", rule_object(command.get(7..).unwrap_or(&[])))
         }
-        (_, "6982" | "9000", Some((_, 1))) => " by AB".to_string(),
+        (_, "6982" | "9000", Some((_, 1, _))) => " by AB".to_string(),
+        (_, "6982" | "9000", Some((_, 2, led))) => format!(" by 8B {led}"),
         _ => String::new(),
+    }
+}
+
+/// Where the rule of the file in a slot stands, or why none is found.
+fn where_it_led(card: &Card, pool: &[u8], slot: usize) -> String {
+    match deciding::rule_of(card, pool, slot) {
+        Ok(found) if matches!(found.place, deciding::Place::InPool { .. }) => "pool".to_string(),
+        Ok(_) => "record".to_string(),
+        Err(lost) => format!("{lost:?}"),
+    }
+}
+
+/// What a D case shows: the image's version and where the rule is, or why it is
+/// nowhere.
+fn of_deciding(case: &str) -> String {
+    let Some(Case::Deciding { image, pool, slot }) = Case::parse(case) else {
+        return String::new();
+    };
+    match sound_card(&image) {
+        None => "unsound".to_string(),
+        Some(card) => {
+            let version = card.edition.version_number();
+            format!("{version} {}", where_it_led(&card, &pool, slot))
+        }
     }
 }
 
@@ -164,15 +193,16 @@ fn met_with_security(case: &str, result: &str) -> String {
 
 /// What the child's own rule and the directory's decide on a DELETE.
 fn two_decisions(case: &str) -> Option<[model::Decision; 2]> {
-    let Case::Command { image, command, state, .. } = Case::parse(case)? else { return None };
+    let Case::Command { image, command, state, pool, .. } = Case::parse(case)? else {
+        return None;
+    };
     let &[_, 0xE4, _, _, _, high, low] = command.as_slice() else { return None };
     let card = sound_card(&image)?;
     let identifier = u16::from_be_bytes([high, low]);
     let child =
         card.children(card.current_df).find(|&s| card.record(s).identifier == identifier)?;
-    let directory = card.record(card.current_df);
-    let own = card.record(child).decide(Right::DeleteSelf, &state);
-    Some([own, directory.decide(Right::DeleteChild, &state)])
+    let asked = [(child, Right::DeleteSelf), (card.current_df, Right::DeleteChild)];
+    Some(asked.map(|(slot, right)| deciding::decide(&card, &pool, slot, right, &state)))
 }
 
 /// What a line shows, so that one of each sort is stored: the kind, the
@@ -198,6 +228,7 @@ pub fn sort_of(line: &str) -> String {
         }
         "Y" => format!("Y {:.8}", head.first().unwrap_or(&"")),
         "E" => format!("E {} {}", case.get(2..3).unwrap_or(""), decided(result)),
+        "D" => format!("D {}", of_deciding(case)),
         _ => format!("{kind}{} {}", versions(case), head.first().unwrap_or(&"")),
     }
 }

@@ -35,6 +35,8 @@ fn the_maker_knows_versions_and_forms() {
         (2, 1, OPEN, 4),
         (2, 2, OPEN, 4),
         (2, 2, OPEN_EXPANDED, 4),
+        (1, 2, "2F0601", 4),
+        (2, 2, "2F0601", 4),
         (2, 256, OPEN, 4),
         (2, 257, OPEN_EXPANDED, 4),
         (2, 65_536, OPEN, 4),
@@ -177,10 +179,13 @@ fn the_longest_template() {
 }
 
 /// No rule is well formed in both forms: an AM_DO's 80 is no AM byte. So only
-/// the form that a record was made with leaves it sound.
+/// the form that a record was made with leaves it sound; a reference is none of
+/// these versions, of whatever length.
 #[test]
 fn record_byte_3() {
-    for (version, form, rule) in [(1, 0, OPEN), (2, 0, OPEN), (2, 1, OPEN_EXPANDED)] {
+    for (version, form, rule) in
+        [(1, 0, OPEN), (1, 0, "000000"), (2, 0, OPEN), (2, 0, "000000"), (2, 1, OPEN_EXPANDED)]
+    {
         let image = made(version, 4, 192, form, rule);
         for byte in 0..=255u8 {
             let mut changed = image.clone();

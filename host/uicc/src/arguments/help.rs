@@ -8,10 +8,11 @@ uicc: a test UICC's files, on the proved card
         - is standard input. Below a command's line stands what it answers: a
         file's template (SELECT with P2 04) in words, what READ gives in hex
         and characters; and, where a rule refuses it (6982), whose rule that
-        is, what it asks for, and what of that is missing
+        is, which record keeps it or why none is found, what it asks for, and
+        what of that is missing
   uicc show IMAGE
-        prints the tree of files, each directory's room as a bar, and where in
-        the pool the bodies lie
+        prints the tree of files, each directory's room as a bar, where in the
+        pool the bodies lie, and of each rule where it stands and what it allows
   uicc read IMAGE PATH [--from N] [--count N] [--record N] [--output FILE]
             [--force] [state]
         reads a file's body, or part of it, and prints it in hex and
@@ -22,7 +23,8 @@ uicc: a test UICC's files, on the proved card
         all of them or none; IMAGE is saved afterwards
   uicc export IMAGE
         prints a script that makes the same files again, with what they hold,
-        on a fresh card; its first lines say on which
+        on a fresh card; its first lines say on which. Files that keep rules
+        come before those that they rule
   uicc new IMAGE [card] [--force]
         writes the image of a fresh card; --force replaces a file
   uicc rule RULE
@@ -42,7 +44,7 @@ After -- nothing is an option.
 
 card, for a fresh one:
   --version N       1; 2, which takes expanded rules and longer ones; or 3,
-                    whose files have bodies too (3)
+                    whose files have bodies too, which may keep rules (3)
   --slots N         slots for files, the root among them, 2 to 1023 (64)
   --total BYTES     the root's total, at most 64 for each slot but the root's
                     (that); on version 3 also the length of the pool
@@ -50,8 +52,11 @@ card, for a fresh one:
 
 A RULE is hex: a compact rule (tag 8C) or, on versions 2 and 3, an expanded one
 (tag AB), with tag and length or without. It has 1 to 16 bytes on version 1, to
-30 on version 2, to 28 on version 3.
-Its first byte tells which: 8C and AB begin an object; 80 begins an expanded
+30 on version 2, to 28 on version 3. On version 3 it may be a reference (tag 8B)
+of 3 bytes, the identifier of a linear fixed file and the number of a record
+that holds an expanded rule, with FF behind it; with tag and length only. As
+rule of the root of a fresh card, which has no such file, it allows nothing.
+Its first byte tells which: 8C, AB and 8B begin an object; 80 begins an expanded
 rule without tag and length, and a byte below 80 a compact one, since b8 of its
 AM byte is clear.
 

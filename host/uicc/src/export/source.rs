@@ -4,6 +4,7 @@ use card::{lent, Card, Kind, State, LONGEST_RESPONSE};
 use model::life_cycle::ACTIVATED;
 use model::{bodies, Card as Decoded, Record};
 
+use super::referred::Referred;
 use crate::arguments::Fresh;
 use crate::fcp::Template;
 use crate::rule::{self, Written};
@@ -18,14 +19,21 @@ pub struct Source {
     card: Decoded,
     pool: Vec<u8>,
     children: Vec<Vec<usize>>,
+    referred: Referred,
 }
 
 impl Source {
     pub fn new(card: &Card) -> Result<Source, String> {
         let (kind, pool) = (card.kind(), card.pool().to_vec());
-        let card = Decoded::decode(card.image()).ok_or("the image cannot be read")?;
-        let children = tree::children(&card);
-        Ok(Source { kind, card, pool, children })
+        let decoded = Decoded::decode(card.image()).ok_or("the image cannot be read")?;
+        let referred = Referred::new(card, &decoded)?;
+        let mut children = tree::children(&decoded);
+        children.iter_mut().for_each(|list| list.sort_by_key(|slot| referred.turn(*slot)));
+        Ok(Source { kind, card: decoded, pool, children, referred })
+    }
+
+    pub fn referred(&self) -> &Referred {
+        &self.referred
     }
 
     /// The fresh card on which the files can be made again.
@@ -44,6 +52,7 @@ impl Source {
         self.card.parent(slot)
     }
 
+    /// The files in a directory, in the order in which they are made.
     pub fn children(&self, slot: usize) -> &[usize] {
         self.children.get(slot).map_or(&[], Vec::as_slice)
     }

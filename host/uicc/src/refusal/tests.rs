@@ -1,6 +1,8 @@
 //! What is told of a refusal, beside what the card does.
 
 use card::{Kind, Reply, Rule, Security, Word};
+use cases::random::Random;
+use cases::rule_files;
 use model::command::Instruction;
 use model::{Record, State as ModelState};
 
@@ -54,6 +56,7 @@ fn card(rules: [Rule; 3], file_is_current: bool) -> Option<Card> {
         let form = match rule.form {
             Form::Compact => model::rule::Form::Compact,
             Form::Expanded => model::rule::Form::Expanded,
+            Form::Referred => model::rule::Form::Referred,
         };
         let record = decoded.record(slot).clone();
         decoded.put(slot, Record { form, rule: rule.bytes.to_vec(), ..record });
@@ -72,11 +75,17 @@ fn reply(card: &Card, command: &[u8], state: &State) -> Reply {
 fn read(lines: &str) -> (Vec<(String, String)>, Option<String>) {
     let deeper = " ".repeat(22);
     let whole = lines.replace(&format!("\n{deeper}"), " ");
-    let (mut rules, mut missing) = (Vec::new(), None);
+    let (mut rules, mut missing, mut before) = (Vec::new(), None, "");
     for line in whole.lines() {
         let (title, words) = line.split_at(20);
-        if title.trim() == "missing" {
-            assert!(missing.replace(words.to_string()).is_none(), "{lines}");
+        match title.trim() {
+            "missing" => assert!(missing.replace(words.to_string()).is_none(), "{lines}"),
+            // Where a reference leads stands below its rule.
+            "kept in" | "denies" => assert!(before.trim() == "rule (8B)", "{lines}"),
+            _ => {}
+        }
+        before = title;
+        if !title.trim().starts_with("rule ") {
             continue;
         }
         let first = if rules.is_empty() { "of " } else { "or of " };
@@ -199,6 +208,30 @@ fn the_words_agree_with_the_number_of_the_library() {
         }
     }
     assert!(counts.iter().all(|&count| count > 2000) && halves > 100, "{counts:?}, {halves}");
+}
+
+/// The same where the rules stand in records of files, on cards of the generator.
+/// Other conditions may refuse before security does.
+#[test]
+fn the_words_agree_where_records_keep_the_rules() {
+    let (mut counts, mut denied, mut kept) = ([0; 3], 0, 0);
+    for number in 0..6000 {
+        let mut random = Random::for_case(8, number);
+        let (card, command, ModelState { messaging, external, user, channels }) =
+            rule_files::asked(&mut random);
+        let card = Card::from_parts(card.card.encode(), card.pool).expect("a sound card");
+        let now = State { messaging, external, user, channels };
+        if reply(&card, &command, &now).word != Word::SECURITY {
+            continue;
+        }
+        let lines = below(&command, &card, &now);
+        denied += lines.matches("        denies ").count();
+        kept += lines.matches("        kept in ").count();
+        let more = State { channels, ..state(&mut Noise::new(number)) };
+        counts[agrees(&card, &command, &now, &more).number() as usize] += 1;
+    }
+    assert!(counts[1] > 200 && counts[2] > 200, "{counts:?}");
+    assert!(denied > 200 && kept > 200, "{denied}, {kept}");
 }
 
 #[test]

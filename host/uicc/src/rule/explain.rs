@@ -3,8 +3,11 @@
 use card::{Card, Form, Kind, Rule, FEWEST_SLOTS};
 
 use super::need::Need;
-use super::{folded, groups, read, words, Condition, Malformed, Owner, Sort};
+use super::{folded, groups, read, words, Condition, Malformed, Owner, Reference, Sort};
 use crate::{describe, hex};
+
+/// No record of a file is longer.
+const LONGEST_RECORD: usize = 255;
 
 /// A line of the list: the place of its bytes, how many they are, how deep it
 /// stands, and what they say.
@@ -26,13 +29,48 @@ pub fn explain(bytes: &[u8]) -> Result<String, String> {
     }
     let versions: Vec<_> = takers(rule).map(|kind| kind.version.to_string()).collect();
     let versions = describe::list(&versions, "and");
-    if versions.is_empty() {
-        let most = Kind::ALL.iter().filter_map(|kind| kind.longest_rule(rule.form)).max();
-        let most = most.unwrap_or_default();
-        return Err(format!("this {form} has {length}: a card takes 1 to {most}"));
-    }
-    let told = told(rule, written.before()).map_err(|wrong| wrong.tell(0, rule.bytes.len()))?;
-    Ok(format!("{form} of {length}, for cards of version {versions}\n{told}"))
+    let places = match rule.form {
+        _ if !versions.is_empty() => format!("for cards of version {versions}"),
+        Form::Expanded if (1..=LONGEST_RECORD).contains(&rule.bytes.len()) => {
+            "for a record to which rules refer (8B), on cards of version 3".to_string()
+        }
+        _ => {
+            let most = Kind::ALL.iter().filter_map(|kind| kind.longest_rule(rule.form)).max();
+            let most = most.unwrap_or_default();
+            return Err(format!("this {form} has {length}: a card takes 1 to {most}"));
+        }
+    };
+    let told = match rule.form {
+        Form::Compact | Form::Expanded => told(rule, written.before()),
+        Form::Referred => {
+            Reference::read(rule.bytes).map(|named| referred(named, written.before()))
+        }
+    };
+    let told = told.map_err(|wrong| wrong.tell(0, rule.bytes.len()))?;
+    Ok(format!("{form} of {length}, {places}\n{told}"))
+}
+
+/// A reference in its two parts, and how the rule is found.
+fn referred(reference: Reference, before: usize) -> String {
+    let Reference { identifier, number } = reference;
+    let warning = match number {
+        0 => "records count from 1, so that this rule allows nothing\n",
+        _ => "",
+    };
+    format!(
+        "{:>4}  {identifier:04X}    the file that keeps the rule\n\
+         {:>4}  {number:02X}      the number of its record\n\
+         {warning}\
+         the rule is what record {number} of {identifier:04X} holds when a command comes: an \
+         expanded rule, and FF behind it;\n  \
+         {identifier:04X} is the nearest file of this identifier, from the directory that holds the \
+         ruled file up;\n  \
+         where there is none, or it is not linear fixed, is the ruled file itself or has no such \
+         record or rule,\n  \
+         nothing is allowed; uicc show tells what is found on a card\n",
+        before + 1,
+        before + 3,
+    )
 }
 
 /// The kinds of cards that take a rule.
@@ -61,19 +99,17 @@ fn told(rule: Rule, before: usize) -> Result<String, Malformed> {
 
 fn lines(rule: Rule) -> Result<Vec<Line>, Malformed> {
     // An AM or SC byte stands alone, or behind tag and length.
-    let byte_length = match rule.form {
-        Form::Compact => 1,
-        Form::Expanded => 3,
-    };
+    let compact = rule.form == Form::Compact;
+    let byte_length = if compact { 1 } else { 3 };
     let mut lines = Vec::new();
     for group in groups(rule)? {
         let words = rights(group.rights);
         lines.push(Line { at: group.at, length: byte_length, depth: 0, words });
         for (number, grant) in group.grants.iter().enumerate() {
-            let before = match rule.form {
-                Form::Compact => format!("{}: ", rights(grant.rights)),
-                Form::Expanded if number > 0 => "or ".to_string(),
-                Form::Expanded => String::new(),
+            let before = match number {
+                _ if compact => format!("{}: ", rights(grant.rights)),
+                0 => String::new(),
+                _ => "or ".to_string(),
             };
             push(&mut lines, &grant.condition, byte_length, 1, &before);
         }

@@ -1,10 +1,10 @@
 //! A rule turned round: for each right what suffices for it, rights that need
 //! the same together. A right that no group names has nothing that suffices.
 
-use card::Rule;
+use card::{Form, Rule};
 
 use super::need::Need;
-use super::{bits, groups, Group, Malformed};
+use super::{bits, groups, Group, Malformed, Reference};
 
 /// What a rule belongs to: b3 to b1 of the AM byte mean something else in a
 /// directory and in a file with a body.
@@ -43,8 +43,11 @@ impl Owner {
 }
 
 /// The whole rule: all seven rights, with what they need, a sentence for rights
-/// that need the same.
+/// that need the same; of a reference what it names.
 pub fn words(rule: Rule, owner: Owner) -> Result<Vec<String>, Malformed> {
+    if rule.form == Form::Referred {
+        return Ok(vec![Reference::read(rule.bytes)?.words()]);
+    }
     let groups = groups(rule)?;
     let mut parts: Vec<(Need, u8)> = Vec::new();
     for right in bits(ALL_RIGHTS) {
@@ -60,7 +63,7 @@ pub fn words(rule: Rule, owner: Owner) -> Result<Vec<String>, Malformed> {
     Ok(parts.iter().map(part).collect())
 }
 
-/// What suffices for a right, a bit of an AM byte.
+/// What suffices for a right, a bit of an AM byte, by a rule that is no reference.
 pub fn needed(rule: Rule, right: u8) -> Result<Need, Malformed> {
     Ok(need(&groups(rule)?, right))
 }

@@ -3,7 +3,8 @@
 //!
 //! The first byte tells which, so that nothing is read in two ways: an AM byte
 //! is below 80, so a bare compact rule begins below 80; a bare expanded one
-//! begins with the tag 80; an object begins with 8C or AB.
+//! begins with the tag 80; an object begins with 8C, AB or 8B. A reference is
+//! always written as an object, since its bytes are a file's identifier.
 
 use card::{Form, Rule};
 
@@ -33,16 +34,20 @@ impl Written {
 
     /// Why it is malformed, if it is, with the place in what was written.
     pub fn malformed(&self) -> Option<String> {
-        let wrong = super::groups(self.rule()).err()?;
-        Some(wrong.tell(self.before, self.bytes.len()))
+        let wrong = super::malformed(self.rule())?;
+        let (before, length) = (self.before, self.bytes.len());
+        Some(match self.form {
+            Form::Compact | Form::Expanded => wrong.tell(before, length),
+            // Its length is wrong, the byte before it.
+            Form::Referred => format!("byte {before} of {}: {}", before + length, wrong.why()),
+        })
     }
 
-    /// As it is written again: a compact rule bare, an expanded one as an
-    /// object.
+    /// As it is written again: a compact rule bare, any other one as an object.
     pub fn row(&self) -> String {
         match self.form {
             Form::Compact => hex::row(&self.bytes),
-            Form::Expanded => object(self.rule()),
+            Form::Expanded | Form::Referred => object(self.rule()),
         }
     }
 }
@@ -64,7 +69,7 @@ pub fn read(bytes: &[u8]) -> Result<Written, String> {
     let written = bytes.len();
     let Some(form) = Form::ALL.into_iter().find(|form| form.tag() == first) else {
         return Err(format!(
-            "byte 1 of {written}: {first:02X} begins no rule: 8C or AB begins an object, 80 a \
+            "byte 1 of {written}: {first:02X} begins no rule: 8C, AB or 8B begins an object, 80 a \
              bare expanded rule, a byte below 80 a bare compact one"
         ));
     };

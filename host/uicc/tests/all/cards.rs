@@ -5,7 +5,7 @@ use std::collections::BTreeMap;
 
 use model::life_cycle::{is_deactivated, is_terminated, ACTIVATED, DEACTIVATED, TERMINATED};
 use model::maker::ROOT_DESCRIPTOR;
-use model::rule::{decide, Right};
+use model::rule::{decide, Form, Right};
 use model::{bodies, Card, Record, State};
 
 /// Bytes from here on are reached by no UPDATE BINARY: it starts before 8000 and
@@ -129,6 +129,43 @@ fn body(kept: &Kept, slot: usize) -> Vec<u8> {
     let reached = if record.record_length > 0 { old.len() } else { OUT_OF_REACH };
     let new = |(place, byte): (usize, &u8)| if updated && place < reached { *byte } else { 0xFF };
     old.iter().enumerate().map(new).collect()
+}
+
+/// Whether the rule of a file stands in a record of another one. What comes back
+/// of such a card depends on the order of the script, and is not foretold.
+pub fn refers(card: &Card) -> bool {
+    card.used_slots().any(|slot| card.record(slot).form == Form::Referred)
+}
+
+/// What is found on a new card, with as many things lost as differ: files that are
+/// missing where their directory is not, life cycles, what files hold, and the
+/// root's name and descriptor. Nothing else may differ.
+pub fn found(old: &Kept, new: &Kept) -> Foretold {
+    let slots = |kept: &Kept| -> BTreeMap<Path, usize> {
+        kept.card.used_slots().map(|slot| (path(&kept.card, slot), slot)).collect()
+    };
+    let (before, after) = (slots(old), slots(new));
+    let (mut tree, mut lost) = (Tree::new(), 0);
+    for (path, slot) in &before {
+        let Some(now) = after.get(path) else {
+            lost += usize::from(after.contains_key(&path[..path.len() - 1]));
+            continue;
+        };
+        let (was, is) = (old.card.record(*slot), new.card.record(*now));
+        let mut record = Record { life_cycle: is.life_cycle, ..was.clone() };
+        lost += usize::from(was.life_cycle != is.life_cycle);
+        lost += usize::from(old.body(*slot) != new.body(*now));
+        if *slot == 0 {
+            lost += usize::from(!record.name.is_empty());
+            lost += usize::from(record.descriptor != ROOT_DESCRIPTOR);
+            record.name.clear();
+            record.descriptor = ROOT_DESCRIPTOR;
+        }
+        tree.insert(path.clone(), (bytes(&old.card, &record), new.body(*now).to_vec()));
+    }
+    let current = current(&old.card);
+    let current = if after.contains_key(&current) { current } else { path(&old.card, 0) };
+    Foretold { tree, current, lost }
 }
 
 pub fn foretold(kept: &Kept) -> Foretold {

@@ -120,7 +120,7 @@ fn wrong_wishes_for_a_card_are_refused() {
         ),
         (
             &["new", "card", "--version", "1", "--rule", "80017F9000"],
-            "8C and AB: choose --version 2 or 3",
+            "version 2 also AB, version 3 also 8B: choose --version 2 or 3",
         ),
         (&["new", "card", "--rule", "9E0111"], "--rule: byte 1 of 3: 9E begins no rule"),
         (&["new", "card", "--rule", ""], "--rule: a rule has at least one byte"),

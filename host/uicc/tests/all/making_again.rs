@@ -7,13 +7,13 @@ use cases::images::sound_card;
 use cases::pools;
 use cases::random::Random;
 use cases::themes::Theme;
-use cases::worst;
+use cases::{rule_files, ruled, worst};
 use model::edition::Version;
 use model::life_cycle::{is_deactivated, is_terminated};
 use model::rule::Form;
 use model::{bodies, Card};
 
-use crate::cards::{current, foretold, tree, Kept};
+use crate::cards::{current, foretold, found, refers, tree, Kept};
 use crate::folder::{Folder, Ran};
 
 const CARDS: u64 = 250;
@@ -23,7 +23,7 @@ const EXAMPLE: &str = include_str!("../../examples/first.apdu");
 
 /// Exports the card `old` and plays the script on the fresh card that its own
 /// lines ask for.
-fn again(folder: &Folder) -> (Ran, Kept) {
+pub fn again(folder: &Folder) -> (Ran, Kept) {
     let before = folder.read("old");
     let export = folder.uicc(&["export", "old"]);
     assert_eq!(folder.read("old"), before, "export only reads");
@@ -42,12 +42,12 @@ fn again(folder: &Folder) -> (Ran, Kept) {
     (export, Kept::read(&folder.read("NEW.card")))
 }
 
-/// Compares a card that is made again with what is foretold; gives what is
-/// lost.
+/// Compares a card that is made again with what is foretold, or, where rules stand
+/// in records, what is told with what differs; gives what is lost.
 fn compare(folder: &Folder, old: &Kept, what: &str) -> usize {
     folder.write("old", old.bytes());
-    let foretold = foretold(old);
     let (export, new) = again(folder);
+    let foretold = if refers(&old.card) { found(old, &new) } else { foretold(old) };
     let lost = foretold.lost;
     assert_eq!(new.card.edition, old.card.edition, "{what}: a card keeps its version");
     assert_eq!(tree(&new), foretold.tree, "{what}:\n{}", export.out);
@@ -86,6 +86,7 @@ fn played(history: &History) -> Kept {
     let root_rule = match rule.form {
         Form::Compact => card::Rule::compact(&rule.bytes),
         Form::Expanded => card::Rule::expanded(&rule.bytes),
+        Form::Referred => card::Rule::referred(&rule.bytes),
     };
     let fresh = card::Card::make(*slots, kind, *total, root_rule).expect("a card");
     let mut card =
@@ -105,8 +106,15 @@ fn filled(kept: &Kept) -> Vec<usize> {
     kept.card.used_slots().filter(holds).collect()
 }
 
-/// What commands made of a fresh card, commands make again as a whole: rules
-/// never change, so what was allowed once is allowed again.
+/// Nothing is lost of what a history made; where rules stood in records, which
+/// may be gone since, it may be, and is told.
+fn compare_history(folder: &Folder, old: &Kept, number: u64) {
+    let lost = compare(folder, old, &format!("history {number}"));
+    assert!(lost == 0 || refers(&old.card), "history {number}: {lost} lost");
+}
+
+/// What commands made of a fresh card, commands make again as a whole: rules in
+/// files' own records never change, so what was allowed once is allowed again.
 #[test]
 fn nothing_is_lost_of_what_commands_made() {
     let folder = Folder::new("again-histories");
@@ -115,7 +123,7 @@ fn nothing_is_lost_of_what_commands_made() {
         let mut random = Random::for_case(3, number);
         let theme = random.pick(Theme::ALL);
         let old = played(&history_of(&mut random, theme, 24, 60));
-        assert_eq!(compare(&folder, &old, &format!("history {number}")), 0, "history {number}");
+        compare_history(&folder, &old, number);
         let old = old.card;
         files += old.used_slots().count() - 1;
         let is_expanded = |slot: &usize| old.record(*slot).form == Form::Expanded;
@@ -141,7 +149,7 @@ fn what_files_held_they_hold_again() {
         let mut random = Random::for_case(4, number);
         let theme = random.pick([Theme::Bodies, Theme::Bodies, Theme::LifeCycles]);
         let old = played(&history_of(&mut random, theme, 24, 60));
-        assert_eq!(compare(&folder, &old, &format!("history {number}")), 0, "history {number}");
+        compare_history(&folder, &old, number);
         full += filled(&old).len();
     }
     assert!(full > 50, "{full} files that hold something");
@@ -170,6 +178,23 @@ fn cards_at_random_are_made_again_as_foretold() {
     assert!(whole < CARDS, "nothing was lost");
     assert!(second > CARDS / 5 && second < CARDS, "{second} cards of version 2");
     assert!(third > CARDS / 10, "{third} cards of version 3 that hold something");
+}
+
+/// Cards whose rules stand in records, at random and as histories leave them: what
+/// differs is told, and of what histories made hardly anything is lost.
+#[test]
+fn what_is_lost_of_cards_with_rule_files_is_told() {
+    let folder = Folder::new("again-ruled");
+    let (mut whole, mut lost) = (0, 0);
+    for number in 0..HISTORIES {
+        let mut random = Random::for_case(5, number);
+        let kept = rule_files::kept(&mut random);
+        lost += u64::from(compare(&folder, &Kept::new(kept.card, kept.pool), "a card") > 0);
+        let old = played(&ruled::history(&mut random));
+        whole += u64::from(compare(&folder, &old, &format!("history {number}")) == 0);
+    }
+    assert!(lost > HISTORIES / 4, "of {lost} cards something was lost");
+    assert!(whole > HISTORIES * 9 / 10, "{whole} histories were made again as a whole");
 }
 
 /// Cards that are as full and as named as they can be, and the deepest card.

@@ -3,9 +3,9 @@
 
 use crate::folder::Folder;
 
-const LACKING: &str =
+pub const LACKING: &str =
     "6982  security status not satisfied: lacking, more authentication opens the rule";
-const CLOSED: &str =
+pub const CLOSED: &str =
     "6982  security status not satisfied: closed, no authentication opens the rule";
 
 /// A sentence about a command that no authentication opens, by a rule.
@@ -17,7 +17,7 @@ pub fn closed(rule: &str) -> String {
 }
 
 /// CREATE of a directory or a file with a rule, an object.
-fn create(identifier: &str, rule: &str) -> String {
+pub fn create(identifier: &str, rule: &str) -> String {
     let (descriptor, size) = match identifier.starts_with("7F") {
         true => ("82027821", "81020120C60100"),
         false => ("82024121", "80020009"),
@@ -46,7 +46,7 @@ fn played(folder: &Folder, script: &str, state: &[&str]) -> Vec<String> {
 }
 
 /// Nothing is done.
-const NONE: [&str; 6] = ["--messaging", "0000", "--external", "0000", "--user", "0000"];
+pub const NONE: [&str; 6] = ["--messaging", "0000", "--external", "0000", "--user", "0000"];
 
 #[test]
 fn a_refusal_says_what_would_open_it() {

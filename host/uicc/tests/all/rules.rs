@@ -49,7 +49,7 @@ fn a_card_of_version_2_is_made_and_shown() {
     let out = folder.done(&["show", "bare"]);
     assert!(out.starts_with("card of version 2, 4 slots: 1 used, 3 free\n"), "{out}");
     let rule = format!(
-        "\nrule 1, of directories: {BANK}\n\
+        "\nrule 1, of directories, in their own records: {BANK}\n\
          \x20     DELETE: always\n\
          \x20     TERMINATE, ACTIVATE, DEACTIVATE, DELETE CHILD: never\n\
          \x20     CREATE DF, CREATE EF: user authentication 1 or \
@@ -94,11 +94,11 @@ fn rules_are_shown_once_and_in_words() {
     let rules: Vec<_> = out.lines().skip(2).take(7).map(column).collect();
     assert_eq!(rules, ["rule", "   1", "   1", "   2", "   3", "   3", "   4"], "{out}");
     for told in [
-        format!("rule 1, of directories: {BANK}\n      DELETE: always\n"),
-        format!("rule 2, of files: {LONGEST}\n      DELETE, TERMINATE, "),
-        format!("rule 3, of files: {SEVENTEEN}\n      DELETE, TERMINATE, "),
+        format!("rule 1, of directories, in their own records: {BANK}\n      DELETE: always\n"),
+        format!("rule 2, of files, in their own records: {LONGEST}\n      DELETE, TERMINATE, "),
+        format!("rule 3, of files, in their own records: {SEVENTEEN}\n      DELETE, TERMINATE, "),
         "      READ: always\n".to_string(),
-        format!("rule 4, of files: {BANK}\n"),
+        format!("rule 4, of files, in their own records: {BANK}\n"),
         "      WRITE, UPDATE: user authentication 1 or (external".to_string(),
     ] {
         assert!(out.contains(&told), "{told}{out}");
@@ -161,9 +161,9 @@ fn a_rule_that_is_not_found_is_told_below_its_line() {
         ("8C020100AB0580017F9000", "the rule stands in 8C and in AB: one of them is wanted"),
         ("AB0580017F90008C020100", "the rule stands in AB and in 8C: one of them is wanted"),
         ("8C0201008C020100", "the rule stands in 8C and in 8C: one of them is wanted"),
-        ("", "no rule: neither 8C nor AB"),
-        ("8B036F0601", "8B (a rule in a file) is not taken"),
-        ("8C0201008B036F0601", "8B (a rule in a file) is not taken"),
+        ("8C0201008B036F0601", "the rule stands in 8C and in 8B: one of them is wanted"),
+        ("8B036F0601AB0580017F9000", "the rule stands in 8B and in AB: one of them is wanted"),
+        ("", "no rule: neither 8C, AB nor 8B"),
     ] {
         folder.write("wrong", create("6F07", rule));
         for version in ["1", "2", "3"] {
@@ -192,7 +192,8 @@ fn a_long_rule_is_told_in_several_lines() {
     let folder = Folder::new("version-2-long");
     folder.done(&["new", "card", "--version", "2", "--slots", "4", "--rule", DEEP]);
     let shown = folder.done(&["show", "card"]);
-    let wanted = format!("rule 1, of directories: {DEEP}\n      {}\n      TERM", deep_words(6));
+    let head = "rule 1, of directories, in their own records";
+    let wanted = format!("{head}: {DEEP}\n      {}\n      TERM", deep_words(6));
     assert!(shown.contains(&wanted), "{shown}");
     let told = folder.fed(&["run", "-", "--image", "card"], "00A4000402 3F00 00\n").out;
     let wanted = "        rule (AB)   DELETE: user authentication 1 or (user authentication 2 \

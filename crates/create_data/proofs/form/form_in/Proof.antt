@@ -10,11 +10,18 @@ is-absent-requires c κs = search needs
 
 returns : tie.Need-returns
 unfolding formIn
-returns c = search answers
+returns c = search answers depth 30
+
+is-absent-requires-2 : tie.Need-is-absent-requires-2
+is-absent-requires-2 c κs = search needs
 
 returns-2 : tie.Need-returns-2
 unfolding formIn
-returns-2 c = search answers
+returns-2 c = search answers depth 30
+
+returns-3 : tie.Need-returns-3
+unfolding formIn
+returns-3 c = search answers depth 30
 
 pub form-in-spec : {M : Type 1} → statement M
-form-in-spec = tie.close (tie.spec is-absent-requires returns returns-2)
+form-in-spec = tie.close (tie.spec is-absent-requires returns is-absent-requires-2 returns-2 returns-3)

@@ -11,7 +11,7 @@ shared-slice-read-i : tie.Need-shared-slice-read-i
 shared-slice-read-i c = search needs
 
 sent-identifier-requires : tie.Need-sent-identifier-requires
-sent-identifier-requires c κs = select-long _ (c .before .before .before .before .before .pre .1 .1 .1) refl (c .if1 .taken)
+sent-identifier-requires c κs = select-long _ (c .before .before .before .before .before .before .pre .1 .1 .1) refl (c .if1 .taken)
 
 select-file-requires : tie.Need-select-file-requires
 select-file-requires c κs = search needs
@@ -21,7 +21,7 @@ unfolding planFor
 returns c = search (plan-eq, plan-ne, selects) depth 30
 
 sent-data-requires : tie.Need-sent-data-requires
-sent-data-requires c κs = create-long _ (c .before .before .before .before .before .before .pre .1 .1 .1) refl (c .if2 .taken)
+sent-data-requires c κs = create-long _ (c .before .before .before .before .before .before .before .pre .1 .1 .1) refl (c .if2 .taken)
 
 create-file-requires : tie.Need-create-file-requires
 create-file-requires c κs = search needs
@@ -32,7 +32,7 @@ returns-2 c = search (plan-ne, plan-eq, creates) depth 30
 
 sent-identifier-requires-2 : tie.Need-sent-identifier-requires-2
 sent-identifier-requires-2 c κs =
-    delete-long _ (c .before .before .before .before .before .before .before .pre .1 .1 .1) refl (c .if3 .taken)
+    delete-long _ (c .before .before .before .before .before .before .before .before .pre .1 .1 .1) refl (c .if3 .taken)
 
 delete-file-requires : tie.Need-delete-file-requires
 delete-file-requires c κs = search needs
@@ -47,7 +47,7 @@ is-body-requires c κs = search needs
 on-body-requires : tie.Need-on-body-requires
 on-body-requires c κs = (
   search needs,
-  body-long _ (c .before .before .before .before .before .before .before .before .before .pre .1 .1 .1) refl (c .before .is-body .ensures)
+  body-long _ (c .before .before .before .before .before .before .before .before .before .before .pre .1 .1 .1) refl (c .before .is-body .ensures)
       (c .if4 .taken),
 )
 

@@ -13,7 +13,7 @@ current-df-requires c κs = search needs
 
 judge-for-requires : tie.Need-judge-for-requires
 judge-for-requires c κs = (
-  rw (c .before .count .ensures .0, c .current-df .ensures .0) (judgeable _ (c .before .before .before .before .pre)),
+  rw (c .before .count .ensures .0, c .current-df .ensures .0) (judgeable _ (c .before .before .before .before .before .pre)),
   c .current-df .ensures .0,
 )
 

@@ -29,7 +29,7 @@ binary-requires : tie.Need-binary-requires
 binary-requires c κs = (
   search needs,
   (
-    ef-stands _ _ _ _ (c .before .before .before .before .before .before .before .before .before .pre .0)
+    ef-stands _ _ _ _ (c .before .before .before .before .before .before .before .before .before .before .pre .0)
         (c .before .before .before .before .before .current-ef .ensures .0),
     search needs,
   ),
@@ -45,7 +45,7 @@ recordwise-requires : tie.Need-recordwise-requires
 recordwise-requires c κs = (
   search needs,
   (
-    ef-stands _ _ _ _ (c .before .before .before .before .before .before .before .before .before .pre .0)
+    ef-stands _ _ _ _ (c .before .before .before .before .before .before .before .before .before .before .pre .0)
         (c .before .before .before .before .before .current-ef .ensures .0),
     search needs,
   ),

@@ -11,7 +11,7 @@ current-file-requires c κs = search needs
 activate-file-requires : tie.Need-activate-file-requires
 activate-file-requires c κs = (
   search needs,
-  current-stands _ _ _ _ (c .before .before .before .pre .0) (c .before .before .before .pre .1)
+  current-stands _ _ _ _ (c .before .before .before .before .pre .0) (c .before .before .before .before .pre .1)
       (c .current-file .ensures),
 )
 
@@ -25,7 +25,7 @@ current-file-requires-2 c κs = search needs
 deactivate-file-requires : tie.Need-deactivate-file-requires
 deactivate-file-requires c κs = (
   search needs,
-  current-stands _ _ _ _ (c .before .before .before .before .pre .0) (c .before .before .before .before .pre .1)
+  current-stands _ _ _ _ (c .before .before .before .before .before .pre .0) (c .before .before .before .before .before .pre .1)
       (c .current-file2 .ensures),
 )
 
@@ -39,7 +39,7 @@ current-ef-requires c κs = search needs
 terminate-ef-requires : tie.Need-terminate-ef-requires
 terminate-ef-requires c κs = (
   search needs,
-  ef-stands _ _ _ _ (c .before .before .before .before .before .pre .0) (c .current-ef .ensures .0),
+  ef-stands _ _ _ _ (c .before .before .before .before .before .before .pre .0) (c .current-ef .ensures .0),
 )
 
 returns-3 : tie.Need-returns-3

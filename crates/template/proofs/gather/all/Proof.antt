@@ -1,4 +1,4 @@
--- All objects of the list, in its order. The loop keeps: k is at most 11, and o is what the first k give.
+-- All objects of the list, in its order. The loop keeps: k is at most 12, and o is what the first k give.
 use Rattle.template.proofs.Gathering.{taken-first, taken-turn, taken-all}
 use Prim.Native.Nat.{_≤_, _-_}
 use mathlib.Core.Path.{_≡_}
@@ -8,10 +8,10 @@ use Rattle.template.proofs.gather.all.Statement.{statement}
 use Rattle.template.proofs.gather.all.Tie as tie
 
 abbrev Inv-loop : tie.InvT-loop
-Inv-loop s o₀ k₀ o k = (k ≤ 11) × (o ≡ takenBelow k s)
+Inv-loop s o₀ k₀ o k = (k ≤ 12) × (o ≡ takenBelow k s)
 
 abbrev μ-loop : tie.MeasureT-loop
-μ-loop s o₀ k₀ o k = 11 - k
+μ-loop s o₀ k₀ o k = 12 - k
 
 loop-holds : tie.Need-loop-holds Inv-loop μ-loop
 loop-holds c = (search needs, taken-first _)

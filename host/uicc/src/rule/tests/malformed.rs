@@ -96,6 +96,7 @@ fn object_and_bare_value_are_one_rule() {
         let wanted = match first {
             0x00..=0x7F | 0x8C => Some(Form::Compact),
             0x80 | 0xAB => Some(Form::Expanded),
+            0x8B => Some(Form::Referred),
             _ => None,
         };
         assert_eq!(form, wanted, "{first:02X}");
@@ -119,5 +120,26 @@ fn the_versions_that_take_a_rule_are_told() {
         let given = explain(&hex::bytes(&row).expect("hex")).expect("a good rule");
         assert!(given.starts_with(told), "{given}");
     }
-    assert!(refused(&always(14)).contains("has 31 bytes: a card takes 1 to 30"));
+    // Longer ones only records can hold that keep rules.
+    for (many, length) in [(14, 31), (126, 255)] {
+        let given = explain(&hex::bytes(&always(many)).expect("hex")).expect("a good rule");
+        let told = "for a record to which rules refer (8B), on cards of version 3\n";
+        let told = format!("expanded rule (AB) of {length} bytes, {told}");
+        assert!(given.starts_with(&told), "{given}");
+    }
+    assert!(refused(&always(127)).contains("has 257 bytes: a card takes 1 to 30"));
+}
+
+#[test]
+fn what_is_wrong_with_a_reference_is_told() {
+    all_refused(&[
+        ("8B", "byte 1 of 1: behind the tag 8B a length is missing"),
+        ("8B00", "this referred rule (8B) is malformed: byte 2 of 2: a reference has 3 bytes"),
+        ("8B026F06", "byte 2 of 4: a reference has 3 bytes, a file's identifier and a record"),
+        ("8B046F060102", "number, not 4"),
+        ("8B036F0601FF", "byte 2 of 6: the length 03 of object 8B is 3, and 4 follow"),
+    ]);
+    let reference = read(&hex::bytes("8B036F0601").expect("hex")).expect("a rule");
+    assert_eq!(reference.rule(), Rule::referred(&[0x6F, 0x06, 0x01]));
+    assert_eq!((reference.row().as_str(), reference.before()), ("8B036F0601", 2));
 }

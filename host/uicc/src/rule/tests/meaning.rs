@@ -1,6 +1,7 @@
 //! The words say what the model decides.
 
-use model::rule::{decide, groups as model_groups, Form as ModelForm, Right};
+use model::edition::{Edition, Version};
+use model::rule::{decide, fit, groups as model_groups, Form as ModelForm, Right};
 use model::State;
 
 use super::super::need::Need;
@@ -13,6 +14,7 @@ fn model_form(form: Form) -> ModelForm {
     match form {
         Form::Compact => ModelForm::Compact,
         Form::Expanded => ModelForm::Expanded,
+        Form::Referred => ModelForm::Referred,
     }
 }
 
@@ -96,10 +98,10 @@ fn the_model_calls_the_same_rules_malformed() {
     let mut noise = Noise::new(3);
     let mut counts = [0; 2];
     for number in 0..20_000 {
-        let form = Form::ALL[number % 2];
+        let form = [Form::Compact, Form::Expanded][number % 2];
         let mut bytes = match form {
             Form::Compact => noise.compact(),
-            Form::Expanded => noise.expanded(),
+            _ => noise.expanded(),
         };
         for _ in 0..noise.below(4) {
             bytes = noise.bent(bytes);
@@ -111,12 +113,29 @@ fn the_model_calls_the_same_rules_malformed() {
         let given = groups(Rule { form, bytes: &bytes });
         // An empty expanded rule fits no card; whether it is malformed is open.
         assert!(bytes.is_empty() || given.is_ok() == good, "{form:?} {bytes:02X?}: {given:?}");
-        // Written as an object it is explained if a card takes it.
+        // Written as an object it is explained if a card takes it, or a record that
+        // keeps rules could hold it.
         let object = [&[form.tag(), bytes.len() as u8], &bytes[..]].concat();
-        let fits = (1..=30).contains(&bytes.len());
+        let longest = if form == Form::Compact { 30 } else { 0x7F };
+        let fits = (1..=longest).contains(&bytes.len());
         let explained = explain(&object);
         assert_eq!(explained.is_ok(), good && fits, "{form:?} {bytes:02X?}: {explained:?}");
         counts[usize::from(good)] += 1;
     }
     assert!(counts.iter().all(|&count| count > 4_000), "{counts:?}");
+}
+
+/// A reference is good by its length alone, here, there, and on the card.
+#[test]
+fn a_reference_is_good_by_its_length() {
+    let mut noise = Noise::new(4);
+    for number in 0..500 {
+        let bytes: Vec<u8> = (0..number % 6).map(|_| noise.byte()).collect();
+        let rule = Rule::referred(&bytes);
+        let good = fit(Edition::of(Version::Three), ModelForm::Referred, &bytes);
+        assert_eq!((malformed(rule).is_none(), takers(rule).count() == 1), (good, good));
+        let object = [&[0x8B, bytes.len() as u8], &bytes[..]].concat();
+        assert_eq!(explain(&object).is_ok(), good, "{bytes:02X?}");
+        assert!(groups(rule).is_err(), "its groups stand elsewhere");
+    }
 }

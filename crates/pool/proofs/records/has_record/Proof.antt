@@ -1,9 +1,9 @@
--- `judge_bodies::has_record`: from 1 to the last.
-use Rattle.judge_bodies.proofs.Touching.{times-small, no-zeroth, reached}
+-- `records::has_record`: from 1 to the last.
+use Rattle.pool.proofs.Numbered.{times-small, no-zeroth, reached}
 use borrow.Author.Needs.{needs}
 use native.Mathlib.Omega.{arith}
-use Rattle.judge_bodies.proofs.has_record.Statement.{statement}
-use Rattle.judge_bodies.proofs.has_record.Tie as tie
+use Rattle.pool.proofs.records.has_record.Statement.{statement}
+use Rattle.pool.proofs.records.has_record.Tie as tie
 
 returns : tie.Need-returns
 returns c = search no-zeroth

@@ -1,0 +1,9 @@
+pub mod Ends
+pub mod Unpadded
+pub mod Climbing
+pub mod Marking
+pub mod Places
+pub mod Parts
+pub mod Ticket
+pub mod Held
+pub mod Lines
