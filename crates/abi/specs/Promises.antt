@@ -53,9 +53,9 @@ pub record EachSettles : Type 0 where
 
 -- the numbers that C sees (`hull-numbers`): a command on a damaged image gives 65536, one whose data don't fit 327680, one with a pool of a
 -- wrong length 393216, each with three zeros, any other its word and how many bytes were told; the second number is 1 or 2 exactly with
--- 6982, and else 0; hull_sound gives 1 for a sound image and 0 for any other;
--- hull_rule gives 1 for a damaged image and 6 for a pool of a wrong length, each with three zeros. Those of hull_make and hull_report are the maker's and the
--- report's (maker/specs, `MakerAnswers`, `ReportAnswers`)
+-- 6982, and else 0; hull_sound gives 1 for a sound image and 0 for any other; hull_rule gives 1 for a damaged image and 6 for a pool of a
+-- wrong length, each with three zeros. Those of hull_make and hull_report are the maker's and the report's (maker/specs, `MakerAnswers`,
+-- `ReportAnswers`)
 pub record HullNumbers : Type 0 where
   pub damaged : (img pool c : List ℕ) (st : State) (response : List ℕ) (r : ℕ) (left kept answered numbers : List ℕ)
       → HullCommand img pool c st response r left kept answered numbers → soundb img ≡ false

@@ -1,4 +1,4 @@
--- The rule in a record of a rule file (02 Ticket 7): an expanded rule, FF bytes after it being padding. The record is the one well-formed
+-- The rule in a record of a rule file (02 Ticket 7): an expanded rule, FF bytes after it being padding. The rule is the one well-formed
 -- beginning after which only FF comes: an FF that the rule itself ends with is no padding.
 use Prim.Native.Nat.{ℕ, suc, _≤_}
 use mathlib.Core.Path.{_≡_}
