@@ -1,13 +1,13 @@
 -- What it says that a rule may stand in a record: how long it is, its form, that it is well formed.
-use mathlib.Core.Path.{_≡_, refl}
-use mathlib.Core.Bool.{Bool, true, false}
+use mathlib.Core.Path.{_≡_, refl, sym, _∙_}
+use mathlib.Core.Bool.{Bool, true, false, not}
 use mathlib.Core.List.{List}
 use mathlib.Core.Logic.{_↔_}
 use Prim.Native.Nat.{ℕ, _<_, _≤_}
 use native.Mathlib.Omega.{arith}
 use lib.Dec.{ltb, leb}
 use lib.ListN.{length}
-use borrow.Author.Tests.{le-leb, lt-leb, lt-ltb, le-ltb, leb-true}
+use borrow.Author.Tests.{le-leb, lt-leb, lt-ltb, leb-true, not-true, not-false}
 use Rattle.laws.proofs.Says.{and-says}
 use Rattle.laws.proofs.Chains.{and-on, and-off}
 use Rattle.image.specs.Layout.{longestRule, formsOf}
@@ -41,7 +41,7 @@ module _ (v form : ℕ) (rule : List ℕ) where
   pub fits-form : fitsRecord v form rule ≡ true → form < 3
   fits-form e = omega (arith, fits-says .0 e .known, forms-few v)
 
-  -- one test after the other: m is what the version has for a rule, n how many forms
+  -- one test after the other: m is what the version has for a rule, k whether it has the form
   pub fits-none : length rule < 1 → false ≡ fitsRecord v form rule
   unfolding fitsRecord
   fits-none h = and-off _ _ (lt-leb 1 (length rule) h) refl
@@ -51,20 +51,20 @@ module _ (v form : ℕ) (rule : List ℕ) where
     unfolding fitsRecord
     fits-long h = and-on _ _ (le-leb 1 (length rule) some) (and-off _ _ (lt-leb (length rule) (longestRule v) (rw most at h)) refl)
 
-    module _ (short : length rule ≤ m) {n : ℕ} (forms : n ≡ formsOf v) where
+    module _ (short : length rule ≤ m) {k : Bool} (has : k ≡ ltb form (formsOf v)) where
       within : length rule ≤ longestRule v
       within = rw most at short
 
-      pub fits-unknown : n ≤ form → false ≡ fitsRecord v form rule
+      pub fits-unknown : not k ≡ true → false ≡ fitsRecord v form rule
       unfolding fitsRecord
       fits-unknown h =
           and-on _ _ (le-leb 1 (length rule) some)
-          (and-on _ _ (le-leb (length rule) (longestRule v) within) (and-off _ _ (le-ltb form (formsOf v) (rw forms at h)) refl))
+          (and-on _ _ (le-leb (length rule) (longestRule v) within) (and-off _ _ (sym has ∙ not-true k h) refl))
 
-      pub fits-formed : form < n → (r : Bool) → r ≡ wellFormed form rule → r ≡ fitsRecord v form rule
+      pub fits-formed : not k ≡ false → (r : Bool) → r ≡ wellFormed form rule → r ≡ fitsRecord v form rule
       unfolding fitsRecord
       fits-formed h r e =
           and-on _ _ (le-leb 1 (length rule) some)
-          (and-on _ _ (le-leb (length rule) (longestRule v) within) (and-on _ _ (lt-ltb form (formsOf v) (rw forms at h)) e))
+          (and-on _ _ (le-leb (length rule) (longestRule v) within) (and-on _ _ (sym has ∙ not-false k h) e))
 
 pub ruleset fitting = (fits-none, fits-long, fits-unknown, fits-formed)

@@ -84,7 +84,7 @@ pub fn fits_record(v: u32, form: u8, rule: &[u8]) -> bool
     if image::version::longest_rule(v) < rule.len() {
         return false;
     }
-    if image::version::forms(v) <= form {
+    if !image::version::has_form(v, form) {
         return false;
     }
     well_formed(form, rule)

@@ -1,6 +1,7 @@
-// What a version of the image lays down, a line for each version (01 "Image"; 02 Tickets 3, 4 and 7).
+// What a version of the image lays down (01 "Image"; 02 Tickets 3, 4 and 7).
 ghost use mathlib.Core.Path.{_≡_};
 ghost use Prim.Native.Nat.{_≤_};
+ghost use lib.Dec.{ltb};
 ghost use Rattle.image.specs.Layout.{longestRule, formsOf, knownVersion, hasBodies};
 
 // How many bytes a rule may have, from 34 of a record on; 0 where the version is not known.
@@ -19,26 +20,33 @@ pub fn longest_rule(v: u32) -> usize
     0
 }
 
-// How many forms of rules it has, numbered from 0; none where it is not known.
-pub fn forms(v: u32) -> u8
-    ensures { λ r. ⌜ r ≡ formsOf v ⌝ }
+// Whether it has a form of rules, numbered from 0. The form is told first: soundness asks this of every record, and a version told for
+// each form is quicker there than a comparison of two numbers.
+pub fn has_form(v: u32, form: u8) -> bool
+    ensures { λ r. ⌜ r ≡ ltb form (formsOf v) ⌝ }
 {
-    if v == 1 {
-        return 1;
+    if form == 2 {
+        return v == 3;
     }
-    if v == 2 {
-        return 2;
+    if form == 1 {
+        if v == 2 {
+            return true;
+        }
+        return v == 3;
     }
-    if v == 3 {
-        return 3;
+    if form != 0 {
+        return false;
     }
-    0
+    if v < 1 {
+        return false;
+    }
+    v <= 3
 }
 
 pub fn is_known(v: u32) -> bool
     ensures { λ r. ⌜ r ≡ knownVersion v ⌝ }
 {
-    0 < forms(v)
+    has_form(v, 0)
 }
 
 // Whether files have bodies.

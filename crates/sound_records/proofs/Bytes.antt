@@ -7,8 +7,8 @@ use mathlib.Core.Logic.{_↔_}
 use Prim.Native.Nat.{ℕ, zero, suc, _+_, _*_, _-_, _<_, _≤_}
 use native.Mathlib.Omega.{arith}
 use lib.ListN.{length, getD, take, drop}
-use lib.Dec.{eqb, leb}
-use borrow.Author.Tests.{eqb-true, eq-eqb, ne-eqb, not-true, not-false, le-leb, lt-leb, lt-ltb, leb-true}
+use lib.Dec.{eqb, leb, ltb}
+use borrow.Author.Tests.{eqb-true, eq-eqb, ne-eqb, not-true, not-false, le-leb, lt-leb, lt-ltb, leb-true, ltb-true}
 use Rattle.laws.specs.Lists.{part}
 use Rattle.laws.specs.Walks.{allBelow}
 use Rattle.laws.specs.Tests.{implies, either}
@@ -113,10 +113,10 @@ record Ruled (v : ℕ) (r : List ℕ) (n : ℕ) : Type 0 where
   zeros : zerosb r (34 + n) (zerosEnd v r - (34 + n)) ≡ true
   formed : wellFormed (formOf r) (take n (drop 34 r)) ≡ true
 
--- k is how many forms there are
-pub form-known : (v : ℕ) (r : List ℕ) {k : ℕ} → k ≡ formsOf v → getD r 3 0 < k → formOf r < formsOf v
+-- k is whether the version has the form
+pub form-known : (v : ℕ) (r : List ℕ) {k : Bool} → k ≡ ltb (getD r 3 0) (formsOf v) → not k ≡ false → formOf r < formsOf v
 unfolding formOf
-form-known v r e h = omega arith
+form-known v r {k} e h = ltb-true _ _ (sym e ∙ not-false k h)
 
 module _ (v : ℕ) (r : List ℕ) (whole : length r ≡ 64) (n : ℕ) (f : n ≡ getD r 33 0) where
   rule-long : n ≤ longestRule v → length (ruleOf r) ≡ n
@@ -161,9 +161,9 @@ module _ (v : ℕ) (r : List ℕ) (whole : length r ≡ 64) (n : ℕ) (f : n ≡
   pub ruled-none : n < 1 → false ≡ ruledb v r
   ruled-none h = refuted (λ u. omega (arith, u .some))
 
-  pub ruled-unknown : {k : ℕ} → k ≡ formsOf v → k ≤ getD r 3 0 → false ≡ ruledb v r
+  pub ruled-unknown : {k : Bool} → k ≡ ltb (getD r 3 0) (formsOf v) → not k ≡ true → false ≡ ruledb v r
   unfolding formOf
-  ruled-unknown e h = refuted (λ u. omega (arith, u .known))
+  ruled-unknown {k} e h = refuted (λ u. false≢true (sym (not-true k h) ∙ e ∙ lt-ltb _ _ (u .known)))
 
   -- e is where the zeros end
   pub ruled-tail : {e : ℕ} {p : Bool} → e ≡ zerosEnd v r → p ≡ zerosb r (34 + n) (e - (34 + n)) → not p ≡ true → false ≡ ruledb v r
@@ -184,15 +184,16 @@ module _ (v : ℕ) (r : List ℕ) (whole : length r ≡ 64) (n : ℕ) (f : n ≡
       (λ z. ruled-says .1 (record { some = some; short = short; known = known; zeros = zeros; formed = sym formed ∙ z }))
       (λ z. formed ∙ ruled-says .0 z .formed)
 
-  -- at most 16 bytes, for which every version that has the form has room; k is how many forms there are
-  pub ruled-is : {k e : ℕ} {p : Bool} → 1 ≤ n → k ≡ formsOf v → getD r 3 0 < k → n ≤ 16 → e ≡ zerosEnd v r
+  -- at most 16 bytes, for which every version that has the form has room; k is whether it has
+  pub ruled-is : {k : Bool} {e : ℕ} {p : Bool} → 1 ≤ n → k ≡ ltb (getD r 3 0) (formsOf v) → not k ≡ false → n ≤ 16 → e ≡ zerosEnd v r
       → p ≡ zerosb r (34 + n) (e - (34 + n)) → not p ≡ false
       → (b : Bool) → b ≡ wellFormed (getD r 3 0) (take (34 + n - 34) (drop 34 r)) → b ≡ ruledb v r
-  unfolding formOf knownVersion
-  ruled-is {k} {e} {p} some forms known short to z t =
-      let some-form : 0 < formsOf v = omega arith in
+  unfolding knownVersion
+  ruled-is {k} {e} {p} some has known short to z t =
+      let form = form-known v r has known in
+      let some-form : 0 < formsOf v = omega (arith, form) in
       let room = longest-least v (lt-ltb 0 (formsOf v) some-form) in
-      left-formed some (omega (arith, room)) (omega arith) (tail-passed to z t)
+      left-formed some (omega (arith, room)) form (tail-passed to z t)
 
   -- more than 16; m is how many bytes the version has room for
   module _ {m : ℕ} (most : m ≡ longestRule v) where

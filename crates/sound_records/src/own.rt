@@ -117,7 +117,7 @@ fn ruled(r: &[u8], v: u32, lengths: &[u8; 256]) -> bool
     if n < 1 {
         return false;
     }
-    if image::version::forms(v) <= r[3] {
+    if !image::version::has_form(v, r[3]) {
         return false;
     }
     let end = zeros_end(r, v);

@@ -13,8 +13,8 @@ longest-rule-requires c κs = search needs
 returns-2 : tie.Need-returns-2
 returns-2 c = search fitting
 
-forms-requires : tie.Need-forms-requires
-forms-requires c κs = search needs
+has-form-requires : tie.Need-has-form-requires
+has-form-requires c κs = search needs
 
 returns-3 : tie.Need-returns-3
 returns-3 c = search fitting
@@ -32,7 +32,7 @@ fits-record-spec =
     returns
     longest-rule-requires
     returns-2
-    forms-requires
+    has-form-requires
     returns-3
     well-formed-requires
     returns-4)

@@ -16,11 +16,11 @@ cast-n c = search needs
 returns : tie.Need-returns
 returns c = search ruling
 
-forms-requires : tie.Need-forms-requires
-forms-requires c κs = search needs
+shared-slice-read-has-form : tie.Need-shared-slice-read-has-form
+shared-slice-read-has-form c = search needs
 
-shared-slice-read-if2 : tie.Need-shared-slice-read-if2
-shared-slice-read-if2 c = search needs
+has-form-requires : tie.Need-has-form-requires
+has-form-requires c κs = search needs
 
 returns-2 : tie.Need-returns-2
 returns-2 c = search ruling
@@ -31,7 +31,7 @@ zeros-end-requires c κs = search needs
 ruled-long-requires : tie.Need-ruled-long-requires
 ruled-long-requires c κs = (
   (search needs, (search needs, search needs)),
-  ((search needs, form-known _ _ (c .before .before .before .before .forms .ensures) (c .before .before .if2 .left)), search needs),
+  ((search needs, form-known _ _ (c .before .before .before .has-form .ensures) (c .before .before .if2 .left)), search needs),
 )
 
 returns-3 : tie.Need-returns-3
@@ -72,8 +72,8 @@ ruled-spec =
     wide-requires
     cast-n
     returns
-    forms-requires
-    shared-slice-read-if2
+    shared-slice-read-has-form
+    has-form-requires
     returns-2
     zeros-end-requires
     ruled-long-requires
