@@ -13,7 +13,7 @@ use Rattle.card.specs.Command.{answerTold, CommandPromises}
 use Rattle.maker.specs.declared.Made.{Made}
 use Rattle.maker.specs.Making.{leftBy}
 use Rattle.referred.specs.declared.Place.{Place}
-use Rattle.referred.specs.declared.Place.the-variants.{Nowhere, InImage, InPool}
+use Rattle.referred.specs.declared.Place.the-variants.{InImage, InPool}
 use Rattle.referred.specs.Deciding.{beginOf, endOf, Bounded}
 use Rattle.card.specs.declared.Ruling.{Ruling}
 use Rattle.card.specs.declared.Ruling.the-variants.{At}

@@ -1,6 +1,6 @@
 -- The rule that a command asks, read in the pool (specs/Rules, specs/Bodies).
 use mathlib.Core.Path.{_≡_, refl, sym, ap, _∙_}
-use mathlib.Core.Bool.{Bool, true, false, cond, _&&_, false≢true}
+use mathlib.Core.Bool.{Bool, true, false, cond, _&&_}
 use mathlib.Core.List.{List, [], _++_}
 use mathlib.Core.Logic.{⊎-elim}
 use Prim.Native.Nat.{ℕ, suc, _+_, _*_, _-_, _<_, _≤_}
@@ -15,7 +15,7 @@ use Rattle.laws.proofs.Splices.{part-part}
 use Rattle.rules.specs.declared.Right.{Right}
 use Rattle.rules.specs.declared.Sets.{Sets}
 use Rattle.rules.specs.Descriptor.{ef, structureOf}
-use Rattle.image.specs.Layout.{base, hasBodies, formsOf, versionOf, countOf, recAt, kindOf, descriptorOf, formOf, ruleOf, recordLengthOf, sizeOf}
+use Rattle.image.specs.Layout.{base, hasBodies, formsOf, versionOf, countOf, recAt, kindOf, descriptorOf, formOf, recordLengthOf, sizeOf}
 use Rattle.expanded.specs.Expanded.{expandedFormed, expandedGrants}
 use Rattle.access.specs.declared.Decision.the-variants.{Closed}
 use Rattle.access.specs.Access.{referred, expanded, askedAs, grantedOf}
@@ -23,10 +23,9 @@ use Rattle.access.specs.Decision.{decisionOf}
 use Rattle.access.proofs.Fits.{fits-says}
 use Rattle.pool.specs.Bodies.{bodyOf, bodyAt, startAt, bodyBytes}
 use Rattle.pool.specs.Records.{hasRecord}
-use Rattle.sound.specs.Own.{Own}
 use Rattle.sound.specs.Sound.{Sound}
 use Rattle.referred.specs.declared.Place.the-variants.{Nowhere, InImage}
-use Rattle.referred.specs.Padding.{unpadded, Padded}
+use Rattle.referred.specs.Padding.{unpadded}
 use Rattle.referred.specs.Deciding.{namedRecordOf, isLinear, rowAt, heldPlace, referredPlace, ownPlace, placeOf, endOf, partOf, decidingRule}
 use Rattle.referred.proofs.Held.{held-rule, rule-alike}
 use Rattle.referred.proofs.Ticket.{taken, denied-empty}

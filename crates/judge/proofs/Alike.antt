@@ -3,7 +3,7 @@ use mathlib.Core.Path.{_≡_}
 use mathlib.Core.List.{List}
 use Prim.Native.Nat.{ℕ}
 use Rattle.verdict.specs.declared.State.{State}
-use Rattle.judge_target.specs.Target.{ruleAt, allowedAt}
+use Rattle.judge_target.specs.Target.{ruleAt}
 use Rattle.judge_target.proofs.Ruling.{allowed-alike}
 use Rattle.judge_commands.specs.Commands.{mayDelete}
 use Rattle.judge_bodies.specs.Bodies.{binary, recordwise}

@@ -1,14 +1,14 @@
 -- What a command on a body is told by: no EF, the steps that the four share and then its own, a test against a number that was read, the
 -- place of a record.
-use mathlib.Core.Path.{_≡_, refl, sym, ap, _∙_}
-use mathlib.Core.Bool.{Bool, true, false, not, cond}
+use mathlib.Core.Path.{_≡_, refl, ap, _∙_}
+use mathlib.Core.Bool.{Bool, true, false, cond}
 use mathlib.Core.List.{List}
 use Prim.Native.Nat.{ℕ, _+_, _*_, _-_, _<_, _≤_}
 use native.Mathlib.Omega.{arith}
 use lib.Dec.{ltb, leb}
 use Rattle.laws.proofs.Branches.{is-lt, not-lt, is-le, not-le, unless-eq, unless-ne}
 use Rattle.rules.specs.declared.Sets.{Sets}
-use Rattle.image.specs.Layout.{Within, none, recAt, recordLengthOf, sizeOf, startOf}
+use Rattle.image.specs.Layout.{Within, none, recAt, recordLengthOf, startOf}
 use Rattle.kinship.specs.Climb.{Stands}
 use Rattle.verdict.specs.declared.Verdict.{Verdict}
 use Rattle.verdict.specs.declared.Verdict.the-variants.{Refuse, Read, Update}

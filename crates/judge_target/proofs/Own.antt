@@ -1,7 +1,4 @@
 -- A rule in the file's own record is asked as it stands there.
-use mathlib.Core.Path.{_≡_}
-use mathlib.Core.List.{List}
-use Prim.Native.Nat.{ℕ}
 use borrow.Author.Tests.{ne-eqb}
 use Rattle.image.specs.Layout.{recAt, countOf, formOf}
 use Rattle.access.specs.Access.{referred, askedAs}

@@ -2,8 +2,6 @@
 use mathlib.Core.Path.{_≡_, _∙_, ap, fun-ext}
 use mathlib.Core.List.{List}
 use Prim.Native.Nat.{ℕ}
-use Rattle.rules.specs.declared.Right.{Right}
-use Rattle.rules.specs.declared.Sets.{Sets}
 use Rattle.image.specs.Layout.{recAt, countOf, formOf}
 use Rattle.access.specs.Access.{askedAs, grantedOf}
 use Rattle.access.specs.Decision.{decisionOf}

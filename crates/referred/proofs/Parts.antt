@@ -2,7 +2,7 @@
 use mathlib.Core.Path.{_≡_, refl, sym, _∙_, ap, subst}
 use mathlib.Core.Bool.{Bool, true, false, cond, _&&_}
 use mathlib.Core.List.{List, []}
-use Prim.Native.Nat.{ℕ, suc, _+_, _-_, _<_, _≤_}
+use Prim.Native.Nat.{ℕ, suc, _+_, _-_, _≤_}
 use native.Mathlib.Omega.{arith}
 use lib.ListN.{length, getD, take, drop, length-drop}
 use lib.Dec.{eqb}
@@ -12,7 +12,7 @@ use Rattle.laws.specs.declared.Found.the-variants.{At, Nothing}
 use Rattle.laws.specs.Lists.{part}
 use Rattle.laws.specs.Walks.{firstBelow}
 use Rattle.laws.proofs.Firsts.{first-is}
-use Rattle.image.specs.Layout.{base, recAt, formOf, recordLengthOf}
+use Rattle.image.specs.Layout.{recAt, formOf, recordLengthOf}
 use Rattle.access.specs.Access.{referred}
 use Rattle.pool.specs.Records.{hasRecord}
 use Rattle.sound.specs.Table.{viewAt}

@@ -1,6 +1,6 @@
 -- Where a rule stands, by each way out of the functions that tell it.
 use mathlib.Core.Path.{_≡_, refl, sym, _∙_, ap}
-use mathlib.Core.Bool.{Bool, true, false, not, cond, _&&_}
+use mathlib.Core.Bool.{Bool, true, false, not}
 use mathlib.Core.List.{List, []}
 use mathlib.Core.Logic.{⊎-elim}
 use Prim.Native.Nat.{ℕ, _+_, _*_, _-_, _<_, _≤_, _%_}
@@ -14,7 +14,7 @@ use Rattle.laws.specs.declared.Found.the-variants.{At, Nothing}
 use Rattle.laws.specs.Lists.{part}
 use Rattle.laws.proofs.Says.{lt-or}
 use Rattle.numbers.specs.Numbers.{u16At}
-use Rattle.rules.specs.Descriptor.{structureOf, ef}
+use Rattle.rules.specs.Descriptor.{ef}
 use Rattle.image.specs.Layout.{Within, base, recAt, kindOf, descriptorOf, formOf, recordLengthOf, startOf}
 use Rattle.image.proofs.Places.{byte-in, u16-in}
 use Rattle.access.specs.Access.{referred}

@@ -1,13 +1,13 @@
 -- 02 Ticket 7, sentence by sentence (specs/Ticket).
 use mathlib.Core.Path.{_≡_, refl, sym, _∙_, ap}
 use mathlib.Core.Bool.{Bool, true, false, cond, _&&_, and-false, false≢true}
-use mathlib.Core.List.{List, [], _∷_, _++_}
+use mathlib.Core.List.{List, [], _∷_}
 use mathlib.Core.Logic.{⊎-elim}
 use Prim.Native.Nat.{ℕ, zero, suc, _+_, _*_, _-_, _/_, _<_, _≤_}
 use native.Mathlib.Nat.{not-suc-le-zero, le-div-iff-mul-le, div-lt-iff-lt-mul}
 use native.Mathlib.Omega.{arith}
-use lib.Dec.{eqb, ltb, leb}
-use lib.ListN.{length, getD, take, drop, length-append, take-append-drop}
+use lib.Dec.{eqb, ltb}
+use lib.ListN.{length, getD, take, drop, length-append}
 use lib.Seq.{take-append-seam, take-take, getD-take, getD-drop}
 use borrow.Author.Tests.{eqb-true, eq-eqb, ne-eqb, lt-leb, le-leb, lt-ltb, le-ltb}
 use Rattle.laws.specs.declared.Found.{Found}
@@ -26,11 +26,10 @@ use Rattle.access.specs.Access.{referred}
 use Rattle.pool.specs.Records.{hasRecord}
 use Rattle.sound.specs.Table.{View, viewAt, up}
 use Rattle.sound.specs.Kinship.{childNamed}
-use Rattle.referred.specs.declared.Place.{Place}
-use Rattle.referred.specs.declared.Place.the-variants.{Nowhere, InImage, InPool}
+use Rattle.referred.specs.declared.Place.the-variants.{Nowhere, InPool}
 use Rattle.referred.specs.Padding.{isFF, isPadding, endsAt, orZero, unpaddedEnd, Padded}
 use Rattle.referred.specs.Nearest.{firstFound, nearestOf, fileUp}
-use Rattle.referred.specs.Deciding.{namedFileOf, namedRecordOf, isLinear, recordStart, rowAt, inPool, heldPlace, takenPlace}
+use Rattle.referred.specs.Deciding.{namedFileOf, namedRecordOf, isLinear, recordStart, rowAt, inPool, heldPlace}
 use Rattle.referred.specs.Deciding.{referredPlace, ownPlace, placeOf, partOf, decidingRule}
 use Rattle.referred.specs.Ticket as ticket
 use Rattle.referred.specs.Ticket.{NearestAt, Names}

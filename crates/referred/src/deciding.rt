@@ -24,19 +24,12 @@ fn named_file(image: &[u8], s: usize) -> u16
     numbers::u16_at(image, 16 + 64 * s + 34)
 }
 
-// A byte with its bound.
-fn wide(x: u8) -> usize
-    ensures { λ r. ⌜ (r ≡ x) × (r < 256) ⌝ }
-{
-    x as usize
-}
-
 // The number of the record that it names.
 fn named_record(image: &[u8], s: usize) -> usize
     requires { ⌜ Within (now image) s ⌝ }
     ensures { λ r. ⌜ (r ≡ namedRecordOf (recAt (now (image .entry)) s)) × (r < 256) ⌝ }
 {
-    wide(image[16 + 64 * s + 36])
+    numbers::wide(image[16 + 64 * s + 36]) as usize
 }
 
 // Whether the file in slot t is a linear fixed EF; its life cycle is not regarded.
@@ -121,7 +114,7 @@ fn own(image: &[u8], s: usize) -> Place
     ensures { λ r. ⌜ (r ≡ ownPlace (now (image .entry)) s) × Bounded r ⌝ }
 {
     let from = 16 + 64 * s + 34;
-    let length = wide(image[16 + 64 * s + 33]);
+    let length = numbers::wide(image[16 + 64 * s + 33]) as usize;
     Place::InImage {
         from,
         to: from + length,

@@ -5,13 +5,12 @@ use Prim.Native.Nat.{ℕ}
 use mathlib.Core.Path.{_≡_}
 use mathlib.Core.List.{List, [], _∷_}
 use lib.ListN.{length}
-use Rattle.laws.specs.Lists.{part}
 use Rattle.rules.specs.declared.Sets.{Sets}
 use Rattle.image.specs.Layout.{recAt, formOf, ruleOf}
 use Rattle.access.specs.Decision.{full}
 use Rattle.access.specs.Lines.{nobody, user1}
 use Rattle.create_data.specs.Grammar.{object}
-use Rattle.card.specs.Command.{answerNumber, answerWord, answerSecurity, replyOf, imageOf, responseOf}
+use Rattle.card.specs.Command.{answerWord, answerSecurity, replyOf}
 use Rattle.card.specs.Rules.{Ruled}
 use Rattle.rows.specs.Calls.{with, card, selectFile, deactivateFile}
 use Rattle.rows.specs.Forms.{createRuled}

@@ -6,10 +6,6 @@ use Rattle.abi.proofs.Cases.{by-case, ruling-case}
 use borrow.Author.Needs.{needs}
 use Rattle.abi.proofs.hull_rule.Statement.{statement}
 use Rattle.abi.proofs.hull_rule.Tie as tie
-use Rattle.abi.proofs.hull_rule.Reads as reads
-use Rattle.abi.proofs.hull_rule.Lts as lts
-use Rattle.abi.proofs.place_numbers.Reads as place-numbers-reads
-use Rattle.card.proofs.standing.ruling.Reads as ruling-reads
 
 ruling-requires : tie.Need-ruling-requires
 ruling-requires c κs = search needs

@@ -5,8 +5,6 @@ use Rattle.abi.proofs.Cases.{image-order, image-narrow, pool-order, poo
 use borrow.Author.Needs.{needs}
 use Rattle.abi.proofs.place_numbers.Statement.{statement}
 use Rattle.abi.proofs.place_numbers.Tie as tie
-use Rattle.abi.proofs.place_numbers.Reads as reads
-use Rattle.abi.proofs.place_numbers.Lts as lts
 
 enum-told : tie.Need-enum-told
 enum-told c = search needs

@@ -5,13 +5,6 @@ use native.Mathlib.Omega.{arith}
 use borrow.Author.Needs.{needs}
 use Rattle.card.proofs.standing.ruling.Statement.{statement}
 use Rattle.card.proofs.standing.ruling.Tie as tie
-use Rattle.card.proofs.standing.ruling.Reads as reads
-use Rattle.card.proofs.standing.ruling.Lts as lts
-use Rattle.card.proofs.pool_fits.Reads as pool-fits-reads
-use Rattle.image.proofs.fields.count.Reads as count-reads
-use Rattle.image.proofs.fields.kind.Reads as kind-reads
-use Rattle.referred.proofs.deciding.place.Reads as place-reads
-use Rattle.sound_test.proofs.sound.Reads as sound-reads
 
 sound-requires : tie.Need-sound-requires
 sound-requires c κs = search needs

@@ -3,9 +3,6 @@ use Rattle.referred.proofs.Parts.{image-lies, pool-lies, part-none, par
 use borrow.Author.Needs.{needs}
 use Rattle.referred.proofs.deciding.deciding.Statement.{statement}
 use Rattle.referred.proofs.deciding.deciding.Tie as tie
-use Rattle.referred.proofs.deciding.deciding.Reads as reads
-use Rattle.referred.proofs.deciding.deciding.Lts as lts
-use Rattle.referred.proofs.deciding.place.Reads as place-reads
 
 place-requires : tie.Need-place-requires
 place-requires c κs = search needs

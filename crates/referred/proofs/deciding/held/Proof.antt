@@ -5,14 +5,6 @@ use Rattle.referred.proofs.Places.{rule-small, helds}
 use borrow.Author.Needs.{needs}
 use Rattle.referred.proofs.deciding.held.Statement.{statement}
 use Rattle.referred.proofs.deciding.held.Tie as tie
-use Rattle.referred.proofs.deciding.held.Reads as reads
-use Rattle.referred.proofs.deciding.held.Lts as lts
-use Rattle.image.proofs.fields.record_length.Reads as record-length-reads
-use Rattle.pool.proofs.records.has_record.Reads as has-record-reads
-use Rattle.referred.proofs.deciding.is_linear.Reads as is-linear-reads
-use Rattle.referred.proofs.deciding.record_start.Reads as record-start-reads
-use Rattle.referred.proofs.deciding.stretch.Reads as stretch-reads
-use Rattle.referred.proofs.padding.unpadded_end.Reads as unpadded-end-reads
 
 is-linear-requires : tie.Need-is-linear-requires
 is-linear-requires c κs = search needs

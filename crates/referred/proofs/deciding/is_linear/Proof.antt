@@ -3,10 +3,6 @@ use Rattle.referred.proofs.Places.{linear-no, linear-last}
 use borrow.Author.Needs.{needs}
 use Rattle.referred.proofs.deciding.is_linear.Statement.{statement}
 use Rattle.referred.proofs.deciding.is_linear.Tie as tie
-use Rattle.referred.proofs.deciding.is_linear.Reads as reads
-use Rattle.referred.proofs.deciding.is_linear.Lts as lts
-use Rattle.image.proofs.fields.descriptor.Reads as descriptor-reads
-use Rattle.image.proofs.fields.kind.Reads as kind-reads
 
 kind-requires : tie.Need-kind-requires
 kind-requires c κs = search needs

@@ -4,9 +4,6 @@ use Rattle.referred.proofs.Places.{file-in}
 use borrow.Author.Needs.{needs}
 use Rattle.referred.proofs.deciding.named_file.Statement.{statement}
 use Rattle.referred.proofs.deciding.named_file.Tie as tie
-use Rattle.referred.proofs.deciding.named_file.Reads as reads
-use Rattle.referred.proofs.deciding.named_file.Lts as lts
-use Rattle.numbers.proofs.u16_at.Reads as u16-at-reads
 
 mul-u16-at : tie.Need-mul-u16-at
 mul-u16-at c = search needs

@@ -4,9 +4,6 @@ use Rattle.referred.proofs.Places.{number-in}
 use borrow.Author.Needs.{needs}
 use Rattle.referred.proofs.deciding.named_record.Statement.{statement}
 use Rattle.referred.proofs.deciding.named_record.Tie as tie
-use Rattle.referred.proofs.deciding.named_record.Reads as reads
-use Rattle.referred.proofs.deciding.named_record.Lts as lts
-use Rattle.referred.proofs.deciding.wide.Reads as wide-reads
 
 mul-wide : tie.Need-mul-wide
 mul-wide c = search needs
@@ -23,9 +20,12 @@ shared-slice-read-wide c = search needs
 wide-requires : tie.Need-wide-requires
 wide-requires c κs = search needs
 
+cast-result : tie.Need-cast-result
+cast-result c = search needs
+
 returns : tie.Need-returns
 returns c = (c .wide .ensures .0 ∙ sym (number-in _ _), c .wide .ensures .1)
 
 pub named-record-spec : {M : Type 1} → statement M
 named-record-spec =
-    tie.close (tie.spec mul-wide add-wide add-wide-2 shared-slice-read-wide wide-requires returns)
+    tie.close (tie.spec mul-wide add-wide add-wide-2 shared-slice-read-wide wide-requires cast-result returns)

@@ -1,12 +1,8 @@
 -- `deciding::own`: the length byte, and as many bytes after it.
-use native.Mathlib.Omega.{arith}
 use Rattle.referred.proofs.Places.{own-is}
 use borrow.Author.Needs.{needs}
 use Rattle.referred.proofs.deciding.own.Statement.{statement}
 use Rattle.referred.proofs.deciding.own.Tie as tie
-use Rattle.referred.proofs.deciding.own.Reads as reads
-use Rattle.referred.proofs.deciding.own.Lts as lts
-use Rattle.referred.proofs.deciding.wide.Reads as wide-reads
 
 mul-from : tie.Need-mul-from
 mul-from c = search needs
@@ -32,6 +28,9 @@ shared-slice-read-wide c = search needs
 wide-requires : tie.Need-wide-requires
 wide-requires c κs = search needs
 
+cast-length : tie.Need-cast-length
+cast-length c = search needs
+
 add-t5 : tie.Need-add-t5
 add-t5 c = search needs
 
@@ -50,5 +49,6 @@ own-spec =
     add-wide-2
     shared-slice-read-wide
     wide-requires
+    cast-length
     add-t5
     returns)

@@ -3,11 +3,6 @@ use Rattle.referred.proofs.Places.{place-referred, place-own}
 use borrow.Author.Needs.{needs}
 use Rattle.referred.proofs.deciding.place.Statement.{statement}
 use Rattle.referred.proofs.deciding.place.Tie as tie
-use Rattle.referred.proofs.deciding.place.Reads as reads
-use Rattle.referred.proofs.deciding.place.Lts as lts
-use Rattle.image.proofs.fields.form.Reads as form-reads
-use Rattle.referred.proofs.deciding.own.Reads as own-reads
-use Rattle.referred.proofs.deciding.referred.Reads as referred-reads
 
 form-requires : tie.Need-form-requires
 form-requires c κs = search needs

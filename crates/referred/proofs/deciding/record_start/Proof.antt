@@ -6,10 +6,6 @@ use Rattle.referred.proofs.Places.{start-at}
 use borrow.Author.Needs.{needs}
 use Rattle.referred.proofs.deciding.record_start.Statement.{statement}
 use Rattle.referred.proofs.deciding.record_start.Tie as tie
-use Rattle.referred.proofs.deciding.record_start.Reads as reads
-use Rattle.referred.proofs.deciding.record_start.Lts as lts
-use Rattle.image.proofs.fields.record_length.Reads as record-length-reads
-use Rattle.image.proofs.fields.start.Reads as start-reads
 
 record-length-requires : tie.Need-record-length-requires
 record-length-requires c κs = search needs

@@ -4,13 +4,6 @@ use native.Mathlib.Omega.{arith}
 use borrow.Author.Needs.{needs}
 use Rattle.referred.proofs.deciding.referred.Statement.{statement}
 use Rattle.referred.proofs.deciding.referred.Tie as tie
-use Rattle.referred.proofs.deciding.referred.Reads as reads
-use Rattle.referred.proofs.deciding.referred.Lts as lts
-use Rattle.image.proofs.fields.parent.Reads as parent-reads
-use Rattle.referred.proofs.deciding.held.Reads as held-reads
-use Rattle.referred.proofs.deciding.named_file.Reads as named-file-reads
-use Rattle.referred.proofs.deciding.named_record.Reads as named-record-reads
-use Rattle.referred.proofs.nearest.nearest.Reads as nearest-reads
 
 parent-requires : tie.Need-parent-requires
 parent-requires c κs = search needs

@@ -3,8 +3,6 @@ use Rattle.referred.proofs.Places.{stretch-none, stretch-rest, stretch-
 use borrow.Author.Needs.{needs}
 use Rattle.referred.proofs.deciding.stretch.Statement.{statement}
 use Rattle.referred.proofs.deciding.stretch.Tie as tie
-use Rattle.referred.proofs.deciding.stretch.Reads as reads
-use Rattle.referred.proofs.deciding.stretch.Lts as lts
 
 slice-aggregate-result : tie.Need-slice-aggregate-result
 slice-aggregate-result c = search needs
