@@ -16,13 +16,12 @@
  *
  * Lending. Every pointer is lent for the time of the call alone. The caller owns the memory before, during and after;
  * the library allocates nothing, keeps no pointer, no number and no other state between calls, writes no memory but
- * `image` of hull_make, hull_command and hull_pack, `pool` of hull_command and hull_pack, `response` of hull_command and
- * `numbers` of every call that has them, and reads no byte past the length given.
+ * `image` of hull_make and hull_command, `pool` and `response` of hull_command and `numbers` of hull_command, hull_report
+ * and hull_rule, and reads no byte past the length given.
  *  - A `const` buffer is not written, and during the call nobody else may write it.
  *  - A buffer that is not `const` is the call's alone: during the call nobody else may read or write it, and it may not
  *    overlap any other argument. So `image`, `pool`, `response` and `numbers` of hull_command overlap neither one another
- *    nor `command`, and `image`, `pool` and `numbers` of hull_pack do not overlap one another. This holds of a pool that
- *    the call leaves alone, too.
+ *    nor `command`. This holds of a pool that the call leaves alone, too.
  *  - A buffer of length 0 may have any pointer, also NULL. Otherwise the pointer must be valid for that many bytes.
  * Calls on different images, with different pools, may run on different threads at the same time, also with the same
  * command or rule. Calls that only read (hull_report, hull_rule, hull_sound) may run at the same time on one image and
@@ -34,7 +33,7 @@
  * needs that much left when it calls. The library asks for no more, checks nothing and cannot refuse: with less the
  * system ends the process, or, where no guard page stands below the stack, memory below it is overwritten.
  *
- * Versions. An image has a version, 1 to 3, in its bytes 3 and 4, which the maker is told and no other call changes. In
+ * Versions. An image has a version, 1 to 3, in its bytes 3 and 4, which the maker is told and no command changes. In
  * version 1 every rule is compact and has 1 to 16 bytes. In version 2 a rule is compact or expanded and has 1 to 30, in
  * version 3 1 to 28; in version 3 alone files have bodies, commands READ and UPDATE them, and a rule may be referred: kept
  * in a record of another file's body. All else is alike.
@@ -54,16 +53,16 @@
  *
  * Answers (0 to 4 are of 01, "Making and reporting"; 5 and 6 are of 02, Tickets 2 and 4):
  *   0  done; for a command its word tells
- *   1  the image is not sound (command, pack, report, rule): word 0000, numbers 0, image, pool and response as they came
+ *   1  the image is not sound (command, report, rule): word 0000, numbers 0, image, pool and response as they came
  *   2  maker: the length is not 16 + 64 N with N 2 to 1023, or the version is unknown: buffer as it came
  *   3  maker: the total is not 1 to 64 (N - 1): buffer as it came
  *   4  maker: the form is unknown or unfit for the version, or the rule has no byte, too many for the version, or is
  *      not well formed, or it is referred and has not three bytes: buffer as it came
  *   5  command: the response is shorter than the data: word 0000, numbers 0, image, pool and response as they came
- *   6  command, pack and rule, in version 3: the pool is not as long as the root's total: word 0000, numbers 0, image, pool
- *      and response as they came
- * The maker checks 2, 3, 4 in that order. A command finds 1 first, then 6, whatever the command is, and 5 last; so do
- * hull_pack, and hull_rule whatever the slot is, with 1 and 6. */
+ *   6  command and rule, in version 3: the pool is not as long as the root's total: word 0000, numbers 0, image, pool and
+ *      response as they came
+ * The maker checks 2, 3, 4 in that order. A command finds 1 first, then 6, whatever the command is, and 5 last; so does
+ * hull_rule with 1 and 6, whatever the slot is. */
 #ifndef HULLPLAITER_H
 #define HULLPLAITER_H
 
@@ -94,9 +93,8 @@ extern "C" {
  * version 1 both are 14 bytes shorter, in version 3 they are 2 bytes shorter. */
 #define HULL_RESPONSE_MOST 256u
 
-/* How many numbers hull_command, hull_pack, hull_report and hull_rule write. */
+/* How many numbers hull_command, hull_report and hull_rule write. */
 #define HULL_COMMAND_NUMBERS 3u
-#define HULL_PACK_NUMBERS 1u
 #define HULL_REPORT_NUMBERS 4u
 #define HULL_RULE_NUMBERS 3u
 
@@ -168,8 +166,7 @@ uint32_t hull_make(uint8_t *image, size_t image_length, uint32_t kind, uint32_t 
  *         the bodies of the image's files. In version 3 it must be exactly as long as the root's total, with every command,
  *         also with one that has nothing to do with bodies. Versions 1 and 2 have no bodies: there it may be of any length,
  *         also NULL with length 0, and no command reads or writes it.
- *         Of commands, only UPDATE, CREATE and DELETE that are answered 9000 change it; see "Bodies" below. Beside them
- *         hull_pack does
+ *         Only UPDATE, CREATE and DELETE that are answered 9000 change it; see "Bodies" below
  * response
  *         where data is written, of any length, also 0; HULL_RESPONSE_MOST bytes suffice for every command. A SELECT with
  *         P1 P2 00 04 that is answered 9000, 6283 or 6285 has data, the template of the file that it selected, and so has a
@@ -184,11 +181,7 @@ uint32_t hull_make(uint8_t *image, size_t image_length, uint32_t kind, uint32_t 
  *         HULL_COMMAND_NUMBERS numbers that the caller lends, each written on every call:
  *         numbers[0]  how many bytes of data were written to the response; 0 if there are none
  *         numbers[1]  HULL_LACKING or HULL_CLOSED with answer HULL_DONE and word 6982; else HULL_NO_SECURITY_REFUSAL
- *         numbers[2]  how many bytes of bodies the command moved, counted as hull_pack counts them: not 0 with a CREATE of
- *                     an EF that is answered 9000 and that no gap fitted, 0 with every other command, word and answer, also
- *                     with a CREATE of a DF and one that a gap fitted. It came later than its place: in earlier versions
- *                     of this library it is 0 on every call. What was compiled for the header of such a version goes on
- *                     working as it is
+ *         numbers[2]  0; kept for a later version, which tells there how many bytes were moved
  * returns 65536 times the answer, plus the word: HULL_ANSWER and HULL_WORD take them apart.
  *         Answer HULL_DONE: the word tells. With 9000 the command has had its effect on image and pool; with 6283 or 6285
  *         the file is selected; with any other word every byte of image and pool is as it came.
@@ -251,9 +244,8 @@ uint32_t hull_make(uint8_t *image, size_t image_length, uint32_t kind, uint32_t 
  * CREATE of an EF puts the new body into the lowest gap that fits, a gap being a run of bytes in no body, the one behind
  * the last body too, and fills it with FF. If no gap fits, all bodies are moved down first, in the order of their starts,
  * so that they lie without a gap from 0 on, and the new one behind them. What they hold stays; bytes that belonged to a
- * body before and to none afterwards become 00. So gaps never cause 6A84. numbers[2] tells how many bytes were moved; to
- * have them moved at a time of the caller's choice there is hull_pack. DELETE makes every byte of the deleted bodies 00.
- * Other bytes of the pool stay as they are, whatever they hold. */
+ * body before and to none afterwards become 00. So gaps never cause 6A84. DELETE makes every byte of the deleted bodies
+ * 00. Other bytes of the pool stay as they are, whatever they hold. */
 uint32_t hull_command(uint8_t *image, size_t image_length, uint8_t *pool, size_t pool_length,
                       const uint8_t *command, size_t command_length,
                       uint8_t *response, size_t response_length,
@@ -263,25 +255,6 @@ uint32_t hull_command(uint8_t *image, size_t image_length, uint8_t *pool, size_t
 /* The two parts of what hull_command returns. */
 #define HULL_ANSWER(result) ((uint32_t)(result) >> 16)
 #define HULL_WORD(result) ((uint16_t)((uint32_t)(result)&0xFFFFu))
-
-/* PACK: moves all bodies down, in the order of their starts, so that they lie without a gap from 0 on, as a CREATE does that
- * no gap fits. It is a call and no command: it has no word, asks no rule and no channels, and works on a terminated card
- * too. In the image it changes the starts of the bodies that were moved and nothing else, what is current neither. What
- * files hold stays; bytes of the pool that belonged to a body before and to none afterwards become 00, and other free bytes
- * stay as they are. So every READ gives the same after it, and the report tells the same.
- *
- * pool    as for hull_command: in version 3 as long as the root's total. Versions 1 and 2 have no bodies: there it may be of
- *         any length, also NULL with length 0, and nothing is changed
- * numbers HULL_PACK_NUMBERS numbers that the caller lends, written on every call:
- *         numbers[0]  how many bytes of bodies were moved: the sum of the sizes of those bodies that lie above a gap, a byte
- *                     in no body, when moving starts. They are those whose start differs afterwards. So it is 0 when
- *                     nothing was moved, never more than the sizes of all bodies together, and a second hull_pack tells 0.
- *                     Bytes that become 00 are not counted
- * returns HULL_DONE; or HULL_NOT_SOUND or HULL_WRONG_POOL with the number 0, every byte of image and pool as it came. In
- *         versions 1 and 2 a sound image is HULL_DONE with the number 0. A sound image is sound afterwards, and asks for a
- *         pool of the same length. */
-uint32_t hull_pack(uint8_t *image, size_t image_length, uint8_t *pool, size_t pool_length,
-                   uint32_t numbers[HULL_PACK_NUMBERS]);
 
 /* Reports on the current DF. `numbers` is HULL_REPORT_NUMBERS numbers that the caller lends, each written every time:
  *   numbers[0]  its total

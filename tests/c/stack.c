@@ -44,7 +44,7 @@ static size_t length;
 static uint8_t response[HULL_RESPONSE_MOST];
 static size_t response_length;
 static uint32_t numbers[HULL_COMMAND_NUMBERS];
-static uint32_t slot, place[HULL_RULE_NUMBERS], packed[HULL_PACK_NUMBERS];
+static uint32_t slot, place[HULL_RULE_NUMBERS];
 static uint32_t given;
 
 static void make(void)
@@ -66,11 +66,6 @@ static void report(void)
 static void rule(void)
 {
     given = hull_rule(image, sizeof image, pool_length == 0 ? NULL : pool, pool_length, slot, place);
-}
-
-static void pack(void)
-{
-    given = hull_pack(image, sizeof image, pool_length == 0 ? NULL : pool, pool_length, packed);
 }
 
 /* Runs a call on the painted stack; gives what it returned. */
@@ -147,28 +142,18 @@ static void body(void)
     pool_length++;
 }
 
-/* A CREATE for which bodies must be moved, and PACK: the card is as long as it can be, and so is what is moved. */
+/* A CREATE for which bodies must be moved: the card is as long as it can be, and so is what is moved. */
 static void moving(void)
 {
-    uint8_t erase[] = {0x00, 0xE4, 0x00, 0x00, 0x02, 0x6F, 0x01};
+    const uint8_t erase[] = {0x00, 0xE4, 0x00, 0x00, 0x02, 0x6F, 0x01};
     must("make", run(make), HULL_DONE);
     must("CREATE of a first EF", ef(1, 1000), 0x9000);
     must("CREATE of a large EF", ef(2, 60000), 0x9000);
     must("DELETE of the first EF", play(erase, sizeof erase), 0x9000);
     must("what was deleted", pool[0], 0x00);
     must("CREATE that moves", ef(3, 5280), 0x9000);
-    must("how many bytes", numbers[2], 60000);
     must("what was moved", pool[0], 0xFF);
     must("where a body starts then", (uint32_t)(image[16 + 64 * 2 + 62] << 8 | image[16 + 64 * 2 + 63]), 0);
-    erase[6] = 2;
-    must("DELETE of the large EF", play(erase, sizeof erase), 0x9000);
-    must("PACK", run(pack), HULL_DONE);
-    must("how many bytes it moved", packed[0], 5280);
-    must("a second PACK", run(pack), HULL_DONE);
-    must("what that moved", packed[0], 0);
-    pool_length--;
-    must("PACK with another pool", run(pack), HULL_WRONG_POOL);
-    pool_length++;
 }
 
 /* A refusal whose rule is asked once more to its end, under everything: as deep as it can be, and closed by its last byte; of a
@@ -249,7 +234,6 @@ static void calls(void)
     must("in its record", place[0], HULL_IN_IMAGE);
     must("report", run(report), HULL_DONE);
     must("sound", run(sound), 1);
-    must("PACK", run(pack), HULL_DONE);
     must("an empty command", play(NULL, 0), 0x6700);
     for (i = 0; i < sizeof instructions; i++) {
         bare[1] = instructions[i];
@@ -267,7 +251,6 @@ static void calls(void)
     must("TERMINATE CARD USAGE", play(bare, sizeof bare), 0x9000);
     image[15] = 1;
     must("a damaged image", play(root, sizeof root), (uint32_t)HULL_NOT_SOUND << 16);
-    must("PACK of a damaged image", run(pack), HULL_NOT_SOUND);
 }
 
 int main(void)

@@ -9,10 +9,7 @@ use Rattle.access.specs.Decision.{decision_number}
 use Rattle.verdict.specs.declared.State.{State}
 use Rattle.card.specs.declared.Reply.{Reply}
 use Rattle.card.specs.declared.Reply.TheVariants.{Word}
-use Rattle.card.specs.Command.{answer_told, answer_moved, CommandPromises}
-use Rattle.card.specs.declared.Packed.{Packed}
-use Rattle.card.specs.declared.Packed.TheVariants.{Moved}
-use Rattle.card.specs.Packing.{pack_number, pack_moved, PackPromises}
+use Rattle.card.specs.Command.{answer_told, CommandPromises}
 use Rattle.maker.specs.declared.Made.{Made}
 use Rattle.maker.specs.Making.{left_by}
 use Rattle.referred.specs.declared.Place.{Place}
@@ -22,7 +19,7 @@ use Rattle.card.specs.declared.Ruling.{Ruling}
 use Rattle.card.specs.declared.Ruling.TheVariants.{At}
 use Rattle.card.specs.Ruling.{RulingBounded}
 use Rattle.abi.specs.Numbers.{packed, told_numbers, place_numbers}
-use Rattle.abi.specs.Promises.{HullCommand, HullPack}
+use Rattle.abi.specs.Promises.{HullCommand}
 
 -- r is what a callee answered: the case k, and the value x that it promises
 pub by_case : {A B : Type 0} (f : A → B) {r k x : A} → r ≡ k → r ≡ x → f k ≡ f x
@@ -30,27 +27,24 @@ by_case f e h = ap f (sym e ∙ h)
 
 -- r is a reply, found to be a case of it: its number, and the three beside it; s is the number that was made of the decision d
 module _ (r : Reply) where
-  pub packed-word : {w n m : ℕ} {d : Decision} → r ≡ Word w n d m → w ≡ packed r
-  packed-word {w} {n} {m} {d} e = word-alone ∙ ap packed (sym e)
+  pub packed-word : {w n : ℕ} {d : Decision} → r ≡ Word w n d → w ≡ packed r
+  packed-word {w} {n} {d} e = word-alone ∙ ap packed (sym e)
     where
-      word-alone : w ≡ packed (Word w n d m)
+      word-alone : w ≡ packed (Word w n d)
       word-alone = omega arith
 
   pub packed_case : (k : Reply) {m : ℕ} → r ≡ k → m ≡ packed k → m ≡ packed r
   packed_case k e f = f ∙ ap packed (sym e)
 
-  pub told-word : {w n s m : ℕ} {d : Decision} → r ≡ Word w n d m → s ≡ decision_number d → (n ∷ s ∷ m ∷ []) ≡ told_numbers r
-  told-word {w} {n} {s} {m} e f = ap (λ (k : ℕ). n ∷ k ∷ m ∷ []) f ∙ ap told_numbers (sym e)
+  pub told-word : {w n s : ℕ} {d : Decision} → r ≡ Word w n d → s ≡ decision_number d → (n ∷ s ∷ 0 ∷ []) ≡ told_numbers r
+  told-word {w} {n} e f = ap (λ (k : ℕ). n ∷ k ∷ 0 ∷ []) f ∙ ap told_numbers (sym e)
 
   pub told_case : (k : Reply) {m : List ℕ} → r ≡ k → m ≡ told_numbers k → m ≡ told_numbers r
   told_case k e f = f ∙ ap told_numbers (sym e)
 
-  -- what was told, and what was moved, is few bytes
-  pub told_narrow : answer_told r < 65536 → {w n m : ℕ} {d : Decision} → r ≡ Word w n d m → n < 4294967296
+  -- what was told is few bytes
+  pub told_narrow : answer_told r < 65536 → {w n : ℕ} {d : Decision} → r ≡ Word w n d → n < 4294967296
   told_narrow h e = omega (arith, ap answer_told e, h)
-
-  pub moved_narrow : answer_moved r < 65536 → {w n m : ℕ} {d : Decision} → r ≡ Word w n d m → m < 4294967296
-  moved_narrow h e = omega (arith, ap answer_moved e, h)
 
 pub left_by_lem : (r x : Made) (y img : List ℕ) (e : Edition) (total form : ℕ) (rule : List ℕ) → y ≡ left_by r img e total form rule → r ≡ x
     → y ≡ left_by x img e total form rule
@@ -65,19 +59,6 @@ commanded p f g = record {
   pool_is = p.pool_is;
   response_is = p.response_is;
   numbers_are = g ∙ ap told_numbers p.reply;
-}
-
--- r is what PACK answered, found to be the case k
-pub pack_narrow : {img pool left kept : List ℕ} {r : Packed} → PackPromises img pool r left kept → {m : ℕ} → r ≡ Moved m → m < 4294967296
-pack_narrow p e = omega (arith, ap pack_moved e, p.few)
-
-pub pack_case : {img pool left kept : List ℕ} {r : Packed} → PackPromises img pool r left kept → (k : Packed) → r ≡ k
-    → HullPack img pool (pack_number k) left kept (pack_moved k ∷ [])
-pack_case p k e = record {
-  result = ap pack_number (sym e ∙ p.reply);
-  image = p.image;
-  pool_is = p.pool_is;
-  numbers_are = ap (λ (x : Packed). pack_moved x ∷ []) (sym e ∙ p.reply);
 }
 
 -- p is a place, found to be a case of it: its numbers, which are small

@@ -9,11 +9,10 @@ use Rattle.verdict.specs.declared.State.{State}
 use Rattle.card.specs.declared.Reply.{Reply}
 use Rattle.card.specs.declared.Reply.TheVariants.{Word, Damaged, Short, WrongPool}
 use Rattle.card.specs.Command.{answer_number, answer_word, answer_security, reply_of}
-use Rattle.card.specs.Packing.{pack_of}
 use Rattle.card.specs.Ruling.{ruling_of}
 use Rattle.card.proofs.Security.{word-answers, number_exactly}
 use Rattle.laws.proofs.Settling.{settled, both_are, pair_settled}
-use Rattle.abi.specs.Promises.{HullCommand, HullPack, HullSound, EachSettles, HullNumbers}
+use Rattle.abi.specs.Promises.{HullCommand, HullSound, EachSettles, HullNumbers}
 use Rattle.abi.specs.Numbers.{packed, told_numbers}
 
 pub each_settles : EachSettles
@@ -23,9 +22,6 @@ each_settles = record {
       settled (λ p. HullCommand img pool c st o p.0 p.1.0 p.1.1.0 p.1.1.1.0 p.1.1.1.1) (_, (_, (_, (_, _))))
       (λ p k. both_are _ _ p k.result (both_are _ _ p.1 k.image (both_are _ _ p.1.1 k.pool_is
       (both_are _ _ p.1.1.1 k.response_is k.numbers_are))));
-  pack = λ img pool.
-      settled (λ p. HullPack img pool p.0 p.1.0 p.1.1.0 p.1.1.1) (_, (_, (_, _)))
-      (λ p k. both_are _ _ p k.result (both_are _ _ p.1 k.image (both_are _ _ p.1.1 k.pool_is k.numbers_are)));
   report = λ img. pair_settled _ _;
   sound = λ img. settled (HullSound img) _ (λ x e. e);
   rule = λ img pool slot. pair_settled _ _;
@@ -33,14 +29,14 @@ each_settles = record {
 
 -- a reply's number, where its answer is 0
 word-only : (r : Reply) → answer_number r ≡ 0 → packed r ≡ answer_word r
-word-only (Word w n d m) e = omega arith
+word-only (Word w n d) e = omega arith
 word-only Damaged e = absurd (omega arith)
 word-only Short e = absurd (omega arith)
 word-only WrongPool e = absurd (omega arith)
 
 -- a reply's number is 6982 where its answer is 0 and its word is that, and nowhere else
 six_says : (r : Reply) → (packed r ≡ 0x6982) ↔ ((answer_number r ≡ 0) × (answer_word r ≡ 0x6982))
-six_says (Word w n d m) = (λ e. (omega arith, omega (arith, e)), λ p. omega (arith, p.1))
+six_says (Word w n d) = (λ e. (omega arith, omega (arith, e)), λ p. omega (arith, p.1))
 six_says Damaged = (λ e. absurd (omega (arith, e)), λ p. absurd (omega (arith, p.0)))
 six_says Short = (λ e. absurd (omega (arith, e)), λ p. absurd (omega (arith, p.0)))
 six_says WrongPool = (λ e. absurd (omega (arith, e)), λ p. absurd (omega (arith, p.0)))
@@ -63,7 +59,7 @@ security-told img pool c st o r left kept y numbers p = (
     second = ap (λ (l : List ℕ). get_or l 1 0) p.numbers_are
 
 pub hull_numbers : HullNumbers
-unfolding reply_of ruling_of pack_of
+unfolding reply_of ruling_of
 hull_numbers = record {
   damaged = λ img pool c st o r left kept y numbers p e. (p.result ∙ rw e, p.numbers_are ∙ rw e);
   short = λ img pool c st o r left kept y numbers p e. (p.result ∙ ap packed e, p.numbers_are ∙ ap told_numbers e);
@@ -74,6 +70,4 @@ hull_numbers = record {
   unsound = λ img r p e. p ∙ rw e;
   unruled = λ img pool slot r numbers p e. (p.0 ∙ rw e, p.1 ∙ rw e);
   misruled = λ img pool slot r numbers p e f. (p.0 ∙ rw (e, f), p.1 ∙ rw (e, f));
-  unpacked = λ img pool r left kept numbers p e. (p.result ∙ rw e, p.numbers_are ∙ rw e);
-  mispacked = λ img pool r left kept numbers p e f. (p.result ∙ rw (e, f), p.numbers_are ∙ rw (e, f));
 }

@@ -8,7 +8,7 @@ use Rattle.card.specs.declared.Ruling.{Ruling}
 use Rattle.card.specs.declared.Ruling.TheVariants.{At, Damaged, WrongPool}
 use Rattle.referred.specs.declared.Place.{Place}
 use Rattle.referred.specs.declared.Place.TheVariants.{Nowhere, InImage, InPool}
-use Rattle.card.specs.Command.{answer_number, answer_word, answer_told, answer_security, answer_moved}
+use Rattle.card.specs.Command.{answer_number, answer_word, answer_told, answer_security}
 
 -- the kind of card: its version
 abbrev pub edition_of : ℕ → Edition
@@ -25,10 +25,10 @@ state_of m e u ch = record {
 abbrev pub packed : Reply → ℕ
 packed r = answer_number r * 65536 + answer_word r
 
--- what a command tells beside its word: how many bytes of data, what a security refusal lacks (02 Ticket 6), how many bytes of bodies were
--- moved (02 Ticket 8)
+-- what a command tells beside its word: how many bytes of data, and what a security refusal lacks (02 Ticket 6); one entry is kept for the
+-- bytes moved (02 Ticket 8), and is 0
 abbrev pub told_numbers : Reply → List ℕ
-told_numbers r = answer_told r ∷ answer_security r ∷ answer_moved r ∷ []
+told_numbers r = answer_told r ∷ answer_security r ∷ 0 ∷ []
 
 -- where a rule stands (02 Ticket 7): 0 nowhere, 1 in the image, 2 in the pool; its first byte; how many bytes it has
 abbrev pub place_numbers : Place → List ℕ

@@ -8,9 +8,7 @@ use Rattle.maker.specs.Making.{made_number, made_of, left_by}
 use Rattle.maker.specs.Reporting.{reported_number, numbers_of, reported_of}
 use Rattle.verdict.specs.declared.State.{State}
 use Rattle.card.specs.declared.Reply.TheVariants.{Short, WrongPool}
-use Rattle.card.specs.Command.{answer_number, answer_word, answer_told, answer_security, answer_moved, pool_fits, reply_of, image_of, pool_of}
-use Rattle.card.specs.Command.{response_of}
-use Rattle.card.specs.Packing.{pack_number, pack_moved, pack_of, pack_image, pack_pool}
+use Rattle.card.specs.Command.{answer_number, answer_word, answer_told, answer_security, pool_fits, reply_of, image_of, pool_of, response_of}
 use Rattle.card.specs.Ruling.{ruling_number, ruling_of}
 use Rattle.abi.specs.Numbers.{packed, told_numbers, ruling_numbers}
 
@@ -25,13 +23,6 @@ pub record HullCommand (img pool c : List ℕ) (st : State) (response : List ℕ
   pub pool_is : kept ≡ pool_of img pool c st (length response)
   pub response_is : answered ≡ response_of img pool c st response
   pub numbers_are : numbers ≡ told_numbers (reply_of img pool c st (length response))
-
--- PACK: its answer, the image, the pool and the one number
-pub record HullPack (img pool : List ℕ) (r : ℕ) (left kept numbers : List ℕ) : Type 0 where
-  pub result : r ≡ pack_number (pack_of img pool)
-  pub image : left ≡ pack_image img pool
-  pub pool_is : kept ≡ pack_pool img pool
-  pub numbers_are : numbers ≡ pack_moved (pack_of img pool) ∷ []
 
 abbrev pub HullReport : List ℕ → ℕ → List ℕ → Type 0
 HullReport img r numbers = (r ≡ reported_number (reported_of img)) × (numbers ≡ numbers_of (reported_of img))
@@ -51,17 +42,15 @@ pub record EachSettles : Type 0 where
   pub command : (img pool c : List ℕ) (st : State) (response : List ℕ)
       → Settles (ℕ × (List ℕ × (List ℕ × (List ℕ × List ℕ))))
       (λ p. HullCommand img pool c st response p.0 p.1.0 p.1.1.0 p.1.1.1.0 p.1.1.1.1)
-  pub pack : (img pool : List ℕ) → Settles (ℕ × (List ℕ × (List ℕ × List ℕ)))
-      (λ p. HullPack img pool p.0 p.1.0 p.1.1.0 p.1.1.1)
   pub report : (img : List ℕ) → Settles (ℕ × List ℕ) (λ p. HullReport img p.0 p.1)
   pub sound : (img : List ℕ) → Settles ℕ (HullSound img)
   pub rule : (img pool : List ℕ) (slot : ℕ) → Settles (ℕ × List ℕ) (λ p. HullRule img pool slot p.0 p.1)
 
 -- the numbers that C sees (`hull-numbers`): a command on a damaged image gives 65536, one whose data don't fit 327680, one with a pool of a
--- wrong length 393216, each with three zeros, any other its word, how many bytes were told and how many moved; the second number is 1 or 2
--- exactly with 6982, and else 0; hull_sound gives 1 for a sound image and 0 for any other; hull_rule and hull_pack give 1 for a damaged
--- image and 6 for a pool of a wrong length, each with zeros. Those of hull_make and hull_report are the maker's and the report's
--- (maker/specs, `MakerAnswers`, `ReportAnswers`)
+-- wrong length 393216, each with three zeros, any other its word and how many bytes were told; the second number is 1 or 2 exactly with
+-- 6982, and else 0; hull_sound gives 1 for a sound image and 0 for any other; hull_rule gives 1 for a damaged image and 6 for a pool of a
+-- wrong length, each with three zeros. Those of hull_make and hull_report are the maker's and the report's (maker/specs, `MakerAnswers`,
+-- `ReportAnswers`)
 pub record HullNumbers : Type 0 where
   pub damaged : (img pool c : List ℕ) (st : State) (response : List ℕ) (r : ℕ) (left kept answered numbers : List ℕ)
       → HullCommand img pool c st response r left kept answered numbers → soundb img ≡ false
@@ -75,8 +64,7 @@ pub record HullNumbers : Type 0 where
   pub word : (img pool c : List ℕ) (st : State) (response : List ℕ) (r : ℕ) (left kept answered numbers : List ℕ)
       → HullCommand img pool c st response r left kept answered numbers → answer_number (reply_of img pool c st (length response)) ≡ 0
       → (r ≡ answer_word (reply_of img pool c st (length response)))
-      × (numbers ≡ answer_told (reply_of img pool c st (length response)) ∷ answer_security (reply_of img pool c st (length response))
-      ∷ answer_moved (reply_of img pool c st (length response)) ∷ [])
+      × (numbers ≡ answer_told (reply_of img pool c st (length response)) ∷ answer_security (reply_of img pool c st (length response)) ∷ 0 ∷ [])
   pub security : (img pool c : List ℕ) (st : State) (response : List ℕ) (r : ℕ) (left kept answered numbers : List ℕ)
       → HullCommand img pool c st response r left kept answered numbers
       → (((get_or numbers 1 0 ≡ 1) ⊎ (get_or numbers 1 0 ≡ 2)) ↔ (r ≡ 0x6982)) × ((r ≡ 0x6982 → ⊥) → get_or numbers 1 0 ≡ 0)
@@ -86,7 +74,3 @@ pub record HullNumbers : Type 0 where
       → (r ≡ 1) × (numbers ≡ 0 ∷ 0 ∷ 0 ∷ [])
   pub misruled : (img pool : List ℕ) (slot r : ℕ) (numbers : List ℕ) → HullRule img pool slot r numbers → soundb img ≡ true
       → pool_fits img pool ≡ false → (r ≡ 6) × (numbers ≡ 0 ∷ 0 ∷ 0 ∷ [])
-  pub unpacked : (img pool : List ℕ) (r : ℕ) (left kept numbers : List ℕ) → HullPack img pool r left kept numbers → soundb img ≡ false
-      → (r ≡ 1) × (numbers ≡ 0 ∷ [])
-  pub mispacked : (img pool : List ℕ) (r : ℕ) (left kept numbers : List ℕ) → HullPack img pool r left kept numbers → soundb img ≡ true
-      → pool_fits img pool ≡ false → (r ≡ 6) × (numbers ≡ 0 ∷ [])

@@ -2,13 +2,13 @@
 // No call asks anything of its caller, and none keeps anything from call to call.
 ghost use Rattle.std.specs.Prelude.{◌≡◌, ◌<◌};
 ghost use Rattle.access.specs.Decision.{decision_number};
-ghost use Rattle.card.specs.Command.{answer_told, answer_moved};
+ghost use Rattle.card.specs.Command.{answer_told};
 ghost use Rattle.referred.specs.Deciding.{Bounded};
 ghost use Rattle.abi.specs.Numbers.{edition_of, state_of, packed, told_numbers, place_numbers};
-ghost use Rattle.abi.specs.Promises.{HullMake, HullCommand, HullPack, HullReport, HullSound, HullRule};
+ghost use Rattle.abi.specs.Promises.{HullMake, HullCommand, HullReport, HullSound, HullRule};
 
 use access::Decision;
-use card::{Packed, Reply, Ruling};
+use card::{Reply, Ruling};
 use maker::{Edition, Made, Reported};
 use referred::Place;
 use rules::Sets;
@@ -48,7 +48,6 @@ fn packed(reply: Reply) -> u32
             word,
             told,
             security,
-            moved,
         } => word as u32,
         Reply::Damaged => 65536,
         Reply::Short => 327680,
@@ -56,9 +55,9 @@ fn packed(reply: Reply) -> u32
     }
 }
 
-// What a reply tells beside its word: how many bytes of data, what a security refusal lacks, how many bytes of bodies were moved.
+// What a reply tells beside its word: how many bytes of data, what a security refusal lacks, and 0.
 fn told_numbers(reply: Reply) -> [u32; 3]
-    requires { (answer_told reply < 65536) × (answer_moved reply < 65536) }
+    requires { answer_told reply < 65536 }
     ensures { result ≡ told_numbers reply }
 {
     match reply {
@@ -66,8 +65,7 @@ fn told_numbers(reply: Reply) -> [u32; 3]
             word,
             told,
             security,
-            moved,
-        } => [told as u32, number_of(security), moved as u32],
+        } => [told as u32, number_of(security), 0],
         Reply::Damaged => [0, 0, 0],
         Reply::Short => [0, 0, 0],
         Reply::WrongPool => [0, 0, 0],
@@ -103,28 +101,6 @@ pub extern "C" fn hull_command(
     let reply = card::command(image, pool, command, response, state);
     *numbers = told_numbers(reply);
     packed(reply)
-}
-
-// PACK, on an image and its pool: its answer, and how many bytes were moved in the lent array.
-#[unsafe(no_mangle)]
-pub extern "C" fn hull_pack(image: &mut [u8], pool: &mut [u8], numbers: &mut [u32; 1]) -> u32
-    ensures { HullPack image.old pool.old result image.new pool.new numbers.new }
-{
-    let packed = card::packing::pack(image, pool);
-    match packed {
-        Packed::Moved(moved) => {
-            *numbers = [moved as u32];
-            0
-        }
-        Packed::Damaged => {
-            *numbers = [0];
-            1
-        }
-        Packed::WrongPool => {
-            *numbers = [0];
-            6
-        }
-    }
 }
 
 // The report: its answer, and its four numbers in the lent array.

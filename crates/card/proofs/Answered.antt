@@ -19,7 +19,7 @@ use Rattle.sound.proofs.Says.{sound-says}
 use Rattle.verdict.specs.declared.State.{State}
 use Rattle.verdict.specs.declared.Verdict.{Verdict}
 use Rattle.verdict.specs.declared.Verdict.TheVariants.{Refuse, Select, Create, Delete, SetLife, Read, Update}
-use Rattle.verdict.specs.Applied.{word_of, applied_of, pooled_of, moved_of}
+use Rattle.verdict.specs.Applied.{word_of, applied_of, pooled_of}
 use Rattle.apdu.specs.Apdu.{instruction}
 use Rattle.rules.specs.declared.Sets.{Sets}
 use Rattle.access.specs.Decision.{decision_number}
@@ -28,8 +28,8 @@ use Rattle.judge.specs.Judge.{judge_of}
 use Rattle.effect.specs.Told.{told}
 use Rattle.card.specs.declared.Reply.{Reply}
 use Rattle.card.specs.declared.Reply.TheVariants.{Word, Short, WrongPool}
-use Rattle.card.specs.Command.{answer_number, answer_word, answer_told, answer_security, answer_moved, pool_fits, fits, due_of, reply_of}
-use Rattle.card.specs.Command.{image_of, pool_of, response_of, CommandPromises}
+use Rattle.card.specs.Command.{answer_number, answer_word, answer_told, answer_security, pool_fits, fits, due_of, reply_of, image_of, pool_of}
+use Rattle.card.specs.Command.{response_of, CommandPromises}
 use Rattle.card.specs.Obeyed.{is_one_of}
 use Rattle.card.specs.Demands.{AllStays, WrongPoolRefused, OlderFit}
 use Rattle.card.specs.Demands.{DamagedRefused, SoundAnswered, Succeeds, OtherWordsLeave, words_of_table, OnlyTheseWords, WarnsInSelect}
@@ -68,8 +68,7 @@ wrong-pool-refused img pool c st response e = (
 )
   where
     go : (b : Bool) → answer_number (cond b (Word (word_of (due_of img pool c st (length response))) (length (told img pool c (due_of img pool c st (length response))))
-        (denial_of img pool c st.sets (due_of img pool c st (length response))) (moved_of img (due_of img pool c st (length response)))) Short)
-        ≡ 6 → ⊥
+        (denial_of img pool c st.sets (due_of img pool c st (length response)))) Short) ≡ 6 → ⊥
     go true h = omega arith
     go false h = omega arith
 
@@ -104,7 +103,7 @@ damaged_tells img pool c st lent e = rw e
 -- what the verdict that stands answers, by the two checks
 abbrev pub said : List ℕ → List ℕ → List ℕ → Sets → Verdict → Bool → Bool → Reply
 said img pool c x due whole fit =
-    cond whole (cond fit (Word (word_of due) (length (told img pool c due)) (denial_of img pool c x due) (moved_of img due)) Short) WrongPool
+    cond whole (cond fit (Word (word_of due) (length (told img pool c due)) (denial_of img pool c x due)) Short) WrongPool
 
 -- on a sound image
 module _ (img pool c : List ℕ) (st : State) (lent : ℕ) (sound : Sound img) where
@@ -149,15 +148,6 @@ module _ (img pool c : List ℕ) (st : State) (lent : ℕ) (sound : Sound img) w
       go true true p q = refl
       go true false p q = sym (ap (λ (v : Verdict). decision_number (denial_of img pool c st.sets v)) (due_unfit img pool c st lent q))
       go false b p q = sym (ap (λ (v : Verdict). decision_number (denial_of img pool c st.sets v)) (due_wrong img pool c st lent p))
-
-  pub moved_is : answer_moved (reply_of img pool c st lent) ≡ moved_of img (due_of img pool c st lent)
-  moved_is = ap answer_moved reply_is ∙ go (pool_fits img pool) (fits img pool c st lent) refl refl
-    where
-      go : (a b : Bool) → pool_fits img pool ≡ a → fits img pool c st lent ≡ b
-          → answer_moved (said img pool c st.sets (due_of img pool c st lent) a b) ≡ moved_of img (due_of img pool c st lent)
-      go true true p q = refl
-      go true false p q = sym (ap (moved_of img) (due_unfit img pool c st lent q))
-      go false b p q = sym (ap (moved_of img) (due_wrong img pool c st lent p))
 
 pub response_is : (img pool c : List ℕ) (st : State) (response : List ℕ) → Sound img
     → response_of img pool c st response ≡ splice response 0 (told img pool c (due_of img pool c st (length response)))

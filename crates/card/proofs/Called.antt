@@ -15,7 +15,7 @@ use Rattle.sound.proofs.Says.{sound-says}
 use Rattle.sound.proofs.Front.{sound-within}
 use Rattle.verdict.specs.declared.State.{State}
 use Rattle.verdict.specs.declared.Verdict.{Verdict}
-use Rattle.verdict.specs.Applied.{word_of, applied_of, pooled_of, moved_of}
+use Rattle.verdict.specs.Applied.{word_of, applied_of, pooled_of}
 use Rattle.access.specs.declared.Decision.{Decision}
 use Rattle.access.specs.Decision.{decision_number}
 use Rattle.judge.specs.Judge.{judge_of}
@@ -23,14 +23,12 @@ use Rattle.judge_security.specs.Security.{denial_of}
 use Rattle.fcp.specs.declared.Written.{Written}
 use Rattle.fcp.specs.declared.Written.TheVariants.{Done, Short as TooShort}
 use Rattle.fcp.specs.Writing.{Answered}
-use Rattle.effect.specs.declared.Outcome.{Outcome}
 use Rattle.effect.specs.Fit.{Applies}
 use Rattle.effect.specs.Told.{told, CanTell}
 use Rattle.card.specs.declared.Reply.TheVariants.{Word, Damaged, Short, WrongPool}
 use Rattle.card.specs.Command.{pool_fits, PoolFits, reply_of, image_of, pool_of, response_of, CommandPromises}
 use Rattle.card.proofs.Tells.{applies}
 use Rattle.card.proofs.Telling.{judge_tells}
-use Rattle.card.proofs.Counted.{moved-few}
 use Rattle.card.proofs.Due.{pool-says, can_tell, told-few, due_fits, due_short, due_wrong}
 
 -- the test of the pool's length: v is the version that was read, b whether it has bodies, z the root's total
@@ -49,20 +47,12 @@ sound-long img sound = omega (arith, sound.header.long)
 pub root-within : (img : List ℕ) → Sound img → Within img 0
 root-within img sound = sound-within img sound 0 (omega (arith, sound.header.least))
 
--- a reply by its parts
-same_word : {w n m v k l : ℕ} {d e : Decision} → w ≡ v → n ≡ k → d ≡ e → m ≡ l → Word w n d m ≡ Word v k e l
-same_word {w} {n} {m} {v} {k} {l} {d} {e} a b f g =
-    ap (λ (u : ℕ). Word u n d m) a
-    ∙ ap (λ (u : ℕ). Word v u d m) b
-    ∙ ap (λ (u : Decision). Word v k u m) f
-    ∙ ap (λ (u : ℕ). Word v k e u) g
-
 module _ (img pool c : List ℕ) (st : State) {r : Bool} (e : r ≡ soundb img) where
   pub call_damaged : (o : List ℕ) → not r ≡ true → CommandPromises img pool c st o Damaged img pool o
   unfolding reply_of image_of pool_of response_of denial_of
   call_damaged o t =
       let z = sym e ∙ not-true r t in
-      record { reply = rw z; image = rw z; pool_is = rw z; response_is = rw z; number = rw z; word = rw z; bytes = rw z; security = rw z; moved = rw z; few = omega arith; few-moved = omega arith }
+      record { reply = rw z; image = rw z; pool_is = rw z; response_is = rw z; number = rw z; word = rw z; bytes = rw z; security = rw z; few = omega arith }
 
   module _ (t : not r ≡ false) where
     pub call_sound : Sound img
@@ -88,9 +78,7 @@ module _ (img pool c : List ℕ) (st : State) {r : Bool} (e : r ≡ soundb img) 
             word = rw (z, d);
             bytes = rw (z, d);
             security = rw (z, d);
-            moved = rw (z, d);
             few = omega arith;
-            few-moved = omega arith;
           }
 
       module _ (j : not w ≡ false) where
@@ -121,26 +109,24 @@ module _ (img pool c : List ℕ) (st : State) {r : Bool} (e : r ≡ soundb img) 
                   word = rw (z, s.1);
                   bytes = rw (z, s.1);
                   security = rw (z, s.1);
-                  moved = rw (z, s.1);
                   few = omega arith;
-                  few-moved = omega arith;
                 }
 
-            pub call_done : {m : ℕ} {x : Outcome} {d : Decision} {after kept : List ℕ} → k ≡ Done m → d ≡ denial_of img pool c st.sets v
-                → ((x.word ≡ word_of v) × (x.moved ≡ moved_of img v)) × (after ≡ applied_of img c v) × (kept ≡ pooled_of img pool c v)
-                → CommandPromises img pool c st o (Word x.word m d x.moved) after kept y
+            pub call_done : {m x : ℕ} {d : Decision} {after kept : List ℕ} → k ≡ Done m → d ≡ denial_of img pool c st.sets v
+                → (x ≡ word_of v) × (after ≡ applied_of img c v) × (kept ≡ pooled_of img pool c v)
+                → CommandPromises img pool c st o (Word x m d) after kept y
             unfolding reply_of image_of pool_of response_of denial_of
             call_done {m} {x} {d} q l g =
                 let b = rw (q, f) at a in
                 let s = due_fits img pool c st (length o) fit b.0 in
                 let p = sym i ∙ not-false w j in
                 let z = sym e ∙ not-false r t in
-                let u = judge_tells img pool c call_sound st in
-                let word = g.0.0 ∙ ap word_of f in
-                let moved = g.0.1 ∙ ap (moved_of img) f in
+                let word = g.0 ∙ ap word_of f in
                 let denial = l ∙ ap (denial_of img pool c st.sets) f in
                 record {
-                  reply = rw (z, p, s.0, s.1) (same_word word b.1.0 denial moved);
+                  reply = rw (z, p, s.0, s.1) (ap (λ (u : ℕ). Word u m d) word
+                      ∙ ap (λ (u : ℕ). Word (word_of (judge_of img pool c st)) u d) b.1.0
+                      ∙ ap (λ (u : Decision). Word (word_of (judge_of img pool c st)) (length (told img pool c (judge_of img pool c st))) u) denial);
                   image = rw (z, s.1) (g.1 ∙ ap (applied_of img c) f);
                   pool_is = rw (z, s.1) (g.2 ∙ ap (pooled_of img pool c) f);
                   response_is = rw (z, s.1) b.1.1;
@@ -148,7 +134,5 @@ module _ (img pool c : List ℕ) (st : State) {r : Bool} (e : r ≡ soundb img) 
                   word = rw (z, s.1) word;
                   bytes = rw (z, s.1) b.1.0;
                   security = rw (z, s.1) (ap decision_number denial);
-                  moved = rw (z, s.1) moved;
-                  few = omega (arith, b.1.0, told-few img pool c call_sound fit (judge_of img pool c st) u);
-                  few-moved = omega (arith, moved, moved-few img call_sound (judge_of img pool c st));
+                  few = omega (arith, b.1.0, told-few img pool c call_sound fit (judge_of img pool c st) (judge_tells img pool c call_sound st));
                 }

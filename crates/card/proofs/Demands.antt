@@ -15,12 +15,13 @@ use Rattle.laws.proofs.Says.{and-says}
 use Rattle.laws.proofs.Splices.{splice-nil}
 use Rattle.laws.proofs.Firsts.{first_is}
 use Rattle.rules.specs.declared.Sets.{Sets}
+use Rattle.rules.specs.Life.{is_terminated}
 use Rattle.image.specs.declared.Head.{Head}
-use Rattle.image.specs.Layout.{version_of, rec_at, free_bytes, kind_of, count_of, current_df_of}
+use Rattle.image.specs.Layout.{version_of, rec_at, free_bytes, kind_of, life_cycle_of, count_of, current_df_of}
 use Rattle.image.proofs.Places.{length_record}
 use Rattle.image.proofs.Starts.{byte_kept}
 use Rattle.pool.specs.Bodies.{body_of, body_at}
-use Rattle.image.proofs.Headers.{same_count}
+use Rattle.image.proofs.Headers.{same_version, same_count}
 use Rattle.sound.specs.Sound.{Sound}
 use Rattle.sound.specs.Table.{view_at}
 use Rattle.sound.specs.Kinship.{terminated_at, at_or_beneath, free_slot}
@@ -29,9 +30,8 @@ use Rattle.sound.proofs.Front.{sound-within}
 use Rattle.verdict.specs.declared.State.{State}
 use Rattle.verdict.specs.declared.Verdict.{Verdict}
 use Rattle.verdict.specs.declared.Verdict.TheVariants.{Refuse, Select, Create, Delete, SetLife, Read, Update}
-use Rattle.verdict.specs.Applied.{word_of, applied_of, pooled_of, moved_of}
+use Rattle.verdict.specs.Applied.{word_of, applied_of, pooled_of}
 use Rattle.judge_target.specs.Steps.{Step, judged, all_hold, followed}
-use Rattle.access.specs.declared.Decision.{Decision}
 use Rattle.access.specs.declared.Decision.TheVariants.{Granted}
 use Rattle.judge.specs.Shared.{shared_steps}
 use Rattle.judge.specs.Judge.{plan_for, judge_for, judge_of}
@@ -42,8 +42,8 @@ use Rattle.card.specs.Command.{answer_word, PoolFits, fits, due_of, reply_of}
 use Rattle.card.specs.Steps.{steps_of, last_step, all_steps, effect_of, first_failing}
 use Rattle.card.specs.Obeyed.{refusal, is_one_of}
 use Rattle.card.specs.After.{record_after}
-use Rattle.card.specs.Demands.{Succeeds, words_of_table, RepliesInOrder, SucceedsExactly, EffectAndNoOther, Deleting}
-use Rattle.card.specs.Demands.{SameButStart, TerminatedStays}
+use Rattle.card.specs.Demands.{Succeeds, words_of_table, RepliesInOrder, SucceedsExactly, EffectAndNoOther, Deleting, image_after}
+use Rattle.card.specs.Demands.{SameButStart, Call, TerminatedStays, TerminatedForGood}
 use Rattle.card.proofs.Steps.{cond_by, judged-append, judged-all, judged-first}
 use Rattle.card.proofs.Tells.{Tells}
 use Rattle.card.proofs.Speaks.{Acts, plan-acts, succeeds}
@@ -51,7 +51,7 @@ use Rattle.card.proofs.After.{records-after, front_after, current-after, df-afte
 use Rattle.card.proofs.Words.{judge_worded}
 use Rattle.card.proofs.Ordered.{Erases, Ordered}
 use Rattle.card.proofs.Due.{pool-says, due_tells, due_speaks, due_ordered, due_fit, due_unfit}
-use Rattle.card.proofs.Answered.{image_is, pool_is, reply_is, word_is, response_is}
+use Rattle.card.proofs.Answered.{image_is, pool_is, reply_is, word_is, response_is, stays_sound}
 
 -- the verdict: the effect where all steps hold, else a refusal with the word of the first that fails
 pub judged_in_order : (img pool c : List ℕ) (st : State)
@@ -124,8 +124,7 @@ module _ (img pool c : List ℕ) (st : State) (lent : ℕ) where
 
       go : (b : Bool) → fits img pool c st lent ≡ b
           → cond b (Word (word_of (due_of img pool c st lent)) (length (told img pool c (due_of img pool c st lent)))
-          (denial_of img pool c st.sets (due_of img pool c st lent)) (moved_of img (due_of img pool c st lent))) Short
-          ≡ refusal img pool c st.sets w
+          (denial_of img pool c st.sets (due_of img pool c st lent))) Short ≡ refusal img pool c st.sets w
       go true q =
           let n = worded w (rw (sym (due_fit img pool c st lent k q) ∙ e) at (judge_worded img pool c st)) in
           rw (e, n) refl
@@ -152,8 +151,7 @@ pub replies_in_order : RepliesInOrder
 replies_in_order img pool c st response sound k = (
   (λ h. let e = (due_in_order img pool c st (length response) k).0 h in (
     reply_is img pool c st (length response) sound ∙ rw ((pool-says img pool).1 k, all_fit img pool c st (length response) h, e)
-        (ap (λ (d : Decision).
-        Word (word_of (effect_of img pool c st)) (length (told img pool c (effect_of img pool c st))) d (moved_of img (effect_of img pool c st)))
+        (ap (Word (word_of (effect_of img pool c st)) (length (told img pool c (effect_of img pool c st))))
         (acts-granted img pool c st.sets (effect_of img pool c st) (plan-acts img pool (count_of img) (current_df_of img) c st (own_hold img pool c st (length response) h)))),
     image_is img pool c st (length response) sound ∙ ap (applied_of img c) e,
     pool_is img pool c st (length response) sound ∙ ap (pooled_of img pool c) e,
@@ -171,7 +169,7 @@ replies_in_order img pool c st response sound k = (
 )
 
 -- the slot that CREATE takes is free
-pub new_free : (img : List ℕ) (s : ℕ) (h : Head) (name rule : List ℕ) → Creates img s h name rule → kind_of (rec_at img s) ≡ 0
+new_free : (img : List ℕ) (s : ℕ) (h : Head) (name rule : List ℕ) → Creates img s h name rule → kind_of (rec_at img s) ≡ 0
 unfolding free_slot
 new_free img s h name rule k = eqb-true _ _ (first_is (count_of img) (λ t. eqb (view_at img t).kind 0) s k.slot).here
 
@@ -210,30 +208,28 @@ effect-and-no-other img pool c st lent sound =
     })
 
 -- records that are the same but for the start of a body
-pub same_start : (v : ℕ) (r : List ℕ) → SameButStart v r r
+same_start : (v : ℕ) (r : List ℕ) → SameButStart v r r
 same_start v r = record { bytes = λ k l. refl; rest = λ z. refl }
 
-pub start_trans : (v : ℕ) (a b c : List ℕ) → SameButStart v a b → SameButStart v b c → SameButStart v a c
+start_trans : (v : ℕ) (a b c : List ℕ) → SameButStart v a b → SameButStart v b c → SameButStart v a c
 start_trans v a b c p q = record {
   bytes = λ k l. q.bytes k l ∙ p.bytes k l;
   rest = λ z. q.rest (rw (p.rest z) z) ∙ p.rest z;
 }
 
-pub kept-start : (img : List ℕ) (g : Found) (t : ℕ) → length (rec_at img t) ≡ 64
-    → SameButStart (version_of img) (rec_at img t) (kept_record g img t)
-unfolding kept_record
-kept-start img (At p) t whole = same_start _ _
-kept-start img Nothing t whole = cond_by (SameButStart (version_of img) (rec_at img t)) (ltb 0 (body_at img t)) _ _
-    (λ q. record {
-      bytes = λ k l. byte_kept (rec_at img t) _ whole k l;
-      rest = λ z. absurd (z (unfold body_at in ltb-true 0 (body_of (version_of img) (rec_at img t)) q));
-    })
-    (λ q. same_start _ _)
-
 pub other-start : (img : List ℕ) (h : Head) (t : ℕ) → length (rec_at img t) ≡ 64 → SameButStart (version_of img) (rec_at img t) (other_record img h t)
 unfolding other_record
 other-start img h t whole = cond_by (SameButStart (version_of img) (rec_at img t)) (eqb (new_body (version_of img) h) 0) _ _
-    (λ q. same_start _ _) (λ q. kept-start img (new_gap img h) t whole)
+    (λ q. same_start _ _) (λ q. go (new_gap img h))
+  where
+    go : (g : Found) → SameButStart (version_of img) (rec_at img t) (kept_record g img t)
+    go (At p) = unfold kept_record in same_start _ _
+    go Nothing = unfold kept_record in cond_by (SameButStart (version_of img) (rec_at img t)) (ltb 0 (body_at img t)) _ _
+        (λ q. record {
+          bytes = λ k l. byte_kept (rec_at img t) _ whole k l;
+          rest = λ z. absurd (z (unfold body_at in ltb-true 0 (body_of (version_of img) (rec_at img t)) q));
+        })
+        (λ q. same_start _ _)
 
 -- a terminated file under one verdict
 module _ (img c : List ℕ) (s : ℕ) (whole : length (rec_at img s) ≡ 64) (used : kind_of (rec_at img s) ≡ 0 → ⊥)
@@ -278,3 +274,23 @@ terminated_stays img pool c st lent s sound low used dead =
     let o = due_ordered img pool c st lent in
     ⊎_elim (λ f. inl (deleting img pool c st lent s sound (due_of img pool c st lent) refl f.0 o, e ∙ f.1)) (λ f. inr (rw e f))
     (verdict_stays img c s (length_record img s (sound-within img sound s low).0) used dead (due_of img pool c st lent) (due_tells img pool c st lent sound) o)
+
+pub terminated_for_good : TerminatedForGood
+unfolding terminated_at kind_of life_cycle_of
+terminated_for_good [] img s sound low used dead = inr (same_start _ _)
+terminated_for_good (x ∷ rest) img s sound low used dead =
+    let e = effect-and-no-other img x.pool x.command x.state x.lent sound in
+    ⊎_elim (λ f. inl (inl f.0))
+    (λ f. ⊎_elim (λ g. inl (inr g)) (λ g. inr (start_trans _ _ _ _ f (rw (version-same img x sound) at g)))
+    (terminated_for_good rest (image_after img x) s (stays_sound img x.pool x.command x.state x.lent sound)
+    (rw e.count low) (λ z. used (sym (f.bytes 0 (omega arith)) ∙ z))
+    (ap is_terminated (f.bytes 2 (omega arith)) ∙ dead)))
+    (terminated_stays img x.pool x.command x.state x.lent s sound low used dead)
+  where
+    version-same : (img : List ℕ) (x : Call) → Sound img → version_of (image_after img x) ≡ version_of img
+    version-same img x sound =
+        same_version img _ (record {
+          long = (effect-and-no-other img x.pool x.command x.state x.lent sound).long;
+          start = (effect-and-no-other img x.pool x.command x.state x.lent sound).start;
+          tail = (effect-and-no-other img x.pool x.command x.state x.lent sound).tail;
+        })

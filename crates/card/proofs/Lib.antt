@@ -8,16 +8,11 @@ pub mod Speaks
 pub mod Words
 pub mod Ordered
 pub mod Due
-pub mod Counted
 pub mod Called
-pub mod Packs
 pub mod After
 pub mod Answered
 pub mod Silent
 pub mod Demands
-pub mod PackedDown
-pub mod PackedBodies
-pub mod Moves
 pub mod Obeying
 pub mod Obeyed
 pub mod Touched
@@ -32,5 +27,3 @@ pub mod Versions
 pub mod Security
 pub mod Rules
 pub mod Ruled
-pub mod Acts
-pub mod Spared

@@ -26,7 +26,7 @@ use Rattle.create_data.specs.declared.Data.TheVariants.{Df, Ef, Bad}
 use Rattle.create_data.specs.Data.{data_of}
 use Rattle.verdict.specs.declared.Verdict.{Verdict}
 use Rattle.verdict.specs.declared.Verdict.TheVariants.{Select}
-use Rattle.verdict.specs.Applied.{sent_data, word_of, applied_of, pooled_of, moved_of}
+use Rattle.verdict.specs.Applied.{sent_data, word_of, applied_of, pooled_of}
 use Rattle.judge_target.specs.Target.{current_file, life_at, slot_in, selected, describes, creating as creating_it}
 use Rattle.apdu.specs.Apdu.{class_byte, instruction, sent_identifier, is_terminate, is_old, is_known, wants_alone, wants_template}
 use Rattle.apdu.specs.Apdu.{is_body, is_binary, is_record}
@@ -40,15 +40,14 @@ use Rattle.effect.specs.Told.{chosen, told}
 use Rattle.card.specs.Conditions.{unknown_asks, AsksTemplate}
 use Rattle.card.specs.Conditions.{create_asks, delete_asks, activate_asks, deactivate_asks, terminate_ef_asks, terminate_df_asks}
 use Rattle.card.specs.Conditions.{terminate_card_asks, select_asks, found}
-use Rattle.card.specs.Obeyed.{word_for, selecting, telling, new_head, creating, filling, moving, is_one_of, instructions_of, SelectObeys}
-use Rattle.card.specs.Obeyed.{CreateObeys, DeleteObeys, ActivateObeys}
+use Rattle.card.specs.Obeyed.{word_for, selecting, telling, creating, filling, is_one_of, instructions_of, SelectObeys, CreateObeys}
+use Rattle.card.specs.Obeyed.{DeleteObeys, ActivateObeys}
 use Rattle.card.specs.Obeyed.{DeactivateObeys, TerminateEfObeys, TerminateDfObeys, TerminateCardObeys, OthersRefused, OlderHaveNone}
 use Rattle.card.proofs.Matching.{reads_none, reads-ask, reads_skip, reads_stop}
 use Rattle.card.proofs.Answered.{older_fit}
 use Rattle.card.proofs.Asked.{bodiless, channel_says, none-says, takes-says, deletes-says, identifier-free}
 use Rattle.card.proofs.Asked.{is_not-says, calm, alone-says, parameters_say, select-parameters, data_says, select-length}
 use Rattle.card.proofs.Asked.{delete-length, file-says}
-use Rattle.card.proofs.Counted.{directory_unmoved}
 use Rattle.card.proofs.Obeying.{final, obeys, obeys_silent, opens, opens_anyway, opens-alone}
 
 -- what SELECT finds has a slot, the root's where nothing was found
@@ -64,7 +63,7 @@ module _ (img pool c : List ℕ) (s : ℕ) (low : s ≡ none → ⊥) where
   abbrev Gives : Verdict → List ℕ → Type 0
   Gives v left =
       (word_of v ≡ word_for (life_of (life_at img s))) × (applied_of img c v ≡ left) × (pooled_of img pool c v ≡ pool)
-      × (told img pool c v ≡ telling img c s) × (moved_of img v ≡ 0)
+      × (told img pool c v ≡ telling img c s)
 
   select_gives : Gives (selecting_one img (current_df_of img) s) (selecting img s)
   unfolding selecting_one select_word chosen wants_template
@@ -73,8 +72,8 @@ module _ (img pool c : List ℕ) (s : ℕ) (low : s ≡ none → ⊥) where
       go : (b : Bool)
           → Gives (cond b (Select s none (select_word (life_at img s))) (Select (current_df_of img) s (select_word (life_at img s))))
           (cond b (set_current img s none) (set_current img (current_df_of img) s))
-      go true = (refl, refl, refl, refl, refl)
-      go false = (refl, refl, refl, rw (ne_eqb s none low), refl)
+      go true = (refl, refl, refl, refl)
+      go false = (refl, refl, refl, rw (ne_eqb s none low))
 
 -- the last ask of SELECT
 fits-says : (c t : List ℕ) (lent : ℕ)
@@ -89,7 +88,7 @@ pub select_obeys : SelectObeys
 unfolding plan_for is_known is_old is_body is_binary is_record wants_alone is_terminate final
 select_obeys img pool c st response sound fit e =
     obeys img pool c st response sound fit (select img (count_of img) (current_df_of img) (sent_identifier c)) (rw e)
-    (select_asks img c (length response)) _ _ _ _ _
+    (select_asks img c (length response)) _ _ _ _
     (opens img c st 0xA4 e refl _ _
     (reads_skip _ _ _ _ (calm c st 0xA4 e refl)
     (reads-ask _ _ _ _ _ _ (select-parameters c e) refl
@@ -109,7 +108,7 @@ pub create_obeys : CreateObeys
 unfolding plan_for is_known is_old is_body is_binary is_record wants_alone is_terminate part
 create_obeys img pool c st response sound fit e =
     obeys_silent img pool c st response sound fit (create img pool (count_of img) (current_df_of img) (sent_data c) st.sets) (rw e)
-    (create_asks img pool c st) _ _ _ _
+    (create_asks img pool c st) _ _ _
     (create_silent (data_of (version_of img) (sent_data c)))
     (opens img c st 0xE0 e refl _ _
     (reads-ask _ _ _ _ _ _ (alone-says c st 0xE0 e refl) refl
@@ -135,16 +134,15 @@ create_obeys img pool c st response sound fit e =
     gives : (new : Data) → describes new ≡ true → (word_of (creating_it img (current_df_of img) slot new) ≡ 0x9000)
         × (applied_of img c (creating_it img (current_df_of img) slot new) ≡ creating img (sent_data c) slot new)
         × (pooled_of img pool c (creating_it img (current_df_of img) slot new) ≡ filling img pool new)
-        × (moved_of img (creating_it img (current_df_of img) slot new) ≡ moving img new)
     gives Bad h = absurd (false≢true h)
-    gives (Df x) h = (refl, refl, refl, directory_unmoved img (new_head img df x) (λ z. omega (arith, z)))
-    gives (Ef x) h = (refl, refl, refl, refl)
+    gives (Df x) h = (refl, refl, refl)
+    gives (Ef x) h = (refl, refl, refl)
 
 pub delete_obeys : DeleteObeys
 unfolding plan_for is_known is_old is_body is_binary is_record wants_alone is_terminate
 delete_obeys img pool c st response sound fit e =
     obeys_silent img pool c st response sound fit (delete img pool (count_of img) (current_df_of img) (sent_identifier c) st.sets) (rw e)
-    (delete_asks img pool c st) _ _ _ _ refl
+    (delete_asks img pool c st) _ _ _ refl
     (opens img c st 0xE4 e refl _ _
     (reads-ask _ _ _ _ _ _ (alone-says c st 0xE4 e refl) refl
     (reads-ask _ _ _ _ _ _ (parameters_say c st 0xE4 e refl (bodiless 0xE4 refl)) refl
@@ -152,60 +150,60 @@ delete_obeys img pool c st response sound fit e =
     (reads-ask _ _ _ _ _ _ ((λ h. h), (λ h. h)) refl
     (reads-ask _ _ _ _ _ _ (deletes-says img pool (current_df_of img) _ st.sets) refl
     reads_none))))))
-    (λ m. (refl, refl, refl, refl))
+    (λ m. (refl, refl, refl))
 
 pub activate_obeys : ActivateObeys
 unfolding plan_for life_plan is_known is_old is_body is_binary is_record wants_alone is_terminate
 activate_obeys img pool c st response sound fit e =
-    obeys_silent img pool c st response sound fit (activate img pool (current_file img) st.sets) (rw e) (activate_asks img pool c st) _ _ _ _ refl
+    obeys_silent img pool c st response sound fit (activate img pool (current_file img) st.sets) (rw e) (activate_asks img pool c st) _ _ _ refl
     (opens_anyway img c st 0x44 e refl refl refl refl refl refl _ _
     (reads-ask _ _ _ _ _ _ ((λ h. h), (λ h. h)) refl
     (reads-ask _ _ _ _ _ _ (none-says img (current_file img)) refl
     (reads-ask _ _ _ _ _ _ (activates_says (life_at img (current_file img))) refl
     reads_none))))
-    (λ m. (refl, refl, refl, refl))
+    (λ m. (refl, refl, refl))
 
 pub deactivate_obeys : DeactivateObeys
 unfolding plan_for life_plan is_known is_old is_body is_binary is_record wants_alone is_terminate
 deactivate_obeys img pool c st response sound fit e =
-    obeys_silent img pool c st response sound fit (deactivate img pool (current_file img) st.sets) (rw e) (deactivate_asks img pool c st) _ _ _ _ refl
+    obeys_silent img pool c st response sound fit (deactivate img pool (current_file img) st.sets) (rw e) (deactivate_asks img pool c st) _ _ _ refl
     (opens_anyway img c st 0x04 e refl refl refl refl refl refl _ _
     (reads-ask _ _ _ _ _ _ ((λ h. h), (λ h. h)) refl
     (reads-ask _ _ _ _ _ _ (none-says img (current_file img)) refl
     (reads-ask _ _ _ _ _ _ (eq-says _ _) refl
     reads_none))))
-    (λ m. (refl, refl, refl, refl))
+    (λ m. (refl, refl, refl))
 
 pub terminate_ef_obeys : TerminateEfObeys
 unfolding plan_for life_plan is_known is_old is_body is_binary is_record wants_alone is_terminate
 terminate_ef_obeys img pool c st response sound fit e =
-    obeys_silent img pool c st response sound fit (terminate_the_ef img pool (current_ef_of img) st.sets) (rw e) (terminate_ef_asks img pool c st) _ _ _ _ refl
+    obeys_silent img pool c st response sound fit (terminate_the_ef img pool (current_ef_of img) st.sets) (rw e) (terminate_ef_asks img pool c st) _ _ _ refl
     (opens-alone img c st 0xE8 e refl refl refl refl refl refl _ _
     (reads-ask _ _ _ _ _ _ (is_not-says _ _) refl
     (reads-ask _ _ _ _ _ _ ((λ h. h), (λ h. h)) refl
     (reads-ask _ _ _ _ _ _ (none-says img (current_ef_of img)) refl
     reads_none))))
-    (λ m. (refl, refl, refl, refl))
+    (λ m. (refl, refl, refl))
 
 pub terminate_df_obeys : TerminateDfObeys
 unfolding plan_for life_plan is_known is_old is_body is_binary is_record wants_alone is_terminate
 terminate_df_obeys img pool c st response sound fit e =
-    obeys_silent img pool c st response sound fit (terminate_the_df img pool (current_df_of img) st.sets) (rw e) (terminate_df_asks img pool c st) _ _ _ _ refl
+    obeys_silent img pool c st response sound fit (terminate_the_df img pool (current_df_of img) st.sets) (rw e) (terminate_df_asks img pool c st) _ _ _ refl
     (opens-alone img c st 0xE6 e refl refl refl refl refl refl _ _
     (reads-ask _ _ _ _ _ _ ((λ h. h), (λ h. h)) refl
     (reads-ask _ _ _ _ _ _ (is_not-says _ _) refl
     (reads-ask _ _ _ _ _ _ (none-says img (current_df_of img)) refl
     reads_none))))
-    (λ m. (refl, refl, refl, refl))
+    (λ m. (refl, refl, refl))
 
 pub terminate_card_obeys : TerminateCardObeys
 unfolding plan_for life_plan is_known is_old is_body is_binary is_record wants_alone is_terminate
 terminate_card_obeys img pool c st response sound fit e =
-    obeys_silent img pool c st response sound fit (terminate_the_card img pool st.sets) (rw e) (terminate_card_asks img pool c st) _ _ _ _ refl
+    obeys_silent img pool c st response sound fit (terminate_the_card img pool st.sets) (rw e) (terminate_card_asks img pool c st) _ _ _ refl
     (opens-alone img c st 0xFE e refl refl refl refl refl refl _ _
     (reads-ask _ _ _ _ _ _ ((λ h. h), (λ h. h)) refl
     reads_none))
-    (λ m. (refl, refl, refl, refl))
+    (λ m. (refl, refl, refl))
 
 -- an instruction that a version doesn't have
 or-none : (b : Bool) → (b || false) ≡ b
@@ -246,7 +244,7 @@ unknown v i h = go (eqb v 3) h
 
 pub others_refused : OthersRefused
 others_refused img pool c st response sound fit h =
-    obeys img pool c st response sound fit (plan_for img pool (count_of img) (current_df_of img) c st) refl (unknown_asks c) 0x6D00 img pool [] 0
+    obeys img pool c st response sound fit (plan_for img pool (count_of img) (current_df_of img) c st) refl (unknown_asks c) 0x6D00 img pool []
     (reads-ask _ _ _ _ _ _ (le-says _ _) refl
     (reads-ask _ _ _ _ _ _ (channel_says (class_byte c)) refl
     (reads-ask _ _ _ _ _ _ (eq-says _ _) refl

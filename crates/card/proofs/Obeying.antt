@@ -14,7 +14,7 @@ use Rattle.laws.specs.Lists.{splice}
 use Rattle.image.specs.Layout.{version_of, count_of, current_df_of, none}
 use Rattle.sound.specs.Sound.{Sound}
 use Rattle.verdict.specs.declared.State.{State}
-use Rattle.verdict.specs.Applied.{word_of, applied_of, pooled_of, moved_of}
+use Rattle.verdict.specs.Applied.{word_of, applied_of, pooled_of}
 use Rattle.judge_target.specs.Steps.{Step, step, all_hold, Plan}
 use Rattle.apdu.specs.Apdu.{class_byte, instruction, is_known, wants_alone, is_body}
 use Rattle.judge.specs.Shared.{later_steps, shared_steps}
@@ -25,7 +25,7 @@ use Rattle.card.specs.declared.Reply.TheVariants.{Word}
 use Rattle.card.specs.Command.{PoolFits}
 use Rattle.card.specs.Steps.{all_steps, effect_of, first_failing}
 use Rattle.card.specs.Conditions.{Ask, Met, Refused, alone, parameters_are, four_bytes, known_asks}
-use Rattle.card.specs.Obeyed.{refusal, ObeysMoving}
+use Rattle.card.specs.Obeyed.{refusal, Obeys}
 use Rattle.card.proofs.Matching.{Reads, reads-ask, reads_skip, reads_end}
 use Rattle.card.proofs.Asked.{bodiless, channel_says, alive_says}
 use Rattle.card.proofs.Asked.{known, calm, alone-says, parameters_say}
@@ -39,21 +39,18 @@ module _ (img pool c : List ℕ) (st : State) (response : List ℕ) (sound : Sou
   unfoldable pub final : Step
   final = step (leb (length (told img pool c p.effect)) (length response)) 0x0000
 
-  pub obeys : (asks : List Ask) (word : ℕ) (left kept answer : List ℕ) (moved : ℕ) → Reads ((shared_steps img c st ++ p.steps) ++ (final ∷ [])) asks
+  pub obeys : (asks : List Ask) (word : ℕ) (left kept answer : List ℕ) → Reads ((shared_steps img c st ++ p.steps) ++ (final ∷ [])) asks
       → (Met asks → (word_of p.effect ≡ word) × (applied_of img c p.effect ≡ left) × (pooled_of img pool c p.effect ≡ kept)
-      × (told img pool c p.effect ≡ answer) × (moved_of img p.effect ≡ moved))
-      → ObeysMoving img pool c st response asks word left kept answer moved
+      × (told img pool c p.effect ≡ answer))
+      → Obeys img pool c st response asks word left kept answer
   unfolding final
-  obeys asks word left kept answer moved reads gives = record {
+  obeys asks word left kept answer reads gives = record {
     met = λ m.
         let r = (replies_in_order img pool c st response sound fit).0 (reads_them.holds m) in
         let g = gives m in
         let tells = ap (told img pool c) effect ∙ g.3 in (
-          r.0
-              ∙ ap (λ (n : ℕ). Word n (length (told img pool c (effect_of img pool c st))) Granted (moved_of img (effect_of img pool c st)))
-              (ap word_of effect ∙ g.0)
-              ∙ ap (λ (l : List ℕ). Word word (length l) Granted (moved_of img (effect_of img pool c st))) tells
-              ∙ ap (λ (n : ℕ). Word word (length answer) Granted n) (ap (moved_of img) effect ∙ g.4),
+          r.0 ∙ ap (λ (n : ℕ). Word n (length (told img pool c (effect_of img pool c st))) Granted) (ap word_of effect ∙ g.0)
+              ∙ ap (λ (l : List ℕ). Word word (length l) Granted) tells,
           r.1 ∙ ap (applied_of img c) effect ∙ g.1,
           r.2 ∙ ap (pooled_of img pool c) effect ∙ g.2,
           r.3 ∙ ap (splice response 0) tells,
@@ -79,16 +76,15 @@ module _ (img pool c : List ℕ) (st : State) (response : List ℕ) (sound : Sou
       either_way false e = inr (first_failing (all_steps img pool c st (length response)), reads_them.refused e)
 
   -- an effect that tells nothing
-  pub obeys_silent : (asks : List Ask) (word : ℕ) (left kept : List ℕ) (moved : ℕ) → told img pool c p.effect ≡ []
+  pub obeys_silent : (asks : List Ask) (word : ℕ) (left kept : List ℕ) → told img pool c p.effect ≡ []
       → Reads (shared_steps img c st ++ p.steps) asks
-      → (Met asks → (word_of p.effect ≡ word) × (applied_of img c p.effect ≡ left) × (pooled_of img pool c p.effect ≡ kept)
-      × (moved_of img p.effect ≡ moved))
-      → ObeysMoving img pool c st response asks word left kept [] moved
+      → (Met asks → (word_of p.effect ≡ word) × (applied_of img c p.effect ≡ left) × (pooled_of img pool c p.effect ≡ kept))
+      → Obeys img pool c st response asks word left kept []
   unfolding final
-  obeys_silent asks word left kept moved silent reads gives =
+  obeys_silent asks word left kept silent reads gives =
       let none : length (told img pool c p.effect) ≤ length response = omega (arith, ap length silent) in
-      obeys asks word left kept [] moved (reads_end _ _ _ asks (le-leb _ _ none) reads)
-      (λ m. let g = gives m in (g.0, g.1, g.2, silent, g.3))
+      obeys asks word left kept [] (reads_end _ _ _ asks (le-leb _ _ none) reads)
+      (λ m. let g = gives m in (g.0, g.1, g.2, silent))
 
 -- the steps A to D of an instruction i that 01 lists
 module _ (img c : List ℕ) (st : State) (i : ℕ) (e : instruction c ≡ i) (k : is_known (version_of img) i ≡ true) where

@@ -1,4 +1,4 @@
--- What a verdict has from its command: SELECT alone selects; CREATE alone creates, in the free slot, what was sent;
+-- What a verdict has from its command: SELECT alone selects; CREATE alone creates, in the free slot, with the life cycle that was sent;
 -- DELETE alone erases, and the child that it names; every other effect writes the byte of its command, and never into a terminated
 -- file.
 use mathlib.Core.Path.{◌≡◌, refl, ap}
@@ -11,9 +11,8 @@ use borrow.Author.Tests.{ne_eqb, eqb-true}
 use Rattle.laws.specs.declared.Found.TheVariants.{At}
 use Rattle.laws.proofs.Walks.{any_at}
 use Rattle.laws.proofs.Says.{and-says, not-says}
-use Rattle.rules.specs.Descriptor.{df, ef}
+use Rattle.rules.specs.Descriptor.{df}
 use Rattle.rules.specs.declared.Sets.{Sets}
-use Rattle.image.specs.declared.Head.{Head}
 use Rattle.image.specs.Layout.{version_of, count_of, current_df_of, current_ef_of, rec_at, record_length_of, start_of}
 use Rattle.pool.specs.Bodies.{start_at}
 use Rattle.sound.specs.Table.{view_at, up, upward}
@@ -32,7 +31,6 @@ use Rattle.judge_bodies.specs.Bodies.{touching, binary, recordwise}
 use Rattle.judge_commands.specs.Commands.{selecting}
 use Rattle.judge.specs.Shared.{shared_steps}
 use Rattle.judge.specs.Judge.{life_plan, body_plan, plan_for, judge_for, judge_of}
-use Rattle.card.specs.Obeyed.{new_head}
 use Rattle.card.specs.Lives.{written_by}
 use Rattle.card.specs.Touching.{place_of}
 use Rattle.card.proofs.Tells.{binary-place, record_place}
@@ -55,18 +53,12 @@ sent_life Bad = 0
 sent_life (Df x) = x.life
 sent_life (Ef x) = x.life
 
--- the head that they give
-abbrev pub Sent : List ℕ → Head → Data → Type 0
-Sent img h Bad = ⊥
-Sent img h (Df x) = h ≡ new_head img df x
-Sent img h (Ef x) = h ≡ new_head img ef x
-
 abbrev pub Ordered : List ℕ → List ℕ → Verdict → Type 0
 Ordered img c (Refuse w) = Unit {0}
 Ordered img c (Select d e w) = instruction c ≡ 0xA4
 Ordered img c (Create x) =
     (instruction c ≡ 0xE0) × (x.slot ≡ slot_in (free_slot (count_of img) (view_at img)))
-    × (x.head.life ≡ sent_life (data_of (version_of img) (sent_data c))) × Sent img x.head (data_of (version_of img) (sent_data c))
+    × (x.head.life ≡ sent_life (data_of (version_of img) (sent_data c)))
 Ordered img c (Delete x) = (instruction c ≡ 0xE4) × (child_named (count_of img) (view_at img) (current_df_of img) (sent_identifier c) ≡ At x)
 Ordered img c (SetLife x life) =
     (instruction c ≡ 0xE0 → ⊥) × (life ≡ written_by (instruction c)) × (terminated_at img x ≡ true → ⊥) × (is_body (instruction c) ≡ false)
@@ -87,8 +79,8 @@ module _ (img pool c : List ℕ) (st : State) where
   creating_ordered : instruction c ≡ 0xE0 → (new : Data) → data_of (version_of img) (sent_data c) ≡ new
       → Ordered img c (creating img (current_df_of img) (slot_in (free_slot (count_of img) (view_at img))) new)
   creating_ordered e Bad q = tt
-  creating_ordered e (Df x) q = (e, refl, rw q, rw q refl)
-  creating_ordered e (Ef x) q = (e, refl, rw q, rw q refl)
+  creating_ordered e (Df x) q = (e, refl, rw q)
+  creating_ordered e (Ef x) q = (e, refl, rw q)
 
   selecting_ordered : instruction c ≡ 0xA4 → (d s : ℕ) → Ordered img c (selecting img d s)
   unfolding selecting

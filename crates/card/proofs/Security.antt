@@ -65,7 +65,7 @@ one-or-two Closed e = inr refl
 
 -- a reply with that word is answer 0
 pub word-answers : (r : Reply) → answer_word r ≡ 0x6982 → answer_number r ≡ 0
-word-answers (Word w n d m) e = refl
+word-answers (Word w n d) e = refl
 word-answers Damaged e = absurd (omega arith)
 word-answers Short e = absurd (omega arith)
 word-answers WrongPool e = absurd (omega arith)

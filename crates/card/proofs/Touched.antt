@@ -130,7 +130,7 @@ pub read_binary_obeys : ReadBinaryObeys
 unfolding plan_for body_plan binary is_old is_terminate is_body is_binary is_record is_read is_update wants_alone final asked u16_at start_at
 read_binary_obeys img pool c st response sound fit third e =
     obeys img pool c st response sound fit (binary img pool (current_ef_of img) true (start_in c) (le c) st.sets) (rw e)
-    (read_binary_asks img pool c st (length response)) _ _ _ _ _
+    (read_binary_asks img pool c st (length response)) _ _ _ _
     (opens img c st 0xB0 e (knows img pool c st sound third 0xB0 refl refl) _ _
     (reads_skip _ _ _ _ (calm c st 0xB0 e refl)
     (reads-ask _ _ _ _ _ _ (binary-parameters c 0xB0 e refl refl) refl
@@ -144,13 +144,13 @@ read_binary_obeys img pool c st response sound fit third e =
     (reads-ask _ _ _ _ _ _ (le-says _ _) refl
     (reads-ask _ _ _ _ _ _ (le-says _ _) refl
     reads_none))))))))))))
-    (λ m. (refl, refl, refl, refl, refl))
+    (λ m. (refl, refl, refl, refl))
 
 pub update-binary_obeys : UpdateBinaryObeys
 unfolding plan_for body_plan binary is_old is_terminate is_body is_binary is_record is_read is_update wants_alone asked u16_at start_at
 update-binary_obeys img pool c st response sound fit third e =
     obeys_silent img pool c st response sound fit (binary img pool (current_ef_of img) false (start_in c) (lc c) st.sets) (rw e)
-    (update_binary_asks img pool c st) _ _ _ _ refl
+    (update_binary_asks img pool c st) _ _ _ refl
     (opens img c st 0xD6 e (knows img pool c st sound third 0xD6 refl refl) _ _
     (reads_skip _ _ _ _ (calm c st 0xD6 e refl)
     (reads-ask _ _ _ _ _ _ (binary-parameters c 0xD6 e refl refl) refl
@@ -163,13 +163,13 @@ update-binary_obeys img pool c st response sound fit third e =
     (reads-ask _ _ _ _ _ _ (lt-says _ _) refl
     (reads-ask _ _ _ _ _ _ (le-says _ _) refl
     reads_none)))))))))))
-    (λ m. (refl, refl, refl, refl))
+    (λ m. (refl, refl, refl))
 
 pub read_record_obeys : ReadRecordObeys
 unfolding plan_for body_plan recordwise is_old is_terminate is_body is_binary is_record is_read is_update wants_alone final asked start_at
 read_record_obeys img pool c st response sound fit third e =
     obeys img pool c st response sound fit (recordwise img pool (current_ef_of img) true (get_or c 2 0) (le c) st.sets) (rw e)
-    (read_record_asks img pool c st (length response)) _ _ _ _ _
+    (read_record_asks img pool c st (length response)) _ _ _ _
     (opens img c st 0xB2 e (knows img pool c st sound third 0xB2 refl refl) _ _
     (reads_skip _ _ _ _ (calm c st 0xB2 e refl)
     (reads-ask _ _ _ _ _ _ (record_parameters c 0xB2 e refl refl refl) refl
@@ -183,13 +183,13 @@ read_record_obeys img pool c st response sound fit third e =
     (reads-ask _ _ _ _ _ _ (eq-says _ _) refl
     (reads-ask _ _ _ _ _ _ (le-says _ _) refl
     reads_none))))))))))))
-    (λ m. (refl, refl, refl, refl, refl))
+    (λ m. (refl, refl, refl, refl))
 
 pub update_record_obeys : UpdateRecordObeys
 unfolding plan_for body_plan recordwise is_old is_terminate is_body is_binary is_record is_read is_update wants_alone asked start_at
 update_record_obeys img pool c st response sound fit third e =
     obeys_silent img pool c st response sound fit (recordwise img pool (current_ef_of img) false (get_or c 2 0) (lc c) st.sets) (rw e)
-    (update_record_asks img pool c st) _ _ _ _ refl
+    (update_record_asks img pool c st) _ _ _ refl
     (opens img c st 0xDC e (knows img pool c st sound third 0xDC refl refl) _ _
     (reads_skip _ _ _ _ (calm c st 0xDC e refl)
     (reads-ask _ _ _ _ _ _ (record_parameters c 0xDC e refl refl refl) refl
@@ -202,4 +202,4 @@ update_record_obeys img pool c st response sound fit third e =
     (reads-ask _ _ _ _ _ _ (record_says img (current_ef_of img) (get_or c 2 0)) refl
     (reads-ask _ _ _ _ _ _ (eq-says _ _) refl
     reads_none)))))))))))
-    (λ m. (refl, refl, refl, refl))
+    (λ m. (refl, refl, refl))

@@ -8,7 +8,7 @@ use Rattle.sound.specs.Sound.{soundb, pool_length}
 use Rattle.verdict.specs.declared.State.{State}
 use Rattle.verdict.specs.declared.Verdict.{Verdict}
 use Rattle.verdict.specs.declared.Verdict.TheVariants.{Refuse}
-use Rattle.verdict.specs.Applied.{word_of, applied_of, pooled_of, moved_of}
+use Rattle.verdict.specs.Applied.{word_of, applied_of, pooled_of}
 use Rattle.access.specs.Decision.{decision_number}
 use Rattle.judge.specs.Judge.{judge_of}
 use Rattle.judge_security.specs.Security.{denial_of}
@@ -20,36 +20,29 @@ use Rattle.card.specs.declared.Reply.TheVariants.{Word, Damaged, Short, WrongPoo
 -- 0000 where the image isn't sound; 5 and 0000 where the response is too short (02 Ticket 2); 6 and 0000 where the pool has a wrong length
 -- (02 Ticket 4)
 abbrev pub answer_number : Reply → ℕ
-answer_number (Word w n d m) = 0
+answer_number (Word w n d) = 0
 answer_number Damaged = 1
 answer_number Short = 5
 answer_number WrongPool = 6
 
 abbrev pub answer_word : Reply → ℕ
-answer_word (Word w n d m) = w
+answer_word (Word w n d) = w
 answer_word Damaged = 0x0000
 answer_word Short = 0x0000
 answer_word WrongPool = 0x0000
 
 abbrev pub answer_told : Reply → ℕ
-answer_told (Word w n d m) = n
+answer_told (Word w n d) = n
 answer_told Damaged = 0
 answer_told Short = 0
 answer_told WrongPool = 0
 
 -- 02's number on security (02 Ticket 6): 0 no security refusal, 1 lacking, 2 closed
 abbrev pub answer_security : Reply → ℕ
-answer_security (Word w n d m) = decision_number d
+answer_security (Word w n d) = decision_number d
 answer_security Damaged = 0
 answer_security Short = 0
 answer_security WrongPool = 0
-
--- how many bytes of bodies were moved (02 Ticket 8)
-abbrev pub answer_moved : Reply → ℕ
-answer_moved (Word w n d m) = m
-answer_moved Damaged = 0
-answer_moved Short = 0
-answer_moved WrongPool = 0
 
 -- the check before all others of a command: where files have bodies, the pool is as long as the root's total; else any pool will do
 unfoldable pub pool_fits : List ℕ → List ℕ → Bool
@@ -79,7 +72,7 @@ reply_of img pool c st lent =
     cond (soundb img)
     (cond (pool_fits img pool)
     (cond (fits img pool c st lent)
-    (Word (word_of due) (length (told img pool c due)) (denial_of img pool c st.sets due) (moved_of img due)) Short) WrongPool)
+    (Word (word_of due) (length (told img pool c due)) (denial_of img pool c st.sets due)) Short) WrongPool)
     Damaged
 
 unfoldable pub image_of : List ℕ → List ℕ → List ℕ → State → ℕ → List ℕ
@@ -93,8 +86,8 @@ unfoldable pub response_of : List ℕ → List ℕ → List ℕ → State → Li
 response_of img pool c st response =
     cond (soundb img) (splice response 0 (told img pool c (due_of img pool c st (length response)))) response
 
--- WHAT A CALL PROMISES: the reply, with its number, its word, how many bytes were told, what a security refusal lacks and how many bytes
--- were moved; every byte of image, pool and response afterwards
+-- WHAT A CALL PROMISES: the reply, with its number, its word, how many bytes were told and what a security refusal lacks; every byte of
+-- image, pool and response afterwards
 pub record CommandPromises (img pool c : List ℕ) (st : State) (response : List ℕ) (r : Reply) (left kept answered : List ℕ) : Type 0 where
   pub reply : r ≡ reply_of img pool c st (length response)
   pub image : left ≡ image_of img pool c st (length response)
@@ -106,7 +99,5 @@ pub record CommandPromises (img pool c : List ℕ) (st : State) (response : List
   pub bytes : answer_told r ≡ cond (soundb img) (length (told img pool c (due_of img pool c st (length response)))) 0
   pub security : answer_security r
       ≡ cond (soundb img) (decision_number (denial_of img pool c st.sets (due_of img pool c st (length response)))) 0
-  pub moved : answer_moved r ≡ cond (soundb img) (moved_of img (due_of img pool c st (length response))) 0
   -- so few that every number holds them
   pub few : answer_told r < 65536
-  pub few-moved : answer_moved r < 65536

@@ -1,6 +1,6 @@
 -- Demands 1 and 2, as statements over what a call gives (specs/Command). Each is proved in proofs/Answered, proofs/Silent (demand 1, and
--- what is told), proofs/Pooled, proofs/Demands or proofs/Acts under the same name in small letters. What each command asks and does stands
--- in specs/Obeyed.
+-- what is told), proofs/Pooled or proofs/Demands under the same name in small letters. What each command asks and does stands in
+-- specs/Obeyed.
 use Rattle.std.specs.Prelude.{◌≡◌, true, false, List, [], ◌∷◌, ◌⊎◌, ℕ, ◌+◌, ◌<◌, ◌≤◌, length, get_or}
 use Rattle.laws.specs.declared.Found.TheVariants.{At}
 use Rattle.laws.specs.Lists.{splice}
@@ -15,7 +15,7 @@ use Rattle.verdict.specs.declared.State.{State}
 use Rattle.verdict.specs.declared.Verdict.{Verdict}
 use Rattle.verdict.specs.Words.{done, file_deactivated, file_terminated}
 use Rattle.pool.specs.Bodies.{body_of}
-use Rattle.verdict.specs.Applied.{word_of, applied_of, pooled_of, moved_of}
+use Rattle.verdict.specs.Applied.{word_of, applied_of, pooled_of}
 use Rattle.judge_target.specs.Steps.{all_hold}
 use Rattle.apdu.specs.Apdu.{instruction, sent_identifier}
 use Rattle.judge.specs.Judge.{judge_of}
@@ -24,7 +24,6 @@ use Rattle.card.specs.declared.Reply.{Reply}
 use Rattle.card.specs.declared.Reply.TheVariants.{Word, Short, WrongPool}
 use Rattle.card.specs.Command.{answer_number, answer_word, answer_told, PoolFits, longest_answer, due_of, reply_of, image_of, pool_of}
 use Rattle.card.specs.Command.{response_of, CommandPromises}
-use Rattle.card.specs.Packing.{pack_image}
 use Rattle.card.specs.Steps.{all_steps, effect_of, first_failing}
 use Rattle.card.specs.Obeyed.{refusal, is_one_of}
 use Rattle.card.specs.After.{record_after, current_after, df_after, ef_after}
@@ -138,8 +137,7 @@ abbrev pub RepliesInOrder : Type 0
 RepliesInOrder = (img pool c : List ℕ) (st : State) (response : List ℕ) → Sound img → PoolFits img pool
     → (all_hold (all_steps img pool c st (length response)) ≡ true
     → (reply_of img pool c st (length response)
-    ≡ Word (word_of (effect_of img pool c st)) (length (told img pool c (effect_of img pool c st))) Granted
-    (moved_of img (effect_of img pool c st)))
+    ≡ Word (word_of (effect_of img pool c st)) (length (told img pool c (effect_of img pool c st))) Granted)
     × (image_of img pool c st (length response) ≡ applied_of img c (effect_of img pool c st))
     × (pool_of img pool c st (length response) ≡ pooled_of img pool c (effect_of img pool c st))
     × (response_of img pool c st response ≡ splice response 0 (told img pool c (effect_of img pool c st))))
@@ -191,7 +189,7 @@ TerminatedStays = (img pool c : List ℕ) (st : State) (lent s : ℕ) → Sound 
     → (Deleting img pool c st lent s × (rec_at (image_of img pool c st lent) s ≡ free_bytes))
     ⊎ SameButStart (version_of img) (rec_at img s) (rec_at (image_of img pool c st lent) s)
 
--- a call: the pool, the command, the state, and how long a response is lent
+-- a call: the pool, the command, the state, and how long a response is lent; the image after a list of them
 pub record Call : Type 0 where
   pub pool : List ℕ
   pub command : List ℕ
@@ -201,30 +199,20 @@ pub record Call : Type 0 where
 abbrev pub image_after : List ℕ → Call → List ℕ
 image_after img x = image_of img x.pool x.command x.state x.lent
 
--- what may be done to a card: a command, or PACK with the pool that it is lent (02 Ticket 8); the image after a list of that
-pub data Act : Type 0 where
-  asks : Call → Act
-  packs : List ℕ → Act
-
-abbrev pub image_by : List ℕ → Act → List ℕ
-image_by img (asks x) = image_after img x
-image_by img (packs pool) = pack_image img pool
-
-abbrev pub after : List ℕ → List Act → List ℕ
+abbrev pub after : List ℕ → List Call → List ℕ
 after img [] = img
-after img (a ∷ rest) = after (image_by img a) rest
+after img (x ∷ rest) = after (image_after img x) rest
 
--- the file in slot s is deleted by one of the commands
-abbrev pub DeletedIn : List ℕ → List Act → ℕ → Type 0
+-- the file in slot s is deleted by one of the calls
+abbrev pub DeletedIn : List ℕ → List Call → ℕ → Type 0
 DeletedIn img [] s = ⊥
-DeletedIn img (asks x ∷ rest) s = Deleting img x.pool x.command x.state x.lent s ⊎ DeletedIn (image_after img x) rest s
-DeletedIn img (packs pool ∷ rest) s = DeletedIn (pack_image img pool) rest s
+DeletedIn img (x ∷ rest) s = Deleting img x.pool x.command x.state x.lent s ⊎ DeletedIn (image_after img x) rest s
 
--- .. and over any list of commands, with PACK anywhere among them
+-- .. and over any list of commands
 abbrev pub TerminatedForGood : Type 0
-TerminatedForGood = (acts : List Act) (img : List ℕ) (s : ℕ) → Sound img → s < count_of img → (kind_of (rec_at img s) ≡ 0 → ⊥)
+TerminatedForGood = (calls : List Call) (img : List ℕ) (s : ℕ) → Sound img → s < count_of img → (kind_of (rec_at img s) ≡ 0 → ⊥)
     → terminated_at img s ≡ true
-    → DeletedIn img acts s ⊎ SameButStart (version_of img) (rec_at img s) (rec_at (after img acts) s)
+    → DeletedIn img calls s ⊎ SameButStart (version_of img) (rec_at img s) (rec_at (after img calls) s)
 
 -- any two results that the contract of `card::command` allows are equal
 abbrev pub OneResult : Type 0

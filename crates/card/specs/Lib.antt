@@ -1,6 +1,5 @@
 pub mod Touching
 pub mod Command
-pub mod Packing
 pub mod Steps
 pub mod Conditions
 pub mod Obeyed
@@ -11,4 +10,3 @@ pub mod Bodies
 pub mod Security
 pub mod Ruling
 pub mod Rules
-pub mod Moving

@@ -11,7 +11,7 @@ use Rattle.image.specs.Layout.{version_of, count_of, current_df_of, current_ef_o
 use Rattle.sound.specs.Table.{view_at}
 use Rattle.sound.specs.Sound.{Sound}
 use Rattle.sound.specs.Kinship.{free_slot}
-use Rattle.sound.specs.Effects.{made, filled, moved_for, deleted, wiped}
+use Rattle.sound.specs.Effects.{made, filled, deleted, wiped}
 use Rattle.template.specs.Objects.{bytes_at}
 use Rattle.create_data.specs.declared.NewFile.{NewFile}
 use Rattle.create_data.specs.declared.Data.{Data}
@@ -31,26 +31,20 @@ use Rattle.pool.specs.Bodies.{start_at}
 use Rattle.card.specs.Conditions.{start_in, le, reading, record_at, read_binary_asks, update_binary_asks, read_record_asks, update_record_asks}
 use Rattle.card.specs.Conditions.{deactivate_asks, terminate_ef_asks, terminate_df_asks, terminate_card_asks, found, new_of, named_child}
 
--- a refusal tells nothing and moves nothing; the one without a word is answer 5; that of step J says what it decided (02 Ticket 6)
+-- a refusal tells nothing; the one without a word is answer 5; that of step J says what it decided (02 Ticket 6)
 abbrev pub refusal : List ℕ → List ℕ → List ℕ → Sets → ℕ → Reply
-refusal img pool c x w = cond (eqb w 0x0000) Short (Word w 0 (cond (eqb w 0x6982) (step_j img pool c x) Granted) 0)
+refusal img pool c x w = cond (eqb w 0x0000) Short (Word w 0 (cond (eqb w 0x6982) (step_j img pool c x) Granted))
 
--- `moved` is how many bytes of bodies were moved (02 Ticket 8)
-pub record ObeysMoving (img pool c : List ℕ) (st : State) (response : List ℕ) (asks : List Ask) (word : ℕ) (left kept answer : List ℕ)
-    (moved : ℕ) : Type 0 where
+pub record Obeys (img pool c : List ℕ) (st : State) (response : List ℕ) (asks : List Ask) (word : ℕ) (left kept answer : List ℕ)
+    : Type 0 where
   pub met : Met asks
-      → (reply_of img pool c st (length response) ≡ Word word (length answer) Granted moved)
-      × (image_of img pool c st (length response) ≡ left)
+      → (reply_of img pool c st (length response) ≡ Word word (length answer) Granted) × (image_of img pool c st (length response) ≡ left)
       × (pool_of img pool c st (length response) ≡ kept) × (response_of img pool c st response ≡ splice response 0 answer)
   pub refused : (w : ℕ) → Refused asks w
       → (reply_of img pool c st (length response) ≡ refusal img pool c st.sets w) × (image_of img pool c st (length response) ≡ img)
       × (pool_of img pool c st (length response) ≡ pool) × (response_of img pool c st response ≡ response)
   -- and there is no third case
   pub always : Met asks ⊎ ((w : ℕ) × Refused asks w)
-
--- every command but CREATE moves nothing
-abbrev pub Obeys : List ℕ → List ℕ → List ℕ → State → List ℕ → List Ask → ℕ → List ℕ → List ℕ → List ℕ → Type 0
-Obeys img pool c st response asks word left kept answer = ObeysMoving img pool c st response asks word left kept answer 0
 
 -- SELECT: 6283 for a deactivated file, 6285 for a terminated one, else 9000; a DF becomes current with no EF, an EF becomes
 -- current EF
@@ -94,17 +88,10 @@ filling img pool Bad = pool
 filling img pool (Df x) = filled img pool (new_head img df x)
 filling img pool (Ef x) = filled img pool (new_head img ef x)
 
--- .. for which bodies are moved where no gap fits it; none for a DF (02 Ticket 8)
-abbrev pub moving : List ℕ → Data → ℕ
-moving img Bad = 0
-moving img (Df x) = 0
-moving img (Ef x) = moved_for img (new_head img ef x)
-
 abbrev pub CreateObeys : Type 0
 CreateObeys = (img pool c : List ℕ) (st : State) (response : List ℕ) → Sound img → PoolFits img pool → instruction c ≡ 0xE0
-    → ObeysMoving img pool c st response (create_asks img pool c st) 0x9000
+    → Obeys img pool c st response (create_asks img pool c st) 0x9000
     (creating img (sent_data c) (slot_in (free_slot (count_of img) (view_at img))) (new_of img c)) (filling img pool (new_of img c)) []
-    (moving img (new_of img c))
 
 -- DELETE: the child and all beneath it become zero records, their bytes of the pool 00; a deleted current EF becomes none
 abbrev pub DeleteObeys : Type 0
@@ -179,5 +166,5 @@ abbrev pub OlderHaveNone : Type 0
 OlderHaveNone = (img pool c : List ℕ) (st : State) (response : List ℕ) → Sound img → (version_of img ≡ 1) ⊎ (version_of img ≡ 2)
     → 4 ≤ length c → class_byte c ≡ 0x00
     → is_one_of (instruction c) (0xB0 ∷ 0xD6 ∷ 0xB2 ∷ 0xDC ∷ []) ≡ true
-    → (reply_of img pool c st (length response) ≡ Word 0x6D00 0 Granted 0) × (image_of img pool c st (length response) ≡ img)
+    → (reply_of img pool c st (length response) ≡ Word 0x6D00 0 Granted) × (image_of img pool c st (length response) ≡ img)
     × (pool_of img pool c st (length response) ≡ pool) × (response_of img pool c st response ≡ response)

@@ -2,7 +2,7 @@
 // tells in a third (02 Ticket 2). Soundness first, then the pool's length, then judging, then what is told, then the one effect that is
 // due. It answers demands 1 and 2: specs/Command says what a call gives, specs/Demands and specs/Obeyed what the demands ask for.
 // specs/Lives says who writes which life-cycle byte (02 Ticket 1), specs/Bodies what becomes of contents, specs/Security what a security
-// refusal lacks (02 Ticket 6), specs/Moving what is moved and counted (02 Ticket 8).
+// refusal lacks (02 Ticket 6).
 ghost use Rattle.std.specs.Prelude.{◌≡◌};
 ghost use Rattle.sound.specs.Sound.{Sound};
 ghost use Rattle.card.specs.Command.{pool_fits, CommandPromises};
@@ -12,30 +12,20 @@ use fcp::Written;
 use referred::Place;
 use verdict::State;
 
-pub mod packing;
 pub mod standing;
 
-// What a call answers: the word of a command on a sound image, how many bytes it told, what it lacks where it was refused for security
-// (with any other word, where no rule was asked too, nothing: Granted), and how many bytes of bodies it moved; or that the image is
-// damaged; or that the response is too short for what the command would tell; or that the pool does not have the length of this card's.
+// What a call answers: the word of a command on a sound image, how many bytes it told, and what it lacks where it was refused for security
+// (with any other word, where no rule was asked too, nothing: Granted); or that the image is damaged; or that the response is too short
+// for what the command would tell; or that the pool does not have the length of this card's.
 #[derive(Drop)]
 pub enum Reply {
     Word {
         word: u16,
         told: usize,
         security: Decision,
-        moved: usize,
     },
     Damaged,
     Short,
-    WrongPool,
-}
-
-// What PACK answers: how many bytes it moved; or that the image is damaged, or that the pool does not have the length of this card's.
-#[derive(Drop)]
-pub enum Packed {
-    Moved(usize),
-    Damaged,
     WrongPool,
 }
 
@@ -82,11 +72,10 @@ pub fn command(
         return Reply::Short;
     };
     let security = judge_security::denial(image, pool, command, state, due);
-    let outcome = effect::apply::apply(image, n, pool, command, due);
+    let word = effect::apply::apply(image, n, pool, command, due);
     Reply::Word {
-        word: outcome.word,
+        word: word,
         told: told,
         security: security,
-        moved: outcome.moved,
     }
 }

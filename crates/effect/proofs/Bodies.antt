@@ -21,7 +21,7 @@ use Rattle.pool.specs.Laid.{Laid}
 use Rattle.pool.specs.Places.{gap_for, place_at, place_image, Placed}
 use Rattle.pool.proofs.Making.{place-room}
 use Rattle.pool.proofs.After.{after-head}
-use Rattle.sound.specs.Effects.{created, new_body, new_gap, made, filled, moved_for}
+use Rattle.sound.specs.Effects.{created, new_body, new_gap, made, filled}
 use Rattle.effect.specs.Fit.{Roomy}
 
 -- r is whether the version has bodies
@@ -58,10 +58,6 @@ module _ (n v m : ℕ) (img pool : List ℕ) (h : Head) (count : n ≡ count_of 
     pub filled_bodiless : pool ≡ filled img pool h
     unfolding filled
     filled_bodiless = rw (eq-eqb (new_body (version_of img) h) 0 (same ∙ z))
-
-    pub moved_bodiless : 0 ≡ moved_for img h
-    unfolding moved_for
-    moved_bodiless = rw (eq-eqb (new_body (version_of img) h) 0 (same ∙ z))
 
   -- with one
   module _ (sized : Sized img n) (laid : Laid n (start_at img) (body_at img) (length pool)) (roomy : Roomy img pool h) (z : m ≡ 0 → ⊥) where
@@ -110,7 +106,3 @@ module _ (n v m : ℕ) (img pool : List ℕ) (h : Head) (count : n ≡ count_of 
       pub filled_bodied : y ≡ filled img pool h
       unfolding filled
       filled_bodied = rw (ne_eqb (new_body (version_of img) h) 0 (λ t. z (sym same ∙ t)), gap, ← count, same) placed.bytes
-
-      pub moved_bodied : r.moved ≡ moved_for img h
-      unfolding moved_for
-      moved_bodied = rw (ne_eqb (new_body (version_of img) h) 0 (λ t. z (sym same ∙ t)), gap, ← count) placed.moved

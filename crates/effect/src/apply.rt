@@ -6,13 +6,13 @@ ghost use Rattle.template.specs.Objects.{bytes_at};
 ghost use Rattle.image.specs.Layout.{Within, Sized, set_current, set_life, longest_rule, version_of, count_of};
 ghost use Rattle.pool.specs.Bodies.{start_at, body_at};
 ghost use Rattle.pool.specs.Laid.{Laid};
-ghost use Rattle.sound.specs.Effects.{created, new_body, made, filled, moved_for, deleted, wiped};
+ghost use Rattle.sound.specs.Effects.{created, new_body, made, filled, deleted, wiped};
 ghost use Rattle.kinship.specs.Climb.{Rooted, Housed};
 ghost use Rattle.verdict.specs.Words.{done};
-ghost use Rattle.verdict.specs.Applied.{word_of, sent_data, applied_of, pooled_of, moved_of};
+ghost use Rattle.verdict.specs.Applied.{word_of, sent_data, applied_of, pooled_of};
 ghost use Rattle.effect.specs.Fit.{Roomy, Applies};
 
-use crate::{Outcome, erase};
+use crate::erase;
 use image::{Head, fields, write};
 use rules::descriptor;
 use template::Span;
@@ -67,8 +67,7 @@ fn new_body(v: u32, head: Head) -> usize
     head.size as usize
 }
 
-// CREATE: room for the body first, if there is one, and the body all FF; then the record, and where its body starts. Gives how many bytes
-// were moved to make that room.
+// CREATE, with its word: room for the body first, if there is one, and the body all FF; then the record, and where its body starts.
 fn create(
     image: &mut [u8],
     n: usize,
@@ -77,23 +76,22 @@ fn create(
     head: Head,
     name: &[u8],
     rule: &[u8],
-) -> usize
+) -> u16
     requires within { (Within image.old slot × Sized image.old n) × (n ≡ count_of image.old) }
     requires name_len_bound { (length name.now ≤ 16) × (length rule.now ≤ longest_rule (version_of image.old)) }
     requires laid { Laid n (start_at image.old) (body_at image.old) (length pool.old) × Roomy image.old pool.old head }
-    ensures { (result ≡ moved_for image.old head)
-        × (image.new ≡ made image.old slot head name.now rule.now)
+    ensures { (result ≡ done) × (image.new ≡ made image.old slot head name.now rule.now)
         × (pool.new ≡ filled image.old pool.old head) }
 {
     let m = new_body(fields::version(image), head);
     if m == 0 {
         enter(image, slot, head, name, rule);
-        return 0;
+        return words::DONE;
     }
     let room = pool::placing::make(image, n, pool, m);
     enter(image, slot, head, name, rule);
     write::set_start(image, slot, room.start);
-    room.moved
+    words::DONE
 }
 
 // DELETE, with its word.
@@ -126,45 +124,24 @@ fn set_life(image: &mut [u8], slot: usize, life: u8) -> u16
     words::DONE
 }
 
-// The word of an effect that moves nothing: any but CREATE's.
-fn unmoved(word: u16) -> Outcome
-    ensures { (result.word ≡ word) × (result.moved ≡ 0) }
-{
-    Outcome {
-        word: word,
-        moved: 0,
-    }
-}
-
-// The one effect of the verdict on the command, its word, and how many bytes were moved for it.
-pub fn apply(
-    image: &mut [u8],
-    n: usize,
-    pool: &mut [u8],
-    command: &[u8],
-    verdict: Verdict,
-) -> Outcome
+// The one effect of the verdict on the command, and its word.
+pub fn apply(image: &mut [u8], n: usize, pool: &mut [u8], command: &[u8], verdict: Verdict) -> u16
     requires { Applies image.old n pool.old command.now verdict }
-    ensures { ((result.word ≡ word_of verdict) × (result.moved ≡ moved_of image.old verdict))
-        × (image.new ≡ applied_of image.old command.now verdict)
+    ensures { (result ≡ word_of verdict) × (image.new ≡ applied_of image.old command.now verdict)
         × (pool.new ≡ pooled_of image.old pool.old command.now verdict) }
 {
     match verdict {
-        Verdict::Refuse(word) => unmoved(word),
-        Verdict::Select { df, ef, word } => unmoved(select(image, df, ef, word)),
+        Verdict::Refuse(word) => word,
+        Verdict::Select { df, ef, word } => select(image, df, ef, word),
         Verdict::Create(new) => {
             let name = sent(command, new.name);
             let rule = sent(command, new.rule);
             let head = new.head;
-            let moved = create(image, n, pool, new.slot, head, name, rule);
-            Outcome {
-                word: words::DONE,
-                moved: moved,
-            }
+            create(image, n, pool, new.slot, head, name, rule)
         }
-        Verdict::Delete(slot) => unmoved(delete(image, n, pool, slot)),
-        Verdict::SetLife { slot, life } => unmoved(set_life(image, slot, life)),
-        Verdict::Read { at, count } => unmoved(words::DONE),
-        Verdict::Update(at) => unmoved(update(pool, at, command)),
+        Verdict::Delete(slot) => delete(image, n, pool, slot),
+        Verdict::SetLife { slot, life } => set_life(image, slot, life),
+        Verdict::Read { at, count } => words::DONE,
+        Verdict::Update(at) => update(pool, at, command),
     }
 }

@@ -8,7 +8,7 @@ use lib.Dec.{eqb}
 use borrow.Author.Tests.{eq-eqb, ne_eqb, eqb-true}
 use Rattle.laws.proofs.Says.{untrue}
 use Rattle.image.specs.Layout.{current_df_of}
-use Rattle.card.specs.Demands.{Act, image_by}
+use Rattle.card.specs.Demands.{Call, image_after}
 use Rattle.history.specs.Ledger.{Entry, Ledger, Announced, makes, deletes, neither, some_of, is_own, keep, lives_in, entered}
 use Rattle.history.specs.Story.{Story, hears, next}
 use Rattle.history.specs.Demand3.{here, Lives, Makes}
@@ -54,8 +54,8 @@ module _ (l : Ledger) (d : ℕ) (dead : lives_in l d ≡ true → ⊥) where
   new_by (deletes i) before after h = absurd (false≢true (sym (rw (ne_eqb d 0 not_root) (some-keep (is_own d) _ l.files none-own)) ∙ h))
   new_by neither before after h = absurd (dead h)
 
-pub begins_by : (st : Story) (x : Act) (d : ℕ) → (Lives st d → ⊥) → Lives (next st x) d → Makes st x d
+pub begins_by : (st : Story) (x : Call) (d : ℕ) → (Lives st d → ⊥) → Lives (next st x) d → Makes st x d
 unfolding next
 begins_by st x d dead lives =
-    let r = new_by st.ledger d dead (hears st x) (here st) (current_df_of (image_by st.image x)) lives in
+    let r = new_by st.ledger d dead (hears st x) (here st) (current_df_of (image_after st.image x)) lives in
     record { identifier = r.identifier; total = r.total; makes = r.makes; slot = r.slot }

@@ -42,11 +42,10 @@ use Rattle.card.proofs.Demands.{effect-and-no-other}
 use Rattle.card.proofs.Versions.{version_stays}
 use Rattle.card.proofs.Contents.{reads_same, updated_there, new_body_ff}
 use Rattle.card.proofs.Pooled.{pool_stays_fit}
-use Rattle.card.proofs.PackedBodies.{pack-reads-same, pack_keeps}
 use Rattle.history.specs.Ledger.{Announced, makes, deletes, neither}
 use Rattle.history.specs.Story.{announced, heard}
-use Rattle.history.specs.Book.{News, begins, writes, quiet, written, news_by, noted, Tale, Turn, call_on, word_on, turned}
-use Rattle.history.specs.Book.{packed, Deed, asks, packs, after, after_all, opening, Chronicle, BookHolds}
+use Rattle.history.specs.Book.{News, begins, writes, quiet, written, news_by, noted, Tale, Turn, call_on, word_on, turned, turnedBy}
+use Rattle.history.specs.Book.{opening, Chronicle, BookHolds}
 use Rattle.history.proofs.Did.{Did}
 use Rattle.history.proofs.Announced.{Announces, judge_announces}
 use Rattle.history.proofs.Heard.{call_did}
@@ -196,33 +195,14 @@ module _ (t : Tale) (r : Right t) (x : Turn) where
             (rw count at l);
       }
 
--- PACK moves no byte of a body to another's
-right-packed : (t : Tale) → Right t → Right (packed t)
-unfolding packed
-right-packed t r =
-    let k = pack_keeps t.image t.pool in
-    record {
-      sound = k.sound r.sound;
-      version = k.version ∙ r.version;
-      bodies = r.bodies;
-      pool-fits = k.pool-fits r.pool-fits;
-      holds = λ s l e.
-          let low = rw k.count at l in
-          pack-reads-same t.image t.pool s low ∙ r.holds s low (ap (λ (v : ℕ → View). (v s).kind) (sym k.views) ∙ e);
-    }
-
-right-after : (t : Tale) → Right t → (x : Deed) → Right (after t x)
-right-after t r (asks x) = right-next t r x
-right-after t r packs = right-packed t r
-
-right-played : (deeds : List Deed) (t : Tale) → Right t → Right (after_all t deeds)
+right-played : (turns : List Turn) (t : Tale) → Right t → Right (turnedBy t turns)
 right-played [] t r = r
-right-played (x ∷ rest) t r = right-played rest (after t x) (right-after t r x)
+right-played (x ∷ rest) t r = right-played rest (turned t x) (right-next t r x)
 
 pub chronicle_right : (t : Tale) → Chronicle t → Right t
 chronicle_right t h =
     subst (λ (s : Tale). Right s) h.tale
-    (right-played h.deeds _
+    (right-played h.turns _
     (right-fresh h.buffer h.edition h.total h.form h.rule h.bodies h.made h.third h.whole))
 
 pub book-holds : BookHolds

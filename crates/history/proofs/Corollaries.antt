@@ -10,14 +10,13 @@ use Rattle.sound.specs.Table.{View, charged}
 use Rattle.sound.specs.Kinship.{total_for, room_for}
 use Rattle.sound.proofs.FullTable.{slot_exists}
 use Rattle.verdict.specs.Applied.{applied_of}
-use Rattle.card.specs.Demands.{Act, asks, image_after}
+use Rattle.card.specs.Demands.{Call, image_after}
 use Rattle.card.proofs.Due.{pool-says, due_wrong}
 use Rattle.card.proofs.Answered.{image_is}
-use Rattle.card.proofs.PackedBodies.{pack_keeps}
 use Rattle.history.specs.Ledger.{Entry, makes, deletes, neither, first_entry, is_named, file_in, entered, strikes}
 use Rattle.history.specs.Story.{Story, heard, hears, next, played, size_sent}
 use Rattle.history.specs.Demand3.{here, room, Lives, Strikes, AllElsewhere, NothingElsewhere, FullTableNever, ParentPaysAlone}
-use Rattle.history.specs.Demand3.{FragmentedPoolNever, WrongPoolUnheard, PackUnheard, GivesBack, ChargedAnew}
+use Rattle.history.specs.Demand3.{FragmentedPoolNever, WrongPoolUnheard, GivesBack, ChargedAnew}
 use Rattle.history.proofs.Memory.{wrong_word}
 use Rattle.history.proofs.Directories.{Dir, room-same}
 use Rattle.history.proofs.Upward.{file-same}
@@ -25,8 +24,8 @@ use Rattle.history.proofs.Rooms.{made-here, made_kept, gone_here}
 use Rattle.history.proofs.Demand.{slots, table, table_after, Kept, history_kept, kept_next, kept_demand, did, agrees_after}
 use Rattle.history.proofs.Demand.{kin-after, current-dir, room_is}
 
-kept-elsewhere : (st : Story) → Kept st → (d : ℕ) → Lives st d → (acts : List Act) → AllElsewhere st acts d
-    → Lives (played st acts) d × (room (played st acts) d ≡ room st d)
+kept-elsewhere : (st : Story) → Kept st → (d : ℕ) → Lives st d → (calls : List Call) → AllElsewhere st calls d
+    → Lives (played st calls) d × (room (played st calls) d ≡ room st d)
 kept-elsewhere st k d lives [] a = (lives, refl)
 kept-elsewhere st k d lives (x ∷ rest) a =
     let m = kept_demand st k in
@@ -49,7 +48,7 @@ full_table_never st h x r fits =
 pub fragmented_pool-never : FragmentedPoolNever
 fragmented_pool-never st h x r fits =
     let k = history_kept st h in
-    let n = kept_next st k (asks x) in
+    let n = kept_next st k x in
     (((kept_demand st k).takes x r).1 fits, rw n.agrees.total n.sound.bodies)
 
 pub wrong-pool_unheard : WrongPoolUnheard
@@ -57,21 +56,15 @@ unfolding heard next entered
 wrong-pool_unheard st h x z =
     let k = history_kept st h in
     let q = untrue _ (λ t. z ((pool-says st.image x.pool).0 t)) in
-    let e : hears st (asks x) ≡ neither = rw (wrong_word st.image x k.sound q) refl in
+    let e : hears st x ≡ neither = rw (wrong_word st.image x k.sound q) refl in
     let i : image_after st.image x ≡ st.image =
     image_is st.image x.pool x.command x.state x.lent k.sound
     ∙ ap (applied_of st.image x.command) (due_wrong st.image x.pool x.command x.state x.lent q)
     in
     (e, rw (e, i) refl)
 
-pub pack_unheard : PackUnheard
-unfolding next entered
-pack_unheard st h pool =
-    let k = pack_keeps st.image pool in
-    (refl, k.df, k.rooms)
-
 -- one call on a card whose ledger is kept, and the directory that was current
-module _ (st : Story) (k : Kept st) (x : Act) where
+module _ (st : Story) (k : Kept st) (x : Call) where
   -- its record is as it was: then its room, before and after, is its total less its charges
   rooms : table_after st x (here st) ≡ table st (here st)
       → (room (next st x) (here st) + charged (slots st) (table_after st x) (here st) ≡ (table st (here st)).size)
@@ -116,7 +109,7 @@ module _ (st : Story) (k : Kept st) (x : Act) where
   deleted_stays i e = (rw e at (did st k x)).current
 
 -- a file just made is the ledger's first of its name
-newest : (st : Story) (x : Act) (i size : ℕ) (is_df : Bool) → hears st x ≡ makes i size is_df
+newest : (st : Story) (x : Call) (i size : ℕ) (is_df : Bool) → hears st x ≡ makes i size is_df
     → (file_in (next st x).ledger (here st) i).size ≡ size
 unfolding next entered file_in first_entry is_named
 newest st x i size is_df e = rw (e, eq-eqb (here st) (here st) refl, eq-eqb i i refl)

@@ -11,6 +11,7 @@ use borrow.Author.Tests.{leb-true, leb-false, le-leb, lt-leb}
 use Rattle.laws.proofs.Sums.{sum-none}
 use Rattle.laws.proofs.Says.{same_or, untrue}
 use Rattle.image.specs.Layout.{version_of, count_of, current_df_of}
+use Rattle.card.proofs.Versions.{version_stays}
 use Rattle.maker.specs.declared.Edition.{Edition}
 use Rattle.sound.specs.Table.{View, view_at}
 use Rattle.sound.specs.Sound.{Sound}
@@ -20,8 +21,9 @@ use Rattle.maker.specs.declared.Made.TheVariants.{Done}
 use Rattle.maker.specs.Making.{made_of, left_by}
 use Rattle.maker.proofs.Buffers.{sound-made, version-made, alone-made}
 use Rattle.verdict.specs.Words.{done, not_enough_memory}
-use Rattle.card.specs.Demands.{Call, Act, image_by}
-use Rattle.card.proofs.Acts.{act_sound, act_count, act_version}
+use Rattle.card.specs.Demands.{Call, image_after}
+use Rattle.card.proofs.Answered.{stays_sound}
+use Rattle.card.proofs.Demands.{effect-and-no-other}
 use Rattle.history.specs.Ledger.{makes, sum_over, opened}
 use Rattle.history.specs.Story.{Story, begun, hears, next, played, Ready, word_for, size_sent}
 use Rattle.history.specs.Demand3.{here, room, Lives, Strikes, Makes, Demand3, History, Demand3Holds}
@@ -29,7 +31,7 @@ use Rattle.history.proofs.Agree.{Agrees, worth, sum_files, worth_free, worth_roo
 use Rattle.history.proofs.Directories.{Dir, dir-lives, lives-dir, charged-same, total-same, room-same}
 use Rattle.history.proofs.Did.{Did, agree_step}
 use Rattle.history.proofs.Rooms.{Spared, spared, struck, made_none}
-use Rattle.history.proofs.Heard.{act_did}
+use Rattle.history.proofs.Heard.{call_did}
 use Rattle.history.proofs.Memory.{memory_decides}
 use Rattle.history.proofs.Begins.{begins_by}
 
@@ -40,8 +42,8 @@ slots st = count_of st.image
 abbrev pub table : Story → ℕ → View
 table st = view_at st.image
 
-abbrev pub table_after : Story → Act → ℕ → View
-table_after st x = view_at (image_by st.image x)
+abbrev pub table_after : Story → Call → ℕ → View
+table_after st x = view_at (image_after st.image x)
 
 -- ledger and card belong together
 pub record Kept (st : Story) : Type 0 where
@@ -69,25 +71,25 @@ kept_fresh img e total form rule made =
     }
 
 -- of one call on a card whose ledger is kept
-module _ (st : Story) (k : Kept st) (x : Act) where
+module _ (st : Story) (k : Kept st) (x : Call) where
   some : 0 < slots st
   some = omega (arith, k.sound.header.least)
 
-  count_stays : count_of (image_by st.image x) ≡ slots st
-  count_stays = act_count st.image x k.sound
+  count_stays : count_of (image_after st.image x) ≡ slots st
+  count_stays = (effect-and-no-other st.image x.pool x.command x.state x.lent k.sound).count
 
   pub did : Did (slots st) (table st) (table_after st x) (hears st x) (current_df_of st.image)
-      (current_df_of (image_by st.image x))
-  did = rw (← k.version) (act_did st.image x k.sound)
+      (current_df_of (image_after st.image x))
+  did = rw (← k.version) (call_did st.image x k.sound)
 
   -- the ledger afterwards, beside the records in as many slots as before
   pub agrees_after : Agrees (next st x).ledger (slots st) (table_after st x)
   unfolding next
   agrees_after = agree_step st.ledger (slots st) (table st) (table_after st x) k.agrees k.sound.kin some
-      (hears st x) (current_df_of st.image) (current_df_of (image_by st.image x)) did
+      (hears st x) (current_df_of st.image) (current_df_of (image_after st.image x)) did
 
-  sound-after : Sound (image_by st.image x)
-  sound-after = act_sound st.image x k.sound
+  sound-after : Sound (image_after st.image x)
+  sound-after = stays_sound st.image x.pool x.command x.state x.lent k.sound
 
   pub kin-after : Kin (slots st) (table_after st x)
   kin-after = rw count_stays at sound-after.kin
@@ -97,17 +99,17 @@ module _ (st : Story) (k : Kept st) (x : Act) where
   kept_next = record {
     sound = sound-after;
     agrees = rw count_stays agrees_after;
-    version = act_version st.image x ∙ k.version;
+    version = version_stays st.image x.pool x.command x.state x.lent ∙ k.version;
   }
 
-pub kept-played : (acts : List Act) (st : Story) → Kept st → Kept (played st acts)
+pub kept-played : (calls : List Call) (st : Story) → Kept st → Kept (played st calls)
 kept-played [] st k = k
 kept-played (x ∷ rest) st k = kept-played rest (next st x) (kept_next st k x)
 
 pub history_kept : (st : Story) → History st → Kept st
 history_kept st h =
     subst (λ (s : Story). Kept s) h.story
-    (kept-played h.acts _ (kept_fresh h.buffer h.edition h.total h.form h.rule h.made))
+    (kept-played h.calls _ (kept_fresh h.buffer h.edition h.total h.form h.rule h.made))
 
 -- 6A84 exactly where size plus 64 exceeds the room, else 9000
 module _ (need left : ℕ) where
@@ -141,11 +143,11 @@ module _ (st : Story) (k : Kept st) where
   word-says x r = rw (← k.version) (memory_decides st.image x k.sound r ∙ rw (room_is (here st) current-dir))
 
   -- a directory that lives, and a call that spares it
-  module _ (x : Act) (d : ℕ) (lives : Lives st d) where
+  module _ (x : Call) (d : ℕ) (lives : Lives st d) where
     stays : (Strikes st x d → ⊥) → Spared (slots st) (table st) (table_after st x) (here st) d
     stays z =
         spared st.ledger (slots st) (table st) _ k.agrees k.sound.kin (omega (arith, k.sound.header.least)) d (dir d lives)
-        (hears st x) (here st) (current_df_of (image_by st.image x)) (did st k x) (untrue _ z)
+        (hears st x) (here st) (current_df_of (image_after st.image x)) (did st k x) (untrue _ z)
 
     goes_on_lem : (Strikes st x d → ⊥) → Lives (next st x) d
     goes_on_lem z = dir-lives (next st x).ledger (slots st) _ (agrees_after st k x) d (stays z).dir
@@ -158,11 +160,11 @@ module _ (st : Story) (k : Kept st) where
     ends : Strikes st x d → Lives (next st x) d → ⊥
     ends s l =
         struck st.ledger (slots st) (table st) _ k.agrees k.sound.kin (omega (arith, k.sound.header.least)) d (dir d lives)
-        (hears st x) (here st) (current_df_of (image_by st.image x)) (did st k x) s
+        (hears st x) (here st) (current_df_of (image_after st.image x)) (did st k x) s
         (lives-dir (next st x).ledger (slots st) _ (agrees_after st k x) (kin-after st k x) (omega (arith, k.sound.header.least)) d l)
 
   -- a new directory stands where none lived, and its room is its total
-  newborn : (x : Act) (d : ℕ) (m : Makes st x d) → (Lives st d → ⊥) × (Lives (next st x) d × (room (next st x) d ≡ m.total))
+  newborn : (x : Call) (d : ℕ) (m : Makes st x d) → (Lives st d → ⊥) × (Lives (next st x) d × (room (next st x) d ≡ m.total))
   unfolding room_for total_for next
   newborn x d m =
       let c = rw m.makes at (did st k x) in

@@ -26,16 +26,15 @@ use Rattle.verdict.specs.Words.{done}
 use Rattle.verdict.specs.Applied.{word_of}
 use Rattle.card.specs.Command.{due_of}
 use Rattle.card.specs.After.{record_after, df_after}
-use Rattle.card.specs.Demands.{Call, image_after, Act, asks, packs, image_by}
+use Rattle.card.specs.Demands.{Call, image_after}
 use Rattle.card.proofs.Tells.{Tells}
 use Rattle.card.proofs.Speaks.{Spoken}
 use Rattle.card.proofs.After.{records-after}
 use Rattle.card.proofs.Due.{due_by, due_tells, due_speaks}
 use Rattle.card.proofs.Answered.{word_is}
 use Rattle.card.proofs.Demands.{effect-and-no-other}
-use Rattle.card.proofs.PackedBodies.{pack_keeps}
 use Rattle.history.specs.Ledger.{Announced, neither}
-use Rattle.history.specs.Story.{announced, heard, heard_of}
+use Rattle.history.specs.Story.{announced, heard}
 use Rattle.history.proofs.Did.{OneMore, Did}
 use Rattle.history.proofs.Views.{view_new, view_other}
 use Rattle.history.proofs.Announced.{Announces, judge_announces}
@@ -124,10 +123,3 @@ call_did img x sound =
     (did img c sound (view_at (image_after img x)) (due_of img p c x.state x.lent) (due_tells img p c x.state x.lent sound)
     (due_by img p c x.state x.lent (Announces img c) (judge_announces img p c x.state) tt) (due_speaks img p c x.state x.lent)
     (current_df_of (image_after img x)) e.df (λ t l. ap view_of (e.records t l)))
-
--- .. and after PACK, which changes no view
-pub act_did : (img : List ℕ) (a : Act) → Sound img
-    → Did (count_of img) (view_at img) (view_at (image_by img a)) (heard_of (version_of img) img a) (current_df_of img)
-    (current_df_of (image_by img a))
-act_did img (asks x) sound = call_did img x sound
-act_did img (packs pool) sound = λ t l. ap (λ (v : ℕ → View). v t) (pack_keeps img pool).views

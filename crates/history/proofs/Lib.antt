@@ -14,4 +14,3 @@ pub mod Corollaries
 pub mod News
 pub mod Books
 pub mod BookReads
-pub mod Wearing

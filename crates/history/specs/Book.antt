@@ -1,7 +1,7 @@
--- What READ gives (02 Ticket 4): over any history, what the last UPDATE of each byte wrote, FF where none did, since the file's creation,
--- wherever CREATE and PACK moved it (Ticket 8). A book kept beside the card says so. It is written from commands answered 9000, as the
--- ledger is (specs/Ledger); of the image it is told only which EF slot is current, before and after a command; it never reads a record or
--- the pool. Each statement is proved in proofs/Books or proofs/BookReads under the same name in small letters.
+-- What READ gives (02 Ticket 4): over any history, what the last UPDATE of each byte wrote, FF where none did, since the file's creation. A
+-- book kept beside the card says so. It is written from commands answered 9000, as the ledger is (specs/Ledger); of the image it is told
+-- only which EF slot is current, before and after a command; it never reads a record or the pool. Each statement is proved in
+-- proofs/Books or proofs/BookReads under the same name in small letters.
 use Rattle.std.specs.Prelude.{◌≡◌, true, cond, List, [], ◌∷◌, ◌⊎◌, ℕ, ◌+◌, ◌<◌, ◌≤◌, eqb, length, get_or, replicate}
 use Rattle.laws.specs.Lists.{part, splice}
 use Rattle.rules.specs.Descriptor.{ef}
@@ -20,7 +20,6 @@ use Rattle.apdu.specs.Apdu.{instruction, asked}
 use Rattle.card.specs.Touching.{place_of}
 use Rattle.card.specs.Command.{answer_word, answer_told, reply_of, pool_of, response_of}
 use Rattle.card.specs.Obeyed.{is_one_of}
-use Rattle.card.specs.Packing.{pack_image, pack_pool}
 use Rattle.card.specs.Demands.{Call, image_after}
 use Rattle.history.specs.Story.{word_for}
 
@@ -90,33 +89,16 @@ turned t x = record {
       (current_ef_of (image_after t.image (call_on t x)));
 }
 
--- PACK (02 Ticket 8): of it the book hears nothing
-unfoldable pub packed : Tale → Tale
-packed t = record {
-  version = t.version;
-  image = pack_image t.image t.pool;
-  pool = pack_pool t.image t.pool;
-  book = t.book;
-}
-
--- a command, or PACK; any list of both
-pub data Deed : Type 0 where
-  asks : Turn → Deed
-  packs : Deed
-
-abbrev pub after : Tale → Deed → Tale
-after t (asks x) = turned t x
-after t packs = packed t
-
-abbrev pub after_all : Tale → List Deed → Tale
-after_all t [] = t
-after_all t (x ∷ rest) = after_all (after t x) rest
+-- any list of calls
+abbrev pub turnedBy : Tale → List Turn → Tale
+turnedBy t [] = t
+turnedBy t (x ∷ rest) = turnedBy (turned t x) rest
 
 -- it begins with what the maker left, any pool, and an empty book
 abbrev pub opening : ℕ → List ℕ → List ℕ → Tale
 opening v img pool = record { version = v; image = img; pool = pool; book = λ s. [] }
 
--- a history of a card that has bodies: what the maker left of some buffer, any pool of its total, and any list of commands and PACKs
+-- a history of a card that has bodies: what the maker left of some buffer, any pool of its total, and any list of calls
 pub record Chronicle (t : Tale) : Type 0 where
   pub buffer : List ℕ
   pub edition : Edition
@@ -124,11 +106,11 @@ pub record Chronicle (t : Tale) : Type 0 where
   pub form : ℕ
   pub rule : List ℕ
   pub bodies : List ℕ
-  pub deeds : List Deed
+  pub turns : List Turn
   pub third : edition.version ≡ 3
   pub made : made_of buffer edition total form rule ≡ Done
   pub whole : length bodies ≡ total
-  pub tale : after_all (opening edition.version (left_by Done buffer edition total form rule) bodies) deeds ≡ t
+  pub tale : turnedBy (opening edition.version (left_by Done buffer edition total form rule) bodies) turns ≡ t
 
 -- THE BOOK HOLDS: the body of every EF of the card is what the book has for its slot, byte for byte
 abbrev pub BookHolds : Type 0

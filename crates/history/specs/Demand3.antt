@@ -1,5 +1,5 @@
--- Demand 3, and what follows from it, as statements about any history of commands on a fresh card, PACK anywhere among them (01 "What the
--- statements must tie down"; 02 Ticket 8). Each is proved in proofs/Demand or proofs/Corollaries under the same name in small letters.
+-- Demand 3, and what follows from it, as statements about any history of commands on a fresh card (01 "What the
+-- statements must tie down"). Each is proved in proofs/Demand or proofs/Corollaries under the same name in small letters.
 use Rattle.std.specs.Prelude.{◌≡◌, Bool, true, List, [], ◌∷◌, ◌↔◌, ℕ, ◌+◌, ◌<◌, ◌≤◌}
 use Rattle.laws.specs.declared.Found.TheVariants.{Nothing}
 use Rattle.rules.specs.Descriptor.{df}
@@ -13,7 +13,7 @@ use Rattle.maker.specs.declared.Made.TheVariants.{Done}
 use Rattle.maker.specs.Making.{made_of, left_by}
 use Rattle.verdict.specs.Words.{done, not_enough_memory}
 use Rattle.card.specs.Command.{PoolFits}
-use Rattle.card.specs.Demands.{Call, Act, asks, packs}
+use Rattle.card.specs.Demands.{Call}
 use Rattle.history.specs.Ledger.{makes, deletes, neither, lives_in, total_in, charged_in, room_in, file_in, strikes}
 use Rattle.history.specs.Story.{Story, begun, word_for, hears, next, played, Ready, size_sent}
 
@@ -29,11 +29,11 @@ abbrev pub Lives : Story → ℕ → Type 0
 Lives st d = lives_in st.ledger d ≡ true
 
 -- a call deletes directory d, or one above it
-abbrev pub Strikes : Story → Act → ℕ → Type 0
+abbrev pub Strikes : Story → Call → ℕ → Type 0
 Strikes st x d = strikes st.ledger (hears st x) (here st) d ≡ true
 
 -- a call made directory d: a CREATE of a DF, answered 9000, whose slot is then current
-pub record Makes (st : Story) (x : Act) (d : ℕ) : Type 0 where
+pub record Makes (st : Story) (x : Call) (d : ℕ) : Type 0 where
   pub identifier : ℕ
   pub total : ℕ
   pub makes : hears st x ≡ makes identifier total true
@@ -52,36 +52,36 @@ pub record Demand3 (st : Story) : Type 0 where
       ↔ (room st (here st) < size_sent st.version x + 64)
   pub takes : (x : Call) → Ready st.image x → (word_for st.image x ≡ done) ↔ (size_sent st.version x + 64 ≤ room st (here st))
   -- from its creation, in a slot where none lived, with its announced total for its room
-  pub begins : (x : Act) (d : ℕ) → (Lives st d → ⊥) → Lives (next st x) d → Makes st x d
-  pub newborn : (x : Act) (d : ℕ) (m : Makes st x d) → (Lives st d → ⊥) × (Lives (next st x) d × (room (next st x) d ≡ m.total))
+  pub begins : (x : Call) (d : ℕ) → (Lives st d → ⊥) → Lives (next st x) d → Makes st x d
+  pub newborn : (x : Call) (d : ℕ) (m : Makes st x d) → (Lives st d → ⊥) × (Lives (next st x) d × (room (next st x) d ≡ m.total))
   -- until it or one above it is deleted
-  pub ends : (x : Act) (d : ℕ) → Lives st d → Strikes st x d → Lives (next st x) d → ⊥
-  pub goes_on_lem : (x : Act) (d : ℕ) → Lives st d → (Strikes st x d → ⊥) → Lives (next st x) d
+  pub ends : (x : Call) (d : ℕ) → Lives st d → Strikes st x d → Lives (next st x) d → ⊥
+  pub goes_on_lem : (x : Call) (d : ℕ) → Lives st d → (Strikes st x d → ⊥) → Lives (next st x) d
   -- nothing done while another is current takes a byte from it, or gives it one
-  pub elsewhere : (x : Act) (d : ℕ) → Lives st d → (Strikes st x d → ⊥) → (d ≡ here st → ⊥) → room (next st x) d ≡ room st d
+  pub elsewhere : (x : Call) (d : ℕ) → Lives st d → (Strikes st x d → ⊥) → (d ≡ here st → ⊥) → room (next st x) d ≡ room st d
 
--- a history: what the maker left of some buffer, a card of any version, and any list of calls on it, commands and PACK
+-- a history: what the maker left of some buffer, a card of any version, and any list of calls on it
 pub record History (st : Story) : Type 0 where
   pub buffer : List ℕ
   pub edition : Edition
   pub total : ℕ
   pub form : ℕ
   pub rule : List ℕ
-  pub acts : List Act
+  pub calls : List Call
   pub made : made_of buffer edition total form rule ≡ Done
-  pub story : played (begun edition.version (left_by Done buffer edition total form rule) total) acts ≡ st
+  pub story : played (begun edition.version (left_by Done buffer edition total form rule) total) calls ≡ st
 
 abbrev pub Demand3Holds : Type 0
 Demand3Holds = (st : Story) → History st → Demand3 st
 
 -- nothing done elsewhere, over any list of calls: as long as none is given while d is current, nor deletes it or one above
-abbrev pub AllElsewhere : Story → List Act → ℕ → Type 0
+abbrev pub AllElsewhere : Story → List Call → ℕ → Type 0
 AllElsewhere st [] d = Unit {0}
 AllElsewhere st (x ∷ rest) d = (d ≡ here st → ⊥) × ((Strikes st x d → ⊥) × AllElsewhere (next st x) rest d)
 
 abbrev pub NothingElsewhere : Type 0
-NothingElsewhere = (st : Story) → History st → (d : ℕ) → Lives st d → (acts : List Act) → AllElsewhere st acts d
-    → Lives (played st acts) d × (room (played st acts) d ≡ room st d)
+NothingElsewhere = (st : Story) → History st → (d : ℕ) → Lives st d → (calls : List Call) → AllElsewhere st calls d
+    → Lives (played st calls) d × (room (played st calls) d ≡ room st d)
 
 -- a full file table never refuses a CREATE that has room: a free record is there, and the word is 9000
 abbrev pub FullTableNever : Type 0
@@ -93,37 +93,28 @@ FullTableNever = (st : Story) → History st → (x : Call) → Ready st.image x
 abbrev pub FragmentedPoolNever : Type 0
 FragmentedPoolNever = (st : Story) → History st → (x : Call) → Ready st.image x → size_sent st.version x + 64 ≤ room st (here st)
     → (word_for st.image x ≡ done)
-    × Laid (count_of (next st (asks x)).image) (start_at (next st (asks x)).image) (body_at (next st (asks x)).image)
-    (next st (asks x)).ledger.total
+    × Laid (count_of (next st x).image) (start_at (next st x).image) (body_at (next st x).image) (next st x).ledger.total
 
 -- a pool of a wrong length, answer 6: nothing changes, and the ledger hears nothing
 abbrev pub WrongPoolUnheard : Type 0
 WrongPoolUnheard = (st : Story) → History st → (x : Call) → (PoolFits st.image x.pool → ⊥)
-    → (hears st (asks x) ≡ neither) × (next st (asks x) ≡ st)
-
--- PACK, whatever pool it is lent (02 Ticket 8): the ledger hears nothing, so it says afterwards what it said, and no directory's room
--- changes, by its records either
-abbrev pub PackUnheard : Type 0
-PackUnheard = (st : Story) → History st → (pool : List ℕ)
-    → ((next st (packs pool)).ledger ≡ st.ledger) × (here (next st (packs pool)) ≡ here st)
-    × ((d : ℕ) → room_for (count_of (next st (packs pool)).image) (view_at (next st (packs pool)).image) d
-    ≡ room_for (count_of st.image) (view_at st.image) d)
+    → (hears st x ≡ neither) × (next st x ≡ st)
 
 -- a file is charged to its direct parent alone: size plus 64, and no other directory that lives pays anything
 abbrev pub ParentPaysAlone : Type 0
-ParentPaysAlone = (st : Story) → History st → (x : Act) (i size : ℕ) (is_df : Bool) → hears st x ≡ makes i size is_df
+ParentPaysAlone = (st : Story) → History st → (x : Call) (i size : ℕ) (is_df : Bool) → hears st x ≡ makes i size is_df
     → (room (next st x) (here st) + (size + 64) ≡ room st (here st))
     × ((d : ℕ) → Lives st d → (d ≡ here st → ⊥) → room (next st x) d ≡ room st d)
 
 -- a deleted file gives back exactly what it took, however much lay beneath it
 abbrev pub GivesBack : Type 0
-GivesBack = (st : Story) → History st → (x : Act) (i : ℕ) → hears st x ≡ deletes i
+GivesBack = (st : Story) → History st → (x : Call) (i : ℕ) → hears st x ≡ deletes i
     → room (next st x) (here st) ≡ room st (here st) + ((file_in st.ledger (here st) i).size + 64)
 
 -- a deleted identifier that comes back at once is charged anew, by what is announced then; one that comes back later is
 -- charged as any new file is (`ParentPaysAlone`)
 abbrev pub ChargedAnew : Type 0
-ChargedAnew = (st : Story) → History st → (x y : Act) (i size : ℕ) (is_df : Bool) → hears st x ≡ deletes i
+ChargedAnew = (st : Story) → History st → (x y : Call) (i size : ℕ) (is_df : Bool) → hears st x ≡ deletes i
     → hears (next st x) y ≡ makes i size is_df
     → (room (next (next st x) y) (here st) + (size + 64) ≡ room st (here st) + ((file_in st.ledger (here st) i).size + 64))
     × ((file_in (next (next st x) y).ledger (here st) i).size ≡ size)

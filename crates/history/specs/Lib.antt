@@ -2,4 +2,3 @@ pub mod Ledger
 pub mod Story
 pub mod Demand3
 pub mod Book
-pub mod Wear

@@ -1,5 +1,5 @@
--- A history: the card's image and the ledger beside it, command by command, each with the pool that it was given, and PACK anywhere among
--- them (02 Ticket 8); and when CREATE has passed every check before memory (01 "What the statements must tie down").
+-- A history: the card's image and the ledger beside it, command by command, each with the pool that it was given; and when CREATE has
+-- passed every check before memory (01 "What the statements must tie down").
 use Rattle.std.specs.Prelude.{◌≡◌, true, false, cond, List, [], ◌∷◌, ◌↔◌, ◌⊎◌, ℕ, eqb}
 use Rattle.image.specs.Layout.{current_df_of}
 use Rattle.sound.specs.Sound.{Sound}
@@ -13,7 +13,7 @@ use Rattle.judge_target.specs.Target.{new_size}
 use Rattle.apdu.specs.Apdu.{instruction, sent_identifier, create_file, delete_file}
 use Rattle.card.specs.Command.{answer_word, PoolFits, reply_of}
 use Rattle.card.specs.Steps.{steps_of}
-use Rattle.card.specs.Demands.{Call, Act, asks, packs, image_by}
+use Rattle.card.specs.Demands.{Call, image_after}
 use Rattle.history.specs.Ledger.{Ledger, Announced, makes, deletes, neither, entered, opened}
 
 -- what CREATE's data announce, and what a command does, to a card of the version that the maker was told
@@ -42,29 +42,25 @@ pub record Story : Type 0 where
 abbrev pub begun : ℕ → List ℕ → ℕ → Story
 begun v img total = record { version = v; image = img; ledger = opened total }
 
--- what the ledger hears of a call: what it announced, if it was answered 9000; of PACK it hears nothing
+-- what the ledger hears of a call: what it announced, if it was answered 9000
 unfoldable pub heard : ℕ → List ℕ → Call → Announced
 heard v img x = cond (eqb (word_for img x) done) (announced v x.command) neither
 
-abbrev pub heard_of : ℕ → List ℕ → Act → Announced
-heard_of v img (asks x) = heard v img x
-heard_of v img (packs pool) = neither
-
-abbrev pub hears : Story → Act → Announced
-hears st a = heard_of st.version st.image a
+abbrev pub hears : Story → Call → Announced
+hears st x = heard st.version st.image x
 
 -- one call: the ledger hears it, and which DF slot is current before and after
-unfoldable pub next : Story → Act → Story
-next st a = record {
+unfoldable pub next : Story → Call → Story
+next st x = record {
   version = st.version;
-  image = image_by st.image a;
-  ledger = entered st.ledger (hears st a) (current_df_of st.image) (current_df_of (image_by st.image a));
+  image = image_after st.image x;
+  ledger = entered st.ledger (hears st x) (current_df_of st.image) (current_df_of (image_after st.image x));
 }
 
 -- any list of calls
-abbrev pub played : Story → List Act → Story
+abbrev pub played : Story → List Call → Story
 played st [] = st
-played st (a ∷ rest) = played (next st a) rest
+played st (x ∷ rest) = played (next st x) rest
 
 -- a list of steps short of the last
 abbrev pub but_last : List Step → List Step

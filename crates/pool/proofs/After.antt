@@ -28,13 +28,13 @@ use Rattle.pool.specs.Bodies.{body_of, start_at, body_at}
 use Rattle.pool.specs.Laid.{clear, Laid}
 use Rattle.pool.specs.Gaps.{fits, lowest_gap}
 use Rattle.pool.specs.Packed.{starts_below, below, packed_start, owner_of, moved_byte, packed_byte, list_below, packed_pool, packed_image}
-use Rattle.pool.specs.Packed.{gap_bytes}
+use Rattle.pool.specs.Packed.{moved_bytes}
 use Rattle.pool.proofs.Belows.{counts, counts-not}
 use Rattle.pool.proofs.Apart.{some_or, packed-laid, same_body}
 use Rattle.pool.proofs.Starts.{body_kept, same-body-size, header_refl, with_twice, same-image}
 use Rattle.pool.proofs.Pools.{length_list, get_or-list, owner_is, owner_none, Holds}
 use Rattle.pool.proofs.Tables.{Put, put_all}
-use Rattle.pool.proofs.Moved.{weightless, gap_after, packed_stays, count_still}
+use Rattle.pool.proofs.Moved.{weightless, gap_after, packed_stays, count_stays}
 
 -- two tables that say the same of bodies
 pub record Alike (n : ℕ) (a z b y : ℕ → ℕ) : Type 0 where
@@ -144,7 +144,7 @@ module _ (n : ℕ) (a z : ℕ → ℕ) (pool : List ℕ) (laid : Laid n a z (len
           ∙ moved-byte t l k h (owner_of n (packed_start n a z) z (packed_start n a z t + k)) refl
           ∙ sym (get_or-part pool (a t) (z t) k h)
 
-pub put_packed : (n : ℕ) (img : List ℕ) (sized : Sized img n)
+put_packed : (n : ℕ) (img : List ℕ) (sized : Sized img n)
     → Put n img sized (body_at img) (packed_start n (start_at img) (body_at img)) n (packed_image n img)
 unfolding packed_image
 put_packed n img sized = put_all n img sized (body_at img) (packed_start n (start_at img) (body_at img)) n (omega arith)
@@ -213,8 +213,8 @@ module _ (n : ℕ) (img pool : List ℕ) (sized : Sized img n) (laid : Laid n (s
       let y : 0 < body_at img t = omega (arith, after-size t l) in
       alike_start n _ _ _ _ alike t l x ∙ packed_stays n (start_at img) (body_at img) (length pool) laid t l y ∙ sym (after-start t l y)
 
-  pub second_count : gap_bytes n (start_at (packed_image n img)) (body_at (packed_image n img)) ≡ 0
-  second_count = count_still n (start_at (packed_image n img)) (body_at (packed_image n img)) (length pool) after-laid stays
+  pub second_count : moved_bytes n (start_at (packed_image n img)) (body_at (packed_image n img)) ≡ 0
+  second_count = count_stays n (start_at (packed_image n img)) (body_at (packed_image n img)) stays
 
   pub second_pool : (p : List ℕ) → packed_pool n (start_at (packed_image n img)) (body_at (packed_image n img)) p ≡ p
   second_pool p = pool_stays n (start_at (packed_image n img)) (body_at (packed_image n img)) p stays

@@ -17,7 +17,7 @@ use Rattle.image.specs.Layout.{Sized}
 use Rattle.pool.specs.Bodies.{start_at, body_at}
 use Rattle.pool.specs.Laid.{Laid}
 use Rattle.pool.specs.Gaps.{fits, lowest_gap}
-use Rattle.pool.specs.Packed.{below, gap_bytes, packed_image, packed_pool}
+use Rattle.pool.specs.Packed.{below, moved_bytes, packed_image, packed_pool}
 use Rattle.pool.specs.Places.{gap_for, place_at, place_image, Placed}
 use Rattle.pool.proofs.Clears.{fits_is, fits_gives}
 use Rattle.pool.proofs.Belows.{below-same}
@@ -50,7 +50,7 @@ module _ (n m : ℕ) (img pool : List ℕ) (g : Found) (found : g ≡ lowest_gap
   make_gap p e new f = rw (is, e) (record { start = refl; moved = refl; image = refl; bytes = f })
 
   pub make-packed : g ≡ Nothing → (end moved : ℕ) (new_image middle new : List ℕ) → end ≡ sum_below n (body_at img)
-      → moved ≡ gap_bytes n (start_at img) (body_at img)
+      → moved ≡ moved_bytes n (start_at img) (body_at img)
       → new_image ≡ packed_image n img → middle ≡ packed_pool n (start_at img) (body_at img) pool → new ≡ splice middle end (replicate m 255)
       → Placed (gap_for n img (length pool) m) n m img pool (record { start = end; moved = moved }) new_image new
   make-packed e end moved new_image middle new f h i j k =

@@ -6,13 +6,13 @@ use mathlib.Core.Logic.{◌⊎◌, inl, inr, ⊎_elim}
 use Prim.Native.Nat.{ℕ, zero, suc, ◌+◌, ◌-◌, ◌<◌, ◌≤◌}
 use native.Mathlib.Omega.{arith}
 use lib.Dec.{eqb, leb}
-use borrow.Author.Tests.{eq-eqb, ne_eqb, le-leb, lt-leb, eqb-true, not-false}
+use borrow.Author.Tests.{eq-eqb, ne_eqb, le-leb, lt-leb}
 use Rattle.laws.specs.declared.Found.{Found}
 use Rattle.laws.specs.declared.Found.TheVariants.{At, Nothing}
 use Rattle.laws.specs.Walks.{sum_below, first_below, any_below, if_so}
 use Rattle.laws.proofs.Firsts.{first-at, first_is, no-first, nothing-below}
 use Rattle.laws.proofs.Walks.{any_at, none_any}
-use Rattle.laws.proofs.Sums.{sum_cong, sum-none, sum-le, sum-has}
+use Rattle.laws.proofs.Sums.{sum_cong, sum-none, sum-le}
 use Rattle.laws.proofs.Says.{lt-or}
 use Rattle.pool.specs.Laid.{Laid}
 use Rattle.pool.specs.Index.{StartsAt}
@@ -23,7 +23,7 @@ use Rattle.pool.proofs.Apart.{NoneFrom, Covering, covering, some_or, same_body, 
 use Rattle.pool.proofs.Apart.{packed-order, packed-within, covered, below_len}
 use Rattle.pool.proofs.Clears.{fits_is, fits_not, fits_gives}
 use Rattle.pool.proofs.Pools.{owner_is, owner_none}
-use Rattle.pool.proofs.Walking.{if_less}
+use Rattle.pool.proofs.Walking.{counts_less}
 
 -- byte q is in a body
 pub data Held (n : ℕ) (a z : ℕ → ℕ) (q : ℕ) : Type 0 where
@@ -31,24 +31,6 @@ pub data Held (n : ℕ) (a z : ℕ → ℕ) (q : ℕ) : Type 0 where
 
 pub weightless : (a w : ℕ → ℕ) (p t : ℕ) → w t ≡ 0 → starts_below a w p t ≡ 0
 weightless a w p t e = ⊎_elim (λ h. counts a w p t h ∙ e) (λ h. counts-not a w p t h) (lt-or (a t) p)
-
--- the count never exceeds all live body bytes (Ticket 8)
-pub count_bound : (n : ℕ) (a z : ℕ → ℕ) → gap_bytes n a z ≤ sum_below n z
-unfolding gap_bytes
-count_bound n a z = sum-le n (λ s. if_so (above_gap n a z s) (z s)) z (λ t l. if_less (above_gap n a z t) (z t))
-
--- where no body's start would differ, nothing is added up
-pub count_stays : (n : ℕ) (a z : ℕ → ℕ) → ((t : ℕ) → t < n → 0 < z t → packed_start n a z t ≡ a t) → moved_bytes n a z ≡ 0
-unfolding moved_bytes moved_size
-count_stays n a z still = sum-none n (moved_size n a z) (λ t l. one t l (some_or n a z t))
-  where
-    none : (b : Bool) (k : ℕ) → k ≡ 0 → if_so b k ≡ 0
-    none true k e = e
-    none false k e = refl
-
-    one : (t : ℕ) → t < n → (0 < z t) ⊎ (z t ≡ 0) → if_so (not (eqb (a t) (packed_start n a z t))) (z t) ≡ 0
-    one t l (inl x) = rw (eq-eqb (a t) (packed_start n a z t) (sym (still t l x)))
-    one t l (inr x) = none (not (eqb (a t) (packed_start n a z t))) (z t) x
 
 module _ (n : ℕ) (a z : ℕ → ℕ) (len : ℕ) (laid : Laid n a z len) where
   -- The lowest gap afterwards starts where the bodies end, and there is one exactly where the sum of all sizes
@@ -151,7 +133,7 @@ module _ (n : ℕ) (a z : ℕ → ℕ) (len : ℕ) (laid : Laid n a z len) where
           let f = (no-first (a s) (is_free n a z) e).none in
           none_any (is_free n a z) (a s) f ∙ sym (ap not (eq-eqb (a s) (packed_start n a z s) (gap_none s l x f)))
 
-  -- so what moving down adds up is the sum of sizes of those with a gap below (Ticket 8)
+  -- so the count is the sum of sizes of those with a gap below, and never exceeds all live body bytes (Ticket 8)
   pub count_gaps : moved_bytes n a z ≡ gap_bytes n a z
   unfolding moved_bytes gap_bytes moved_size
   count_gaps = sum_cong n (moved_size n a z) (λ s. if_so (above_gap n a z s) (z s)) (λ s l. one s l (some_or n a z s))
@@ -166,22 +148,9 @@ module _ (n : ℕ) (a z : ℕ → ℕ) (len : ℕ) (laid : Laid n a z len) where
       one s l (inl x) = ap (λ (b : Bool). if_so b (z s)) (sym (gap_tells s l x))
       one s l (inr x) = nothing (not (eqb (a s) (packed_start n a z s))) (above_gap n a z s) (z s) x
 
-  pub count-told : {moved : ℕ} → moved ≡ moved_bytes n a z → moved ≡ gap_bytes n a z
-  count-told e = e ∙ count_gaps
-
-  -- the count is 0 exactly where no body's start differs afterwards
-  pub count-zero : gap_bytes n a z ≡ 0 → (s : ℕ) → s < n → 0 < z s → packed_start n a z s ≡ a s
-  unfolding gap_bytes
-  count-zero e s l x = go (above_gap n a z s) refl
-    where
-      go : (b : Bool) → above_gap n a z s ≡ b → packed_start n a z s ≡ a s
-      go true q =
-          let h : z s ≤ sum_below n (λ t. if_so (above_gap n a z t) (z t)) = rw q at (sum-has (λ t. if_so (above_gap n a z t) (z t)) n s l) in
-          absurd (omega arith)
-      go false q = sym (eqb-true (a s) (packed_start n a z s) (not-false _ (sym (gap_tells s l x) ∙ q)))
-
-  pub count_still : ((t : ℕ) → t < n → 0 < z t → packed_start n a z t ≡ a t) → gap_bytes n a z ≡ 0
-  count_still still = sym count_gaps ∙ count_stays n a z still
+  pub count_bound : moved_bytes n a z ≤ sum_below n z
+  unfolding moved_bytes
+  count_bound = sum-le n (moved_size n a z) z (λ t l. counts_less n a z t)
 
   -- bodies that were moved down stay where they are
   pub packed_stays : (s : ℕ) → s < n → 0 < z s → packed_start n (packed_start n a z) z s ≡ packed_start n a z s
@@ -206,3 +175,16 @@ module _ (n : ℕ) (a z : ℕ → ℕ) (len : ℕ) (laid : Laid n a z len) where
       one t k (inl y) (inr h) =
           counts-not (packed_start n a z) z (packed_start n a z s) t (same t k y h) ∙ sym (counts-not a z (a s) t h)
       one t k (inr y) h = weightless (packed_start n a z) z (packed_start n a z s) t y ∙ sym (weightless a z (a s) t y)
+
+-- where no body's start would differ, the count is 0
+pub count_stays : (n : ℕ) (a z : ℕ → ℕ) → ((t : ℕ) → t < n → 0 < z t → packed_start n a z t ≡ a t) → moved_bytes n a z ≡ 0
+unfolding moved_bytes moved_size
+count_stays n a z still = sum-none n (moved_size n a z) (λ t l. one t l (some_or n a z t))
+  where
+    none : (b : Bool) (k : ℕ) → k ≡ 0 → if_so b k ≡ 0
+    none true k e = e
+    none false k e = refl
+
+    one : (t : ℕ) → t < n → (0 < z t) ⊎ (z t ≡ 0) → if_so (not (eqb (a t) (packed_start n a z t))) (z t) ≡ 0
+    one t l (inl x) = rw (eq-eqb (a t) (packed_start n a z t) (sym (still t l x)))
+    one t l (inr x) = none (not (eqb (a t) (packed_start n a z t))) (z t) x

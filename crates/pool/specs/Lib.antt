@@ -1,6 +1,5 @@
 pub mod Bodies
 pub mod Laid
-pub mod Spans
 pub mod Gaps
 pub mod Packed
 pub mod Index

@@ -1,6 +1,6 @@
 -- All bodies moved down (02 Ticket 4: "bodies are moved down first, in order"): each starts afterwards where those that started below it
--- end. "Vacated bytes become 00" (those in a body before and in none after), all others stay. The count of bytes moved (Ticket 8: "the sum
--- of sizes of those bodies that lie above a gap when moving starts, which are exactly those whose start differs afterwards").
+-- end. "Vacated bytes become 00" (those in a body before and in none after), all others stay. The count of bytes moved, and the sum that
+-- Ticket 8 says it is.
 use Rattle.std.specs.Prelude.{List, [], ◌∷◌, ◌++◌, Bool, cond, not, ◌&&◌, ℕ, zero, suc, ◌+◌, ◌-◌, eqb, leb, ltb, length, get_or, replicate}
 use Rattle.laws.specs.declared.Found.{Found}
 use Rattle.laws.specs.declared.Found.TheVariants.{At, Nothing}
@@ -60,20 +60,17 @@ put_starts (suc k) z f img = cond (ltb 0 (z k)) (set_start (put_starts k z f img
 unfoldable pub packed_image : ℕ → List ℕ → List ℕ
 packed_image n img = put_starts n (body_at img) (packed_start n (start_at img) (body_at img)) img
 
--- the count of bytes moved: the sum of sizes of the bodies that lie above a gap
-unfoldable pub gap_bytes : ℕ → (ℕ → ℕ) → (ℕ → ℕ) → ℕ
-gap_bytes n a z = sum_below n (λ s. if_so (above_gap n a z s) (z s))
-
--- the same by starts, as moving down adds it up: a body counts for its size where its start differs afterwards (proofs/Moved, `count-gaps`)
+-- what s counts for: its size where its start differs afterwards
 unfoldable pub moved_size : ℕ → (ℕ → ℕ) → (ℕ → ℕ) → ℕ → ℕ
 moved_size n a z s = if_so (not (eqb (a s) (packed_start n a z s))) (z s)
 
+-- the count of bytes moved
 unfoldable pub moved_bytes : ℕ → (ℕ → ℕ) → (ℕ → ℕ) → ℕ
 moved_bytes n a z = sum_below n (moved_size n a z)
 
--- m bytes written over those from `to` on, as they stood from `from` on
-unfoldable pub copied : List ℕ → ℕ → ℕ → ℕ → List ℕ
-copied pool from to m = splice pool to (part pool from m)
+-- the sum of sizes of the bodies that lie above a gap
+unfoldable pub gap_bytes : ℕ → (ℕ → ℕ) → (ℕ → ℕ) → ℕ
+gap_bytes n a z = sum_below n (λ s. if_so (above_gap n a z s) (z s))
 
 -- one body moved: its old place is zeroed, then it is written at the new one
 unfoldable pub move_down : List ℕ → ℕ → ℕ → ℕ → List ℕ

@@ -8,7 +8,7 @@ use Rattle.laws.specs.Walks.{sum_below}
 use Rattle.pool.specs.declared.Room.{Room}
 use Rattle.pool.specs.Bodies.{start_at, body_at}
 use Rattle.pool.specs.Gaps.{lowest_gap}
-use Rattle.pool.specs.Packed.{gap_bytes, packed_image, packed_pool}
+use Rattle.pool.specs.Packed.{moved_bytes, packed_image, packed_pool}
 
 -- the gap that fits before any body is moved
 unfoldable pub gap_for : ℕ → List ℕ → ℕ → ℕ → Found
@@ -21,7 +21,7 @@ place_at Nothing n img = sum_below n (body_at img)
 
 abbrev pub place_moved : Found → ℕ → List ℕ → ℕ
 place_moved (At p) n img = 0
-place_moved Nothing n img = gap_bytes n (start_at img) (body_at img)
+place_moved Nothing n img = moved_bytes n (start_at img) (body_at img)
 
 abbrev pub place_image : Found → ℕ → List ℕ → List ℕ
 place_image (At p) n img = img

@@ -9,28 +9,25 @@ ghost use Rattle.pool.specs.Index.{Chained};
 use crate::{body, index};
 use laws::Found;
 
-// .. by the index: the bytes from `low` to p are in no body, and too few; x is the next mark from p on.
+// .. by the index: the bytes from `low` to p are in no body, and too few.
 fn by_index(index: &[u16; 3072], image: &[u8], n: usize, len: usize, size: usize) -> Found
     requires sized { Sized image.now n × ((len < 65536) × (0 < size)) }
     requires laid { Laid n (start_at image.now) (body_at image.now) len }
-    requires chained { Chained 0 n (start_at image.now) (body_at image.now) index.now }
+    requires chained { Chained n (start_at image.now) (body_at image.now) index.now }
     ensures { result ≡ lowest_gap n (start_at image.now) (body_at image.now) len size }
 {
     let mut low = 0;
     let mut p = 0;
-    let mut x = index::first(index, 0);
     while p < len {
-        let end = index::ahead(index, len, p, x);
-        if size <= end - low {
+        let next = index::ahead(index, len, p);
+        if size <= next.end - low {
             return Found::At(low);
         }
-        if x == 0 {
-            p = end;
-            x = index::first(index, p);
+        p = next.end;
+        if next.mark == 0 {
             continue;
         }
-        p = end + body::size(image, x - 1);
-        x = index::onward(index, end, p, x);
+        p += body::size(image, next.mark - 1);
         low = p;
     }
     Found::Nothing

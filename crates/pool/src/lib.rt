@@ -10,7 +10,6 @@ pub mod laid;
 pub mod moving;
 pub mod placing;
 pub mod records;
-pub mod span;
 pub mod stretch;
 pub mod wipe;
 
@@ -21,9 +20,10 @@ pub struct Room {
     pub moved: usize,
 }
 
-// What all bodies take together, and where the highest of them ends.
+// What lies ahead of a byte of the pool: no body starts before `end`; there starts that of slot `mark` - 1, or, where the mark is 0,
+// the cell or the pool ends.
 #[derive(Drop)]
-pub struct Extent {
-    pub sum: usize,
-    pub top: usize,
+pub struct Ahead {
+    pub end: usize,
+    pub mark: usize,
 }

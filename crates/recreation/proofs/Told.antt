@@ -37,7 +37,7 @@ use Rattle.recreation.specs.Recreation.{Told, told_by, SelectTold}
 refusal_silent : (img pool c : List ℕ) (x : Sets) (w : ℕ) → answer_told (refusal img pool c x w) ≡ 0
 refusal_silent img pool c x w = go (eqb w 0x0000) (cond (eqb w 0x6982) (step_j img pool c x) Granted)
   where
-    go : (b : Bool) (d : Decision) → answer_told (cond b Short (Word w 0 d 0)) ≡ 0
+    go : (b : Bool) (d : Decision) → answer_told (cond b Short (Word w 0 d)) ≡ 0
     go true d = refl
     go false d = refl
 

@@ -24,8 +24,7 @@ use Rattle.access.specs.declared.Decision.{Decision}
 use Rattle.access.specs.declared.Decision.TheVariants.{Granted}
 use Rattle.card.specs.declared.Reply.TheVariants.{Word}
 use Rattle.card.specs.Command.{PoolFits, reply_of, image_of, response_of}
-use Rattle.card.specs.Conditions.{FreeName, found, new_of}
-use Rattle.card.specs.Obeyed.{moving}
+use Rattle.card.specs.Conditions.{FreeName, found}
 
 -- CREATE FILE with the data s
 abbrev pub create_of : List ℕ → List ℕ
@@ -40,8 +39,7 @@ pub record Told (img pool c : List ℕ) (st : State) (response : List ℕ) (n : 
   pub select : instruction c ≡ 0xA4
   pub word : ℕ
   pub security : Decision
-  pub moved : ℕ
-  pub reply : reply_of img pool c st (length response) ≡ Word word n security moved
+  pub reply : reply_of img pool c st (length response) ≡ Word word n security
   pub some : 1 ≤ n
 
 -- what it told, at the start of the response
@@ -82,15 +80,15 @@ abbrev pub new_start : List ℕ → List ℕ → ℕ
 new_start other r = place_at (gap_for (count_of other) other (pool_length other) (size_of r)) (count_of other) other
 
 -- RE-CREATION, from call to call: if the life cycle is one that CREATE takes, what SELECT told of a file, with a C6 after 81 for a DF,
--- gives 9000 there, with the count of bytes moved for such a file (02 Ticket 8), and the new record is the old one but for parent, level
--- and, where it has a body, the start. Nothing welcomes a root: a directory above, the other card's root, has its identifier. An image's
--- elements are bytes, as of any buffer; that it is sound doesn't say so
+-- gives 9000 there, and the new record is the old one but for parent, level and, where it has a body, the start. Nothing welcomes a root: a
+-- directory above, the other card's root, has its identifier. An image's elements are bytes, as of any buffer; that it is sound doesn't
+-- say so
 abbrev pub MadeAgain : Type 0
 MadeAgain = (img pool c : List ℕ) (st : State) (response : List ℕ) (n : ℕ) (sent other bodies : List ℕ) (state : State) (buffer : List ℕ)
     → Bytes img → Sound img → Told img pool c st response n → new_life (life_cycle_of (rec_at img (found img c))) ≡ true
     → Sends (rec_at img (found img c)) (told_by img pool c st response n) sent
     → Sound other → Welcomes img other bodies (rec_at img (found img c)) state
-    → (reply_of other bodies (create_of sent) state (length buffer) ≡ Word 0x9000 0 Granted (moving other (new_of other (create_of sent))))
+    → (reply_of other bodies (create_of sent) state (length buffer) ≡ Word 0x9000 0 Granted)
     × (rec_at (image_of other bodies (create_of sent) state (length buffer)) (new_slot other)
     ≡ splice (started_at (version_of img) (rec_at img (found img c)) (new_start other (rec_at img (found img c)))) 6
     (be16 (current_df_of other) ++ be16 ((view_at other (current_df_of other)).level + 1)))

@@ -86,7 +86,6 @@ fn step(image: &mut [u8], command: &[u8]) -> u16
             word,
             told,
             security,
-            moved,
         } => word,
         Reply::Damaged => 0,
         Reply::Short => 0,

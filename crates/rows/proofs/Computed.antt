@@ -17,7 +17,6 @@ use Rattle.rows.specs.Templates.{TemplatesTold, FilesRemade}
 use Rattle.rows.specs.Forms.{FormsTold, FormsOpen, FormsJudged, FormsKept, FormsRemade}
 use Rattle.rows.specs.Bodies.{BinaryRead, LongRead, BinaryWritten, RecordsTold, StatesTried, RightsAsked, PoolsLent, BodiesMoved}
 use Rattle.rows.specs.Bodies.{BodiesPacked}
-use Rattle.rows.specs.Packs.{MovesCounted, PacksTold, OlderPacked}
 use Rattle.rows.specs.Security.{DeletesTold, StepsTold, AnswersTold}
 use Rattle.rows.specs.Fresh.{FreshBytes}
 use Rattle.rows.specs.RuleFiles.{ReferringTaken, ReferringKept, UpdateDecides, SomeRuled, ReferringTold}
@@ -115,18 +114,6 @@ bodies-moved x = refl
 pub bodies-packed : BodiesPacked
 unfolding a_call
 bodies-packed x = refl
-
-pub moves-counted : MovesCounted
-unfolding a_call
-moves-counted x = refl
-
-pub packs-told : PacksTold
-unfolding a_call
-packs-told x = refl
-
-pub older-packed : OlderPacked
-unfolding a_call
-older-packed x = refl
 
 pub deletes-told : DeletesTold
 unfolding a_call

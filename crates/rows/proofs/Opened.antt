@@ -25,14 +25,13 @@ use Rattle.image.specs.Layout.{parent_of, level_of, record_length_of, size_of, f
 use Rattle.image.specs.Layout.{put_record, with_life, set_life, set_current}
 use Rattle.pool.specs.Bodies.{body_of as body_in, start_at, body_at}
 use Rattle.pool.specs.Laid.{clear, laid_at, laid}
-use Rattle.pool.specs.Gaps.{fits as fits_at, is_free, lowest_gap, above_gap}
+use Rattle.pool.specs.Gaps.{fits as fits_at, lowest_gap}
 use Rattle.pool.specs.Packed.{starts_below, below, packed_start, holds as holds_byte, owner_of, packed_byte, list_below, packed_pool}
-use Rattle.pool.specs.Packed.{put_starts, packed_image, gap_bytes}
+use Rattle.pool.specs.Packed.{put_starts, packed_image}
 use Rattle.pool.specs.Places.{gap_for}
 use Rattle.pool.specs.Records.{has_record}
 use Rattle.pool.specs.Wiped.{wipe_if, wipe_below}
-use Rattle.sound.specs.Effects.{created, new_body, new_gap, made, filled, moved_for, clear_if, clear_below, deleted, wiped, fresh_header}
-use Rattle.sound.specs.Effects.{fresh}
+use Rattle.sound.specs.Effects.{created, new_body, new_gap, made, filled, clear_if, clear_below, deleted, wiped, fresh_header, fresh}
 use Rattle.sound.specs.Kin.{rootb, placed_at, placedb, apart_at, siblings_at, siblingsb, above_at, aboveb, same_name, names_at, namesb}
 use Rattle.sound.specs.Kin.{charges_at, chargesb, kinb}
 use Rattle.sound.specs.Kinship.{is_child, is_child_named, child_named, free_slot, at_or_beneath, beneath, children_of, files_beneath, total_for}
@@ -57,7 +56,6 @@ use Rattle.judge_bodies.specs.Bodies.{binary, recordwise}
 use Rattle.judge.specs.Judge.{life_plan, body_plan, plan_for, judge_for, judge_of}
 use Rattle.judge_security.specs.Security.{ef_decision, deletion, life_decision, decision_for, step_j, denial_of}
 use Rattle.card.specs.Command.{pool_fits, fits, due_of, reply_of, image_of, pool_of, response_of}
-use Rattle.card.specs.Packing.{pack_count, pack_of, packable, pack_image, pack_pool}
 
 unfoldable pub a_call : Unit {0}
 unfolding part splice same_list implies either all_below any_below first_below sum_below count_below u16_at u32_at met fulfilled one_of all_of
@@ -78,6 +76,5 @@ unfolding part splice same_list implies either all_below any_below first_below s
     wants_alone other_channel crowded wants_template good_parameters fit_parameters is_binary is_record is_read is_update is_body is_old is_five asked
     has_data is_seven is_eight fit_length on_other_channel takes_files select_word selecting may_delete binary has_record recordwise life_plan
     body_plan plan_for judge_for judge_of record_bytes_of size_tag body_of template_of with_c6 chosen decision_of decision_at ef_decision deletion life_decision
-    decision_for step_j denial_of pool_fits fits due_of reply_of image_of pool_of response_of is_free above_gap gap_bytes moved_for pack_count pack_of
-    packable pack_image pack_pool
+    decision_for step_j denial_of pool_fits fits due_of reply_of image_of pool_of response_of
 a_call = tt

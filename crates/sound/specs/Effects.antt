@@ -1,5 +1,5 @@
 -- What each effect leaves of an image (01 "Making", "SELECT", "CREATE", "DELETE", the life cycles) and of the pool (02 Ticket 4),
--- byte for byte, and how many bytes CREATE moves (02 Ticket 8). SELECT leaves `set_current`, a change of life cycle `set_life`.
+-- byte for byte. SELECT leaves `set_current`, a change of life cycle `set_life`.
 use Rattle.std.specs.Prelude.{◌≡◌, List, [], ◌++◌, ◌∷◌, Bool, true, cond, ◌&&◌, ℕ, zero, suc, ◌+◌, ◌*◌, ◌-◌, ◌<◌, ◌≤◌, eqb, ltb, length, replicate}
 use Rattle.laws.specs.declared.Found.{Found}
 use Rattle.laws.specs.declared.Found.TheVariants.{At, Nothing}
@@ -14,7 +14,7 @@ use Rattle.image.specs.Layout.{has_bodies, rec_at, with_start, set_start}
 use Rattle.access.specs.Access.{fits_record}
 use Rattle.pool.specs.Bodies.{start_at, body_at}
 use Rattle.pool.specs.Packed.{packed_start}
-use Rattle.pool.specs.Places.{gap_for, place_at, place_moved, place_image, place_pool}
+use Rattle.pool.specs.Places.{gap_for, place_at, place_image, place_pool}
 use Rattle.pool.specs.Wiped.{wipe_below}
 use Rattle.sound.specs.Table.{File, view_at}
 use Rattle.sound.specs.Sound.{pool_length}
@@ -62,10 +62,6 @@ filled img pool h =
     cond (eqb (new_body (version_of img) h) 0) pool
     (splice (place_pool (new_gap img h) (count_of img) img pool) (place_at (new_gap img h) (count_of img) img)
     (replicate (new_body (version_of img) h) 0xFF))
-
--- .. and the bytes moved for it: none where it has no body, or a gap fits
-unfoldable pub moved_for : List ℕ → Head → ℕ
-moved_for img h = cond (eqb (new_body (version_of img) h) 0) 0 (place_moved (new_gap img h) (count_of img) img)
 
 -- what the data of a new file must satisfy by themselves, on a card of a version
 pub record GoodRecord (v : ℕ) (h : Head) (name rule : List ℕ) : Type 0 where

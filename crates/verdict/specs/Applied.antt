@@ -1,9 +1,9 @@
--- What a verdict gives: its word, image and pool afterwards, byte for byte, and the bytes moved. A refusal leaves them as they came.
+-- What a verdict gives: its word, and image and pool afterwards, byte for byte. A refusal leaves them as they came.
 use Rattle.std.specs.Prelude.{ℕ, List, drop}
 use Rattle.laws.specs.Lists.{splice}
 use Rattle.template.specs.Objects.{bytes_at}
 use Rattle.image.specs.Layout.{set_life, set_current}
-use Rattle.sound.specs.Effects.{made, filled, moved_for, deleted, wiped}
+use Rattle.sound.specs.Effects.{made, filled, deleted, wiped}
 use Rattle.verdict.specs.declared.Verdict.{Verdict}
 use Rattle.verdict.specs.declared.Verdict.TheVariants.{Refuse, Select, Create, Delete, SetLife, Read, Update}
 use Rattle.verdict.specs.Words.{done}
@@ -40,13 +40,3 @@ pooled_of img pool c (Delete s) = wiped img pool s
 pooled_of img pool c (SetLife s life) = pool
 pooled_of img pool c (Read at n) = pool
 pooled_of img pool c (Update at) = splice pool at (sent_data c)
-
--- .. and how many bytes of bodies were moved (02 Ticket 8)
-abbrev pub moved_of : List ℕ → Verdict → ℕ
-moved_of img (Refuse word) = 0
-moved_of img (Select d e word) = 0
-moved_of img (Create x) = moved_for img x.head
-moved_of img (Delete s) = 0
-moved_of img (SetLife s life) = 0
-moved_of img (Read at n) = 0
-moved_of img (Update at) = 0

@@ -4,7 +4,7 @@
 //! without. The first cards are of version 1, so that their lines compare with
 //! earlier ones; cards of version 2 with rules of both forms follow, and cards of
 //! version 3 with bodies, their commands also beside SELECT and one copy of the
-//! pool, and PACK beside soundness; and cards whose files' rules stand in one file, beside the same cards whose
+//! pool; and cards whose files' rules stand in one file, beside the same cards whose
 //! files have them in their own records. Below each card its slowest command stands beside what is wanted
 //! (docs/SPEED.md).
 //!

@@ -19,12 +19,8 @@ const AGAINST_SELECT: &str = "commands / SELECT of the last file, in turn in one
 const VERSIONS: &str =
     "soundness of version 3 / of the same files on version 2, in turn in one run";
 const OF_POOL: &str = "copies of the pool";
-const PACKS: &str = "PACK over soundness, in turn in one run, in copies of the pool";
 const AGAINST_OWN: &str =
     "rules in one file / in the files' own records, the same card, in turn in one run";
-
-/// What was not measured.
-const NONE: Times = Times { median: f64::NAN, lowest: f64::NAN };
 
 /// One shape in all sizes.
 pub struct Measured<'a, W> {
@@ -54,9 +50,7 @@ impl<W: Write> Measured<'_, W> {
             self.against_own(tasks)
         } else if has_bodies {
             self.ratios(AGAINST_SELECT, &Task::AGAINST_SELECT)?;
-            let copies = self.starts().map(|start| measure_copy(start.pool.len(), self.budget));
-            self.copies_of_the_pool(&rows, &copies)?;
-            self.packs(&copies)?;
+            self.copies_of_the_pool(&rows)?;
             self.versions()
         } else {
             self.ratios(TEMPLATES, &Task::TEMPLATES)
@@ -92,42 +86,18 @@ impl<W: Write> Measured<'_, W> {
     }
 
     /// The commands about bodies, in copies of the pool.
-    fn copies_of_the_pool(
-        &mut self,
-        rows: &[(Task, [Cell; 4])],
-        copies: &[Times; 4],
-    ) -> io::Result<()> {
+    fn copies_of_the_pool(&mut self, rows: &[(Task, [Cell; 4])]) -> io::Result<()> {
+        let copies = self.starts().map(|start| measure_copy(start.pool.len(), self.budget));
         writeln!(self.out, "{}", table::ratio_head(OF_POOL, &SIZES))?;
         let about_bodies = |task: Task| Task::AGAINST_SELECT.iter().any(|(.., of)| *of == task);
         for (task, cells) in rows.iter().filter(|(task, _)| about_bodies(*task)) {
-            let mut sizes = cells.iter().zip(copies).map(|(cell, copy)| Times {
+            let mut sizes = cells.iter().zip(&copies).map(|(cell, copy)| Times {
                 median: cell.card.median / copy.median,
                 lowest: cell.card.lowest / copy.lowest,
             });
-            let ratios = [(); 4].map(|()| sizes.next().unwrap_or(NONE));
+            let none = Times { median: f64::NAN, lowest: f64::NAN };
+            let ratios = [(); 4].map(|()| sizes.next().unwrap_or(none));
             writeln!(self.out, "{}", table::ratio_row(task.title(), &ratios, 1))?;
-        }
-        Ok(())
-    }
-
-    /// What PACK takes beside its test of soundness, and what is wanted.
-    fn packs(&mut self, copies: &[Times; 4]) -> io::Result<()> {
-        writeln!(self.out, "{}", table::ratio_head(PACKS, &SIZES))?;
-        for (task, wanted) in Task::PACKS {
-            let mut sizes = self.starts().into_iter().zip(copies).map(|(start, copy)| {
-                let (start, call) = task.prepared(start);
-                let sound = |lent: &mut Lent| by_card(&Call::Sound, lent);
-                let pack = |lent: &mut Lent| by_card(&call, lent);
-                let (sound, pack) = measure((&start, sound), (&start, pack), self.budget);
-                Times {
-                    median: (pack.median - sound.median) / copy.median,
-                    lowest: (pack.lowest - sound.lowest) / copy.lowest,
-                }
-            });
-            let ratios = [(); 4].map(|()| sizes.next().unwrap_or(NONE));
-            drop(sizes);
-            let row = table::ratio_row(task.title(), &ratios, 1);
-            writeln!(self.out, "{row} wanted at N {}: at most {wanted}", SIZES[3])?;
         }
         Ok(())
     }
@@ -171,7 +141,6 @@ fn by_card(call: &Call, lent: &mut Lent) -> u16 {
         Call::Sound => u16::from(!lent::is_sound(image)),
         Call::Report => u16::from(lent::report(image).is_err()),
         Call::Rule(slot) => u16::from(lent::rule_place(image, pool, *slot).is_err()),
-        Call::Pack => u16::from(lent::pack(image, pool).is_err()),
         Call::Command(bytes) | Call::Unauthenticated(bytes) => {
             let mut response = [0; LONGEST_RESPONSE];
             let state = match call {
@@ -191,7 +160,6 @@ fn by_model(call: &Call, lent: &mut Lent) -> u16 {
         Call::Sound => u16::from(!model::sound(image)),
         Call::Report => u16::from(model::report(image).0),
         Call::Rule(slot) => u16::from(place_of(image, pool, *slot).0 != 0),
-        Call::Pack => u16::from(model::pack(image, pool).0 != 0),
         Call::Command(bytes) | Call::Unauthenticated(bytes) => {
             let mut response = [0; LONGEST_RESPONSE];
             let state = match call {

@@ -11,7 +11,7 @@ use crate::bodied::BYTES;
 use crate::referred::{Ruling, FILE_BYTES};
 use prepare::{
     beside_last_file, last_file_again, last_slot, of_last_body, of_last_record, on_last_file,
-    packed, refused_by, refused_by_rule, select_last, with_template, NEVER, USER_1,
+    refused_by, refused_by_rule, select_last, with_template, NEVER, USER_1,
 };
 
 /// A body of so many bytes finds a gap on every card with bodies.
@@ -24,7 +24,6 @@ pub enum Call {
     Report,
     /// Where the rule of the file in a slot stands.
     Rule(usize),
-    Pack,
     /// Every condition holds that can hold.
     Command(Vec<u8>),
     /// No condition holds but those that always do.
@@ -48,8 +47,6 @@ pub enum Task {
     CreateEf,
     CreateInGap,
     CreateMoving,
-    PackMoving,
-    PackStill,
     DeleteFile,
     DeleteTree,
     Activate,
@@ -92,7 +89,7 @@ impl Task {
     ];
 
     /// What is measured on a card with bodies.
-    pub const BODIED: [Task; 17] = [
+    pub const BODIED: [Task; 15] = [
         Task::Sound,
         Task::Report,
         Task::UnknownInstruction,
@@ -103,8 +100,6 @@ impl Task {
         Task::Update,
         Task::CreateInGap,
         Task::CreateMoving,
-        Task::PackMoving,
-        Task::PackStill,
         Task::DeleteFile,
         Task::DeleteTree,
         Task::Activate,
@@ -138,9 +133,6 @@ impl Task {
         Task::TerminateDf,
     ];
 
-    /// PACK, with how many copies of the pool it is to take at most over soundness.
-    pub const PACKS: [(Task, f64); 2] = [(Task::PackMoving, 15.0), (Task::PackStill, 5.0)];
-
     /// Each SELECT with the one that answers the template, and what both select.
     pub const TEMPLATES: [(&'static str, Task, Task); 2] = [
         ("the root", Task::SelectRoot, Task::SelectRootTemplate),
@@ -172,8 +164,6 @@ impl Task {
             Task::CreateEf => "CREATE, an EF",
             Task::CreateInGap => "CREATE, a gap fits",
             Task::CreateMoving => "CREATE, all moved",
-            Task::PackMoving => "PACK, all moved",
-            Task::PackStill => "PACK, nothing moved",
             Task::DeleteFile => "DELETE, last file",
             Task::DeleteTree => "DELETE, first in root",
             Task::Activate => "ACTIVATE",
@@ -208,8 +198,6 @@ impl Task {
             Task::Update => Call::Command(of_last_body(&mut card, 0xD6, &[0x5A; BYTES as usize])),
             Task::CreateInGap => Call::Command(beside_last_file(&mut card, FEW_BYTES)),
             Task::CreateMoving => Call::Command(beside_last_file(&mut card, BYTES)),
-            Task::PackMoving => Call::Pack,
-            Task::PackStill => return (packed(start), Call::Pack),
             Task::CreateDf => Call::Command(last_file_again(&mut card, 0x78)),
             Task::CreateEf => Call::Command(last_file_again(&mut card, 0x41)),
             Task::DeleteFile => {

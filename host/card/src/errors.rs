@@ -6,10 +6,6 @@ use std::fmt;
 use crate::kind::{Form, Kind, Rule};
 use crate::{image_length, FEWEST_SLOTS, LONGEST_RESPONSE, MOST_SLOTS};
 
-mod pack;
-
-pub use pack::PackError;
-
 /// Why the maker refused. The buffer is as it came.
 #[derive(Clone, Copy, PartialEq, Eq, Debug)]
 pub enum MakeError {

@@ -29,13 +29,6 @@ extern "C" {
         channels: u8,
         numbers: *mut u32,
     ) -> c_uint;
-    fn hull_pack(
-        image: *mut u8,
-        image_len: usize,
-        pool: *mut u8,
-        pool_len: usize,
-        numbers: *mut u32,
-    ) -> c_uint;
     fn hull_report(image: *const u8, image_len: usize, numbers: *mut u32) -> c_uint;
     fn hull_rule(
         image: *const u8,
@@ -60,9 +53,8 @@ pub fn make(image: &mut [u8], kind: u32, total: u32, form: u32, rule: &[u8]) -> 
 
 /// The answer in the high half of the first number, the word in its low half.
 /// Then the call's three numbers: how many bytes of the response were written;
-/// what a security refusal lacks, 1 or 2 with word 6982 and else 0; how many bytes
-/// of bodies were moved. They start as no call could leave them, to show that each
-/// is written.
+/// what a security refusal lacks, 1 or 2 with word 6982 and else 0; and one that
+/// is 0. They start as no call could leave them, to show that each is written.
 pub fn command(
     image: &mut [u8],
     pool: &mut [u8],
@@ -96,19 +88,6 @@ pub fn command(
         )
     };
     (both, numbers)
-}
-
-/// The answer of PACK, 0, 1 or 6, and its number: how many bytes of bodies were
-/// moved. It starts as no call could leave it, to show that it is written.
-pub fn pack(image: &mut [u8], pool: &mut [u8]) -> (u32, [u32; 1]) {
-    let mut numbers = [u32::MAX; 1];
-    let (image_start, pool_start) = (image.as_mut_ptr(), pool.as_mut_ptr());
-    let written = numbers.as_mut_ptr();
-    // SAFETY: as for `command`: image and pool are live slices with their own
-    // lengths, borrowed for this call alone, and do not overlap; the library
-    // keeps no pointer, and writes one number, for which `numbers` has room.
-    let answer = unsafe { hull_pack(image_start, image.len(), pool_start, pool.len(), written) };
-    (answer, numbers)
 }
 
 /// The answer; total, room, children and files beneath, all 0 with answer 1.

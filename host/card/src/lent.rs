@@ -1,8 +1,8 @@
-//! The six calls of the proved card on buffers of the caller's. They may hold
+//! The five calls of the proved card on buffers of the caller's. They may hold
 //! anything; what is not a sound image with a pool of its length is found and
 //! left alone.
 
-use crate::errors::{CommandError, Damaged, MakeError, PackError, PlaceError};
+use crate::errors::{CommandError, Damaged, MakeError, PlaceError};
 use crate::ffi;
 use crate::kind::{Kind, Rule};
 use crate::place::Place;
@@ -33,9 +33,6 @@ pub struct Answer {
     pub security: Security,
     /// How many bytes of data stand at the start of the response.
     pub data_length: usize,
-    /// How many bytes of bodies were moved, counted as by [`pack`]: 0 but for a
-    /// CREATE of a file that no gap fitted.
-    pub moved: u32,
 }
 
 /// Makes a fresh card in the buffer: only the root, which is current. Its pool,
@@ -66,47 +63,31 @@ pub fn command(
     state: &State,
 ) -> Result<Answer, CommandError> {
     let sets = [state.messaging, state.external, state.user];
-    let (both, [written, lacking, moved]) =
+    let (both, [written, lacking, _]) =
         ffi::command(image, pool, command, response, sets, state.channels);
     let data_length = usize::try_from(written).unwrap_or(usize::MAX);
     match both >> 16 {
         0 if data_length <= response.len() => {
-            let word = Word((both & 0xFFFF) as u16);
-            Ok(Answer { word, security: refused(word, lacking)?, data_length, moved })
+            done(Word((both & 0xFFFF) as u16), lacking, data_length)
         }
         1 => Err(CommandError::Damaged),
         5 => Err(CommandError::ShortResponse),
-        6 => Err(CommandError::WrongPool { wanted: wanted(image), given: pool.len() }),
+        6 => {
+            let wanted = pool_length(image).unwrap_or(0);
+            Err(CommandError::WrongPool { wanted, given: pool.len() })
+        }
         answer => Err(CommandError::Unknown(answer)),
     }
 }
 
-/// What the library's number for what a refusal lacks tells beside a word. Only a
-/// security refusal lacks anything; with another word the number means nothing
+/// What answer 0 tells, with the library's number for what a refusal lacks. Only
+/// a security refusal lacks anything; with another word the number means nothing
 /// that is known.
-fn refused(word: Word, lacking: u32) -> Result<Security, CommandError> {
+fn done(word: Word, lacking: u32, data_length: usize) -> Result<Answer, CommandError> {
     let known = Security::of_number(lacking);
     let fits = |security: &Security| *security == Security::NoRefusal || word == Word::SECURITY;
-    known.filter(fits).ok_or(CommandError::UnknownSecurity(lacking))
-}
-
-/// How long a pool must be that the library did not take for its length.
-fn wanted(image: &[u8]) -> usize {
-    pool_length(image).unwrap_or(0)
-}
-
-/// Moves all bodies down, so that they lie without a gap from the start of the
-/// pool on, and gives how many bytes of bodies were moved: the sizes of those that
-/// lay above a gap. What the files hold stays, and so does all of the image but
-/// the starts of these bodies. No rule is asked, and a terminated card is packed
-/// too. The pool is as for [`command`]; where there are no bodies nothing changes.
-pub fn pack(image: &mut [u8], pool: &mut [u8]) -> Result<u32, PackError> {
-    match ffi::pack(image, pool) {
-        (0, [moved]) => Ok(moved),
-        (1, _) => Err(PackError::Damaged),
-        (6, _) => Err(PackError::WrongPool { wanted: wanted(image), given: pool.len() }),
-        (answer, _) => Err(PackError::Unknown(answer)),
-    }
+    let security = known.filter(fits).ok_or(CommandError::UnknownSecurity(lacking))?;
+    Ok(Answer { word, security, data_length })
 }
 
 /// Reports on the current directory.
@@ -127,7 +108,10 @@ pub fn rule_place(image: &[u8], pool: &[u8], slot: usize) -> Result<Place, Place
         (0, numbers) => Place::of_numbers(numbers, image.len(), pool.len())
             .ok_or(PlaceError::UnknownPlace(numbers)),
         (1, _) => Err(PlaceError::Damaged),
-        (6, _) => Err(PlaceError::WrongPool { wanted: wanted(image), given: pool.len() }),
+        (6, _) => {
+            let wanted = pool_length(image).unwrap_or(0);
+            Err(PlaceError::WrongPool { wanted, given: pool.len() })
+        }
         (answer, _) => Err(PlaceError::Unknown(answer)),
     }
 }
@@ -146,14 +130,15 @@ mod tests {
     fn a_number_that_is_not_known_is_an_error() {
         let word = Word(0x6982);
         for security in Security::ALL {
-            assert_eq!(refused(word, security.number()), Ok(security));
+            let answer = Answer { word, security, data_length: 0 };
+            assert_eq!(done(word, security.number(), 0), Ok(answer));
         }
         for number in [3, 0x0001_0000, 0x0100_0002, u32::MAX] {
-            assert_eq!(refused(word, number), Err(CommandError::UnknownSecurity(number)));
+            assert_eq!(done(word, number, 0), Err(CommandError::UnknownSecurity(number)));
         }
         for (number, word) in [(1, 0x9000), (2, 0x6985), (1, 0x6981)] {
-            assert_eq!(refused(Word(word), number), Err(CommandError::UnknownSecurity(number)));
+            assert_eq!(done(Word(word), number, 0), Err(CommandError::UnknownSecurity(number)));
         }
-        assert_eq!(refused(Word(0x6985), 0), Ok(Security::NoRefusal));
+        assert!(done(Word(0x6985), 0, 0).is_ok());
     }
 }

@@ -1,7 +1,7 @@
 //! The proved card, safe to use from Rust.
 //!
 //! [`Card`] owns its image and its pool and is what most programs want;
-//! [`lent`] has the same six calls on buffers of the caller's, sound or not.
+//! [`lent`] has the same five calls on buffers of the caller's, sound or not.
 //! Everything that decides is the proved library; here bytes are handed to it,
 //! and its numbers get names. No input makes a function of this crate panic.
 //!
@@ -28,8 +28,7 @@
 //! | what a security refusal lacks | [`Security`] |
 //! | where the rule that decides on a file stands | [`Place`] |
 //! | a word with all that came with it | [`Reply`] |
-//! | bodies moved down at a time of the caller's choice | [`Card::pack`], [`lent::pack`] |
-//! | what goes wrong | [`MakeError`], [`CommandError`], [`PackError`], [`PlaceError`], [`Damaged`], [`RefusedParts`] |
+//! | what goes wrong | [`MakeError`], [`CommandError`], [`PlaceError`], [`Damaged`], [`RefusedParts`] |
 
 #![deny(unsafe_code)]
 #![warn(missing_docs)]
@@ -54,7 +53,7 @@ mod security;
 mod state;
 mod word;
 
-pub use errors::{CommandError, Damaged, MakeError, PackError, PlaceError, RefusedParts};
+pub use errors::{CommandError, Damaged, MakeError, PlaceError, RefusedParts};
 pub use kind::{Form, Kind, Rule, REFERENCE_BYTES};
 pub use lent::{Answer, Report};
 pub use owned::{Card, Reply};

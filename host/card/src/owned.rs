@@ -2,7 +2,7 @@
 
 use std::fmt;
 
-use crate::errors::{CommandError, Damaged, MakeError, PackError, PlaceError, RefusedParts};
+use crate::errors::{CommandError, Damaged, MakeError, PlaceError, RefusedParts};
 use crate::kind::{Kind, Rule};
 use crate::lent::{self, Answer, Report};
 use crate::place::Place;
@@ -21,13 +21,10 @@ pub struct Reply {
     /// The data: what a READ reads, the template of a SELECT that wants it,
     /// else nothing.
     pub data: Vec<u8>,
-    /// How many bytes of bodies were moved: 0 but for a CREATE of a file that no
-    /// gap fitted.
-    pub moved: u32,
 }
 
 /// A card with its image and its pool. It is sound from the start, and that
-/// every command and [`Card::pack`] keep it so is proved.
+/// every command keeps it so is proved.
 #[derive(Clone, PartialEq, Eq)]
 pub struct Card {
     image: Vec<u8>,
@@ -67,16 +64,10 @@ impl Card {
     /// enough.
     pub fn command(&mut self, command: &[u8], state: &State) -> Result<Reply, CommandError> {
         let mut response = [0; LONGEST_RESPONSE];
-        let Answer { word, security, data_length, moved } =
+        let Answer { word, security, data_length } =
             lent::command(&mut self.image, &mut self.pool, command, &mut response, state)?;
         let data = response.into_iter().take(data_length).collect();
-        Ok(Reply { word, security, data, moved })
-    }
-
-    /// Moves all bodies down and gives how many bytes of them were moved; see
-    /// [`lent::pack`].
-    pub fn pack(&mut self) -> Result<u32, PackError> {
-        lent::pack(&mut self.image, &mut self.pool)
+        Ok(Reply { word, security, data })
     }
 
     /// Reports on the current directory.
@@ -101,7 +92,7 @@ impl Card {
         lent::is_sound(&self.image)
     }
 
-    /// What card it is. No call changes that.
+    /// What card it is. No command changes that.
     pub fn kind(&self) -> Kind {
         Kind::of_image(&self.image)
     }

@@ -36,8 +36,6 @@ pub enum Action {
     CreateLarge,
     /// An EF whose body fits a gap exactly, lacks a byte in it, or fits none.
     CreateByGaps,
-    /// An EF for which others must be moved, as it fits no gap.
-    CreateMoving,
     /// An identifier of a sibling, the current DF or one above.
     CreateTakenIdentifier,
     /// A name that is on the card.
@@ -77,7 +75,7 @@ pub enum Action {
 }
 
 /// The mix of all actions, those that succeed more often.
-const MIX: [(Action, usize); 28] = [
+const MIX: [(Action, usize); 27] = [
     (Action::CreateEf, 12),
     (Action::CreateDf, 8),
     (Action::CreateExact, 3),
@@ -89,7 +87,6 @@ const MIX: [(Action, usize); 28] = [
     (Action::CreateInState, 4),
     (Action::CreateLarge, 2),
     (Action::CreateByGaps, 4),
-    (Action::CreateMoving, 3),
     (Action::CreateTakenIdentifier, 2),
     (Action::CreateTakenName, 1),
     (Action::CreateBroken, 2),

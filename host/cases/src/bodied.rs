@@ -18,21 +18,14 @@ const MOST_RECORDS: u32 = 254;
 
 /// A card with bodies, if the newest version has them.
 pub fn card(random: &mut Random) -> Card {
-    let layout = Layout::any(random);
-    let mut card = card_of(random, layout, u32::MAX);
-    choose_current(random, &mut card);
-    card
-}
-
-/// The same with bodies of at most so many bytes, laid out in this way; the root
-/// is current.
-pub(crate) fn card_of(random: &mut Random, layout: Layout, largest: u32) -> Card {
     let slots = random.range(4, 24) as usize;
     let mut card = images::empty_card_of(random, editions::NEWEST, slots);
     for _ in 0..random.range(1, MOST_FILES) {
-        add(random, &mut card, largest);
+        add(random, &mut card);
     }
+    let layout = Layout::any(random);
     lay_out(random, &mut card, layout);
+    choose_current(random, &mut card);
     card
 }
 
@@ -49,16 +42,13 @@ fn choose_current(random: &mut Random, card: &mut Card) {
 }
 
 /// Adds a file in any free slot, an EF mostly in the root.
-fn add(random: &mut Random, card: &mut Card, largest: u32) -> Option<()> {
+fn add(random: &mut Random, card: &mut Card) -> Option<()> {
     let free: Vec<_> = (0..card.records.len()).filter(|&s| !card.record(s).is_used()).collect();
     let slot = *random.choose(&free)?;
     let directories: Vec<_> = card.used_slots().filter(|&s| card.record(s).is_df()).collect();
     let df = if random.chance(60) { 0 } else { *random.choose(&directories)? };
     let most = u32::try_from(card.room(df).checked_sub(65)?).ok()? + 1;
-    let (kind, descriptor, record_length, size) = match random.below(8) {
-        0 => (Kind::Df, 0x78, 0, random.range(most / 3 + 1, most)),
-        _ => measures(random, most.min(largest)),
-    };
+    let (kind, descriptor, record_length, size) = measures(random, most);
     let rule = rules::mostly_open(random, card.edition);
     // What lies beneath a terminated directory is neither read nor written.
     let life_cycle = match (kind, random.chance(80)) {
@@ -83,16 +73,17 @@ fn add(random: &mut Random, card: &mut Card, largest: u32) -> Option<()> {
     Some(())
 }
 
-/// Kind, descriptor, record length and size of an EF of at most so many bytes:
-/// bytes, one or few or all that there is room for; records, few or as many as
-/// can be.
+/// Kind, descriptor, record length and size of at most so many bytes: a
+/// directory; bytes, one or few or all that there is room for; records, few or
+/// as many as can be.
 fn measures(random: &mut Random, most: u32) -> (Kind, u8, u16, u32) {
     let transparent = random.pick([0x01, 0x41, 0x49]);
-    let size = match random.below(14) {
-        0 | 1 => 1,
-        2 => most,
-        3 => random.range(1, most),
-        4..=7 => random.range(1, most.min(40)),
+    let size = match random.below(16) {
+        0 | 1 => return (Kind::Df, 0x78, 0, random.range(most / 3 + 1, most)),
+        2 | 3 => 1,
+        4 => most,
+        5 => random.range(1, most),
+        6..=9 => random.range(1, most.min(40)),
         _ => {
             let length = if random.chance(25) { 1 } else { random.range(1, most.min(9)) };
             let fitting = (most / length).min(MOST_RECORDS);

@@ -2,7 +2,7 @@
 
 use model::edition::{Edition, Version};
 use model::lines::Case as Line;
-use model::{command, pack, Outcome, State};
+use model::{command, Outcome, State};
 
 use crate::again::{by_model, Again};
 use crate::editions;
@@ -10,50 +10,15 @@ use crate::rules::{self, Rule};
 use crate::template::create_command;
 
 /// One command of a history with the lent response buffer and the caller's
-/// state; at times with a PACK before it.
+/// state.
 #[derive(Clone, PartialEq, Eq, Debug)]
 pub struct Step {
-    /// PACK is called first (02, Ticket 8).
-    pub pack: bool,
     /// The command.
     pub command: Vec<u8>,
     /// The response buffer.
     pub response: Vec<u8>,
     /// The state given with it.
     pub state: State,
-}
-
-impl Step {
-    /// A command alone, under the full state and with no response buffer.
-    pub fn plain(command: Vec<u8>) -> Step {
-        Step { pack: false, command, response: Vec::new(), state: State::FULL }
-    }
-
-    /// The line of the PACK before it, if there is one.
-    pub fn pack_line(&self, lent: &Lent) -> Option<Line> {
-        self.pack.then(|| {
-            let Lent { image, pool } = lent.clone();
-            Line::Pack { image, pool }
-        })
-    }
-
-    /// The line of its command.
-    pub fn line(&self, lent: &Lent) -> Line {
-        Line::command(&lent.image, &lent.pool, &self.command, &self.response, self.state)
-    }
-
-    /// Calls PACK by the model, if it comes first.
-    pub fn pack_first(&self, lent: &mut Lent) {
-        if self.pack {
-            pack(&mut lent.image, &mut lent.pool);
-        }
-    }
-
-    /// Runs its command by the model.
-    pub fn run(&self, lent: &mut Lent) -> Outcome {
-        let Lent { image, pool } = lent;
-        command(image, pool, &self.command, &mut self.response.clone(), &self.state)
-    }
 }
 
 /// What is lent with a command to be changed by it.
@@ -106,13 +71,14 @@ impl History {
     }
 
     /// Runs the history by the model; `see` gets, for each step, image and pool
-    /// before its command, the step, the outcome, image and pool after.
+    /// before, the step, the outcome, image and pool after.
     pub fn play(&self, mut see: impl FnMut(&Lent, &Step, Outcome, &Lent)) {
         let mut lent = self.fresh();
         for step in &self.steps {
-            step.pack_first(&mut lent);
             let before = lent.clone();
-            let outcome = step.run(&mut lent);
+            let mut response = step.response.clone();
+            let Lent { image, pool } = &mut lent;
+            let outcome = command(image, pool, &step.command, &mut response, &step.state);
             see(&before, step, outcome, &lent);
         }
     }
@@ -140,13 +106,6 @@ pub enum Case {
     Report {
         /// The image.
         image: Vec<u8>,
-    },
-    /// A call of PACK.
-    Pack {
-        /// The image.
-        image: Vec<u8>,
-        /// The pool.
-        pool: Vec<u8>,
     },
     /// A call of the maker.
     Make {
@@ -204,8 +163,7 @@ const TEMPLATE_POOL: u8 = 0xC3;
 
 impl Case {
     /// The case as lines of the vectors: a history is the maker's line and
-    /// one line for each PACK and each command on the image that the model has by
-    /// then.
+    /// one line for each command on the image that the model has by then.
     pub fn lines(&self) -> Vec<Line> {
         match self {
             Case::History(history) => history_lines(history),
@@ -213,9 +171,6 @@ impl Case {
                 vec![Line::command(image, pool, command, response, *state)]
             }
             Case::Report { image } => vec![Line::Report { image: image.clone() }],
-            Case::Pack { image, pool } => {
-                vec![Line::Pack { image: image.clone(), pool: pool.clone() }]
-            }
             Case::Make { buffer, version, total, form, rule } => vec![Line::Make {
                 buffer: buffer.clone(),
                 version: *version,
@@ -236,13 +191,10 @@ impl Case {
 
 fn history_lines(history: &History) -> Vec<Line> {
     let mut lines = vec![history.make()];
-    let mut lent = history.fresh();
-    for step in &history.steps {
-        lines.extend(step.pack_line(&lent));
-        step.pack_first(&mut lent);
-        lines.push(step.line(&lent));
-        step.run(&mut lent);
-    }
+    history.play(|before, step, _, _| {
+        let Lent { image, pool } = before;
+        lines.push(Line::command(image, pool, &step.command, &step.response, step.state));
+    });
     lines
 }
 

@@ -55,7 +55,6 @@ pub fn data_for(
         | Action::CreateLarge
         | Action::CreateDeep => by_size(action, random, &place)?,
         Action::CreateByGaps => by_gaps(random, card, &place)?,
-        Action::CreateMoving => moving(random, card, &place)?,
         Action::CreateTakenIdentifier | Action::CreateLastDeleted => {
             by_identifier(action, random, card, &place, remembered)?
         }
@@ -112,16 +111,6 @@ fn by_gaps(random: &mut Random, card: &Card, place: &Place) -> Option<FileData> 
     };
     let wanted = card.edition.has_bodies() && size <= most;
     wanted.then(|| elementary(random, place.identifier, size))
-}
-
-/// An EF that is larger than all gaps, by one byte or more, if the room pays for
-/// it and there is a body to be moved.
-fn moving(random: &mut Random, card: &Card, place: &Place) -> Option<FileData> {
-    let largest = layouts::gaps(card).into_iter().max()?;
-    let most = place.most.filter(|&most| most > largest && card.edition.has_bodies())?;
-    let size = random.range(largest + 1, most);
-    let size = random.pick([largest + 1, size, size, most]);
-    Some(elementary(random, place.identifier, size))
 }
 
 fn by_identifier(

@@ -117,10 +117,7 @@ pub fn damaged(random: &mut Random, card: &Card, field: Field) -> Vec<u8> {
 /// Damage in a used record.
 fn record(random: &mut Random, card: &Card, field: Field, slot: usize, image: &mut [u8]) {
     match field {
-        Field::Kind => {
-            let other = if card.record(slot).is_df() { 2 } else { 1 };
-            set(image, at(slot, 0), &[random.pick([0, 3, 0xFF, other, other])]);
-        }
+        Field::Kind => set(image, at(slot, 0), &[random.pick([0, 3, 0xFF, 1, 2])]),
         Field::Descriptor => {
             let byte = random.pick([0x00, 0x79, 0x21, 0xB8, 0xC1, 0x40, 0x44, 0xFF]);
             set(image, at(slot, 1), &[byte]);

@@ -10,7 +10,7 @@ use crate::damage::{damaged, Field};
 use crate::history::{fitting_command, history, history_with};
 use crate::random::Random;
 use crate::themes::Theme;
-use crate::{bodied, breach, editions, images, makers, packs, places, pools, raw};
+use crate::{bodied, breach, editions, images, makers, places, pools, raw};
 use crate::{responses, rule_files, ruled, rules, security, states, streams, worst};
 
 /// What a case is made for.
@@ -32,10 +32,6 @@ pub enum Kind {
     NearMiss,
     /// READ, UPDATE, CREATE or DELETE on a sound image made for its bodies.
     Bodies,
-    /// A call of PACK.
-    Pack,
-    /// CREATE where no gap is large enough, so that bodies are moved.
-    Moving,
     /// A command that comes to step J, its rules made for one decision each.
     Security,
     /// A history of locked files, under states that open them or lack something.
@@ -54,7 +50,7 @@ pub enum Kind {
     Replay,
     /// A rule under a state.
     Rule,
-    /// A fitting command, a report or a PACK on a worst-case card.
+    /// A fitting command or a report on a worst-case card.
     Worst,
     /// The files of a sound image, each made again by its template.
     FilesAgain,
@@ -64,7 +60,7 @@ pub enum Kind {
 
 impl Kind {
     /// All kinds with their weights in the mix.
-    pub const MIX: [(Kind, usize); 22] = [
+    pub const MIX: [(Kind, usize); 20] = [
         (Kind::History, 100),
         (Kind::SoundCommand, 300),
         (Kind::SoundReport, 60),
@@ -73,8 +69,6 @@ impl Kind {
         (Kind::RawCommand, 70),
         (Kind::NearMiss, 110),
         (Kind::Bodies, 140),
-        (Kind::Pack, 90),
-        (Kind::Moving, 70),
         (Kind::Security, 130),
         (Kind::Locked, 20),
         (Kind::Referred, 130),
@@ -181,8 +175,6 @@ pub fn make_case(random: &mut Random, kind: Kind) -> Case {
             let (command, state) = (bodied::command(random, &card), states::mostly_full(random));
             one_command(random, card.encode(), command, state)
         }
-        Kind::Pack => packs::case(random),
-        Kind::Moving => moving(random),
         Kind::Security => asking(random),
         Kind::Locked => Case::History(history_with(random, Theme::Locked)),
         Kind::Referred => referring(random),
@@ -219,14 +211,6 @@ fn fitting(random: &mut Random, card: &Card, image: Vec<u8>) -> Case {
 /// A command with a pool and a response buffer for it.
 fn one_command(random: &mut Random, image: Vec<u8>, command: Vec<u8>, state: State) -> Case {
     let pool = pools::lent(random, &image);
-    let response = responses::lent(random, &image, &pool, &command);
-    Case::OneCommand { image, pool, command, response, state }
-}
-
-/// A CREATE that mostly has to move bodies.
-fn moving(random: &mut Random) -> Case {
-    let (card, pool, command, state) = packs::moving(random);
-    let image = card.encode();
     let response = responses::lent(random, &image, &pool, &command);
     Case::OneCommand { image, pool, command, response, state }
 }
@@ -277,11 +261,7 @@ fn worst_case(random: &mut Random) -> Case {
     }
     let image = random.choose(&cards).map(|worst| worst.image.clone()).unwrap_or_default();
     match Card::decode(&image) {
-        Some(card) if random.chance(60) => fitting(random, &card, image),
-        _ if random.chance(50) => {
-            let pool = pools::lent(random, &image);
-            Case::Pack { image, pool }
-        }
+        Some(card) if random.chance(75) => fitting(random, &card, image),
         _ => Case::Report { image },
     }
 }

@@ -3,7 +3,7 @@
 
 use model::edition::Edition;
 use model::soundness::sound_card;
-use model::{words, Card, State};
+use model::{command, words, Card, State};
 
 use crate::actions::{bare, command_for, delete, select_by, Action};
 use crate::case::{History, Lent, Step};
@@ -15,10 +15,6 @@ use crate::{decided, editions, pools, responses, states};
 
 /// How often another action is tried where the card gives no occasion.
 const TRIES: usize = 6;
-/// How many of a hundred commands have a PACK before them; on cards without
-/// bodies, where it has nothing to do, fewer.
-const PACKS: usize = 6;
-const IDLE_PACKS: usize = 2;
 /// How many commands it takes at most to leave a gap.
 const STEPS_OF_A_GAP: usize = 4;
 
@@ -50,18 +46,16 @@ impl Writer {
         sound_card(&self.lent.image)
     }
 
-    /// Appends a command, at times with a PACK before it, and runs both.
-    pub(crate) fn push(&mut self, random: &mut Random, command: Vec<u8>, state: State) {
-        let percent = if self.history.edition.has_bodies() { PACKS } else { IDLE_PACKS };
-        let mut step = Step { pack: random.chance(percent), state, ..Step::plain(command) };
-        step.pack_first(&mut self.lent);
-        step.response = responses::lent(random, &self.lent.image, &self.lent.pool, &step.command);
-        let outcome = step.run(&mut self.lent);
-        let deletes = step.command.get(1) == Some(&0xE4) && outcome.word == words::SUCCESS;
-        if let (true, Some(&[high, low])) = (deletes, step.command.last_chunk::<2>()) {
+    /// Appends a command and runs it.
+    pub(crate) fn push(&mut self, random: &mut Random, bytes: Vec<u8>, state: State) {
+        let Lent { image, pool } = &mut self.lent;
+        let response = responses::lent(random, image, pool, &bytes);
+        let outcome = command(image, pool, &bytes, &mut response.clone(), &state);
+        let deletes = bytes.get(1) == Some(&0xE4) && outcome.word == words::SUCCESS;
+        if let (true, Some(&[high, low])) = (deletes, bytes.last_chunk::<2>()) {
             self.deleted = Some(u16::from_be_bytes([high, low]));
         }
-        self.history.steps.push(step);
+        self.history.steps.push(Step { command: bytes, response, state });
     }
 
     /// Runs the command of an action, if the card gives occasion for it; gives
@@ -73,16 +67,15 @@ impl Writer {
         Some(card.record(card.current_ef?).identifier)
     }
 
-    /// A large file below a small one is deleted, so that the next finds no gap,
-    /// or may find none.
+    /// A large file below a small one is deleted, so that the next may find no
+    /// gap.
     fn leave_a_gap(&mut self, random: &mut Random) {
         let large = self.act(random, Action::CreateLarge);
         self.act(random, Action::CreateEf);
         if let Some(large) = large {
             self.push(random, delete(large), State::FULL);
         }
-        let next = random.pick([Action::CreateByGaps, Action::CreateMoving]);
-        self.act(random, next);
+        self.act(random, Action::CreateByGaps);
     }
 
     /// One more step of the theme.
@@ -146,7 +139,7 @@ pub fn history_on(
     let mut writer = Writer::new(random, edition, slots, total, rule);
     while writer.history.steps.len() < steps {
         let left = steps - writer.history.steps.len();
-        if theme == Theme::Bodies && left > STEPS_OF_A_GAP && random.chance(20) {
+        if theme == Theme::Bodies && left > STEPS_OF_A_GAP && random.chance(15) {
             writer.leave_a_gap(random);
         }
         writer.step(random, theme);

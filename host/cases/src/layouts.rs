@@ -1,14 +1,10 @@
-//! Where bodies lie in the pool (02, Tickets 4 and 8): packed, far apart, at its
-//! end, with a single gap, in any order; the gaps between them; and starts that
-//! are wrong.
+//! Where bodies lie in the pool (02, Ticket 4): packed, far apart, at its end, in
+//! any order; the gaps between them; and starts that are wrong.
 
 use model::bodies::{body, in_order};
 use model::Card;
 
 use crate::random::Random;
-
-/// Below which of the lowest bodies a single gap may lie.
-const HIGHEST_GAP: usize = 4;
 
 /// How the free bytes lie.
 #[derive(Clone, Copy, PartialEq, Eq, Debug)]
@@ -23,10 +19,6 @@ pub enum Layout {
     FirstAtZero,
     /// A few between bodies, the others above.
     SmallGaps,
-    /// One below the body of this number, counted from 0, the others above.
-    OneByte(usize),
-    /// Half of them there, the others above.
-    Half(usize),
     /// By chance.
     Any,
 }
@@ -34,24 +26,15 @@ pub enum Layout {
 impl Layout {
     /// Any layout, those with gaps more often.
     pub fn any(random: &mut Random) -> Layout {
-        let number = random.below(HIGHEST_GAP);
         random.pick([
             Layout::Packed,
             Layout::AtTheEnd,
             Layout::FarApart,
             Layout::FirstAtZero,
             Layout::SmallGaps,
-            Layout::OneByte(number),
-            Layout::Half(number),
             Layout::Any,
             Layout::Any,
         ])
-    }
-
-    /// Such as leave no gap as large as all free bytes together.
-    pub fn scattered(random: &mut Random) -> Layout {
-        let number = random.below(HIGHEST_GAP);
-        random.pick([Layout::FarApart, Layout::FirstAtZero, Layout::Half(number), Layout::Any])
     }
 
     /// How many of the free bytes lie below the next body, if so many bodies are
@@ -63,9 +46,6 @@ impl Layout {
             Layout::FirstAtZero if done == 0 => 0,
             Layout::FarApart | Layout::FirstAtZero => free / (to_come as u32 + 1),
             Layout::SmallGaps => random.range(0, 3).min(free),
-            Layout::OneByte(number) if done == number => 1.min(free),
-            Layout::Half(number) if done == number => free / 2,
-            Layout::OneByte(_) | Layout::Half(_) => 0,
             Layout::Any => random.range(0, free) / random.pick([1, 2, 4]),
         }
     }
@@ -76,10 +56,8 @@ impl Layout {
 pub fn lay_out(random: &mut Random, card: &mut Card, layout: Layout) {
     let mut slots = in_order(card);
     slots.sort_unstable();
-    match random.below(10) {
-        0 | 1 => {}
-        2 => slots.reverse(),
-        _ => shuffle(random, &mut slots),
+    if random.chance(80) {
+        shuffle(random, &mut slots);
     }
     let bytes: u32 = slots.iter().map(|&slot| card.record(slot).size).sum();
     let mut free = card.record(0).size.saturating_sub(bytes);

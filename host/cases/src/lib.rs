@@ -24,7 +24,6 @@
 //! | histories on fresh cards | [`history`], [`themes`], [`actions`], [`creations`], [`choices`] |
 //! | sound images at random, and where their bodies lie | [`images`], [`layouts`] |
 //! | READ and UPDATE, cards made for them | [`bodies`], [`bodied`] |
-//! | PACK, and CREATEs that move bodies | [`packs`] |
 //! | images damaged in one field | [`damage`] |
 //! | raw commands and near-misses | [`raw`] |
 //! | every near-miss in turn | [`near`], [`near_kept`] |
@@ -67,7 +66,6 @@ pub mod life_cycles;
 pub mod makers;
 pub mod near;
 pub mod near_kept;
-pub mod packs;
 pub mod places;
 pub mod pools;
 pub mod random;

@@ -67,7 +67,7 @@ fn card_of(edition: Edition, file: &FileData) -> Lent {
         total,
         rule: rules::open(),
         pool: (0..total).map(|at| at as u8).collect(),
-        steps: commands.map(Step::plain).into(),
+        steps: commands.map(step).into(),
     };
     let mut lent = history.fresh();
     history.play(|_, _, _, after| lent = after.clone());
@@ -81,6 +81,10 @@ pub fn good_for_body(records: bool) -> [Vec<u8>; 2] {
         true => [vec![0x00, 0xB2, 2, 4, 3], vec![0x00, 0xDC, 2, 4, 3, 1, 2, 3]],
         false => [vec![0x00, 0xB0, 0, 2, 4], vec![0x00, 0xD6, 0, 2, 4, 1, 2, 3, 4]],
     }
+}
+
+fn step(command: Vec<u8>) -> Step {
+    Step { command, response: Vec::new(), state: State::FULL }
 }
 
 /// All near-misses of a good command: each of its first five bytes, and Le of

@@ -44,11 +44,15 @@ pub fn card() -> Lent {
         total: 320,
         rule: rules::open(),
         pool: (0..320).map(|at| at as u8).collect(),
-        steps: [rule_file.command(), update, ruled.command()].map(Step::plain).into(),
+        steps: [rule_file.command(), update, ruled.command()].map(step).into(),
     };
     let mut lent = history.fresh();
     history.play(|_, _, _, after| lent = after.clone());
     lent
+}
+
+fn step(command: Vec<u8>) -> Step {
+    Step { command, response: Vec::new(), state: State::FULL }
 }
 
 /// The card with each byte of these in the pool or the image replaced by every

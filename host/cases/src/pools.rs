@@ -1,12 +1,9 @@
 //! Pools (02, Ticket 4): as long as the root's total, one byte shorter or longer,
 //! none at all; of any length where there are no bodies. What they hold before
-//! is random, so that every byte that is written shows; or it tells of each byte
-//! which body it is of, so that one that is moved wrong shows too.
+//! is random, so that every byte that is written shows.
 
-use model::bodies::{body, in_order};
 use model::bytes::{byte, number32};
 use model::edition::Version;
-use model::Card;
 
 use crate::random::Random;
 
@@ -18,20 +15,6 @@ const LONGEST: u32 = 64 * 1022;
 pub fn right(random: &mut Random, image: &[u8]) -> Vec<u8> {
     let length = if has_bodies(image) { total(image) } else { any_length(random, image) };
     random.bytes(length)
-}
-
-/// A pool of the right length for a card with bodies: each body counts on from a
-/// byte of its slot's, with b8 set; free bytes have it not, and none is 00.
-pub fn telling(random: &mut Random, card: &Card) -> Vec<u8> {
-    let length = total(&card.encode());
-    let mut pool: Vec<u8> = (0..length).map(|_| random.range(0x01, 0x7F) as u8).collect();
-    for slot in in_order(card) {
-        let bytes = pool.get_mut(body(card.record(slot))).unwrap_or_default();
-        for (at, byte) in bytes.iter_mut().enumerate() {
-            *byte = 0x80 | (37 * slot + at) as u8;
-        }
-    }
-    pool
 }
 
 /// A pool for an image, at times of a wrong length.

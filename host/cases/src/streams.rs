@@ -33,8 +33,7 @@ pub fn input(random: &mut Random) -> Vec<u8> {
     input
 }
 
-/// A good header and the commands of a history, some raw ones among them; its
-/// PACKs, which a stream has not, change nothing on a card of this version.
+/// A good header and the commands of a history, some raw ones among them.
 fn whole(random: &mut Random) -> Vec<u8> {
     let theme = random.pick(Theme::ALL);
     let slots = random.pick([2, 3, 8, 8, 12, 20, 40]);

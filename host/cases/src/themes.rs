@@ -146,11 +146,10 @@ const TERMINATED: [(Action, usize); 8] = [
     (Action::DeleteChild, 2),
 ];
 
-const BODIES: [(Action, usize); 10] = [
+const BODIES: [(Action, usize); 9] = [
     (Action::CreateEf, 4),
     (Action::CreateLarge, 5),
-    (Action::CreateByGaps, 6),
-    (Action::CreateMoving, 6),
+    (Action::CreateByGaps, 8),
     (Action::CreateDf, 1),
     (Action::ReadOrUpdate, 12),
     (Action::DeleteChild, 7),

@@ -1,26 +1,30 @@
 //! A case run by the card and by the model, and beside every history demand 3's
 //! two ledgers and what its files hold.
 
-use cases::{Case, History, Lent, Step};
-use model::ledger::current_df_slot;
+use cases::{Case, History, Lent};
+use model::ledger::{current_df_slot, Ledger};
 use model::lines::Case as Line;
 use model::rule::Form;
+use model::words::Word;
 use model::Card;
 
 use crate::again::check_again;
-use crate::books::Books;
 use crate::contents::{self, Contents};
+use crate::demand1;
+use crate::demand3::{word_fits, Given, WATCHED};
 use crate::disagreement::Disagreement;
+use crate::ledger::{heard, Ledger as Stated};
+use crate::opened;
 use crate::outcome::{run, Outcome};
 use crate::rights::lines_of_rule;
+use crate::standing;
 use crate::subject::Pair;
 use crate::tally::Tally;
-use crate::{demand1, moving, opened, standing};
 
 /// Compares card and model on one line, what both give with demand 1, what the
-/// card refuses for security with what it does under full sets, where it says that a
-/// rule stands with what stands there, and what it says was moved with what was;
-/// gives what both give, or nothing where the card has no call for the line.
+/// card refuses for security with what it does under full sets, and where it says
+/// that a rule stands with what stands there; gives what both give, or nothing where
+/// the card has no call for the line.
 pub fn check_line(
     pair: Pair,
     line: &Line,
@@ -33,7 +37,7 @@ pub fn check_line(
         let (line, wanted, given) = (line.clone().into(), wanted.into(), given.into());
         return Err(Disagreement::Line { line, wanted, given });
     }
-    if let Some(complaint) = demand1::complaint(pair.card, line, &given) {
+    if let Some(complaint) = demand1::complaint(line, &given) {
         let (line, given) = (line.clone().into(), given.into());
         return Err(Disagreement::Demand1 { line, given, complaint });
     }
@@ -43,10 +47,6 @@ pub fn check_line(
     if let Some(complaint) = standing::complaint(pair.card, line, &given) {
         let (line, given) = (line.clone().into(), given.into());
         return Err(Disagreement::Standing { line, given, complaint });
-    }
-    if let Some(complaint) = moving::complaint(pair.card, line, &given) {
-        let (line, given) = (line.clone().into(), given.into());
-        return Err(Disagreement::Moving { line, given, complaint });
     }
     tally.count(line, &given);
     Ok(Some(given))
@@ -64,6 +64,54 @@ pub fn check_case(pair: Pair, case: &Case, tally: &mut Tally) -> Result<(), Disa
     lines.iter().try_for_each(|line| check_line(pair, line, tally).map(|_| ()))
 }
 
+/// Demand 3's two ledgers beside one history: the model's, written from the
+/// documents, and the one that the theorem speaks of.
+struct Books {
+    model: Ledger,
+    stated: Stated,
+}
+
+impl Books {
+    fn open(total: u32) -> Books {
+        Books { model: Ledger::open(total), stated: Stated::opened(total) }
+    }
+
+    /// Enters a command; what they have against it, against the image that it
+    /// left and the report on that, or against each other.
+    fn enter(
+        &mut self,
+        command: &[u8],
+        word: Word,
+        (before, image): (u16, &[u8]),
+        report: Option<&Outcome>,
+    ) -> Option<String> {
+        let after = current_df_slot(image);
+        let (here, there) = (u64::from(before), u64::from(after));
+        let fits = self.model.agrees(command, word, before)
+            && word_fits(&self.stated, here, command, word);
+        let told = heard(command, word);
+        let next = self.stated.entered(told, here, there);
+        self.model.enter(command, word, before, after);
+        let given = Given { ledger: &self.stated, next: &next, told, before: here, after: there };
+        let complaint = (!fits)
+            .then(|| format!("word {word:04X} against the room that it knows"))
+            .or_else(|| given.complaint(image))
+            .or_else(|| differ(&self.model, &next))
+            .or_else(|| report.and_then(|told| audit(&self.model, after, told)));
+        self.stated = next;
+        complaint
+    }
+}
+
+/// What the two ledgers say differently of a directory.
+fn differ(model: &Ledger, stated: &Stated) -> Option<String> {
+    stated.directories().take(WATCHED).find_map(|d| {
+        let by_model = u16::try_from(d).ok().and_then(|slot| model.room(slot));
+        let room = stated.room_in(d);
+        (by_model != Some(room)).then(|| format!("room of slot {d}: {by_model:?} and {room}"))
+    })
+}
+
 /// Where another file keeps the current file's rule, asks where it stands: whoever
 /// wrote that file may have changed it.
 fn check_rule(pair: Pair, lent: &Lent, tally: &mut Tally) -> Result<(), Disagreement> {
@@ -76,86 +124,47 @@ fn check_rule(pair: Pair, lent: &Lent, tally: &mut Tally) -> Result<(), Disagree
     check_line(pair, &Line::Deciding { image, pool, slot }, tally).map(|_| ())
 }
 
-/// A history being played: image and pool as they are by now, and what is kept
-/// beside them.
-struct Played {
-    lent: Lent,
-    books: Books,
-    contents: Contents,
-}
-
-impl Played {
-    /// Calls the PACK before a step, where there is one; what is wrong with it by
-    /// what is kept. The ledgers hear nothing of it, and the files hold what they
-    /// held. It is not refused: the card is sound, and its pool is as it must be.
-    fn pack(
-        &mut self,
-        pair: Pair,
-        step: &Step,
-        tally: &mut Tally,
-    ) -> Result<Option<String>, Disagreement> {
-        let Some(line) = step.pack_line(&self.lent) else { return Ok(None) };
-        let outcome = check_line(pair, &line, tally)?;
-        let Some(Outcome::Pack { answer: 0, image, pool, .. }) = outcome else {
-            return Ok(Some("PACK is refused on a sound card with its pool".to_string()));
-        };
-        let before = std::mem::replace(&mut self.lent, Lent { image, pool });
-        let image = self.lent.image.as_slice();
-        let report = check_line(pair, &Line::Report { image: image.to_vec() }, tally)?;
-        let slot = current_df_slot(&before.image);
-        let found = self.books.unheard((slot, image), report.as_ref());
-        Ok(found.or_else(|| self.contents.unheard(&self.lent)))
-    }
-
-    /// Gives the command of a step, then a report and where the current file's rule
-    /// stands; what is wrong by what is kept.
-    fn command(
-        &mut self,
-        pair: Pair,
-        step: &Step,
-        tally: &mut Tally,
-    ) -> Result<Option<String>, Disagreement> {
-        let outcome = check_line(pair, &step.line(&self.lent), tally)?;
-        let Some(Outcome::Command { told, image, pool, response }) = outcome else {
-            return Ok(None);
-        };
-        let before = std::mem::replace(&mut self.lent, Lent { image, pool });
-        let lent = &self.lent;
-        let report = check_line(pair, &Line::Report { image: lent.image.clone() }, tally)?;
-        check_rule(pair, lent, tally)?;
-        tally.ledger_steps += 1;
-        let (command, word) = (step.command.as_slice(), told.word);
-        let slot = current_df_slot(&before.image);
-        let found = self.books.enter(command, word, (slot, &lent.image), report.as_ref());
-        let data = response.get(..told.numbers[0] as usize).unwrap_or_default();
-        let given = contents::Given { command, word, data, before: &before, after: lent };
-        let written = self.contents.enter(&given);
-        Ok(found.or(written))
-    }
-}
-
-/// Plays a history step by step: PACK where it comes first, and the command; after
-/// each a report, the ledgers and what the files hold.
+/// Plays a history command by command; after each a report, where the current
+/// file's rule stands, the ledgers and what the files hold.
 pub fn check_history(pair: Pair, history: &History, tally: &mut Tally) -> Result<(), Disagreement> {
     let made = check_line(pair, &history.make(), tally)?;
     let Some(Outcome::Make { answer: 0, buffer: image }) = made else {
         return Ok(());
     };
-    let mut played = Played {
-        lent: Lent { image, pool: history.pool.clone() },
-        books: Books::open(history.total),
-        contents: Contents::default(),
-    };
+    let mut lent = Lent { image, pool: history.pool.clone() };
+    let (mut books, mut contents) = (Books::open(history.total), Contents::default());
     for (number, step) in history.steps.iter().enumerate() {
-        let complaint = match played.pack(pair, step, tally)? {
-            None => played.command(pair, step, tally)?,
-            wrong => wrong,
-        };
-        if let Some(complaint) = complaint {
+        let Lent { image, pool } = &lent;
+        let line = Line::command(image, pool, &step.command, &step.response, step.state);
+        let outcome = check_line(pair, &line, tally)?;
+        let Some(Outcome::Command { told, image, pool, response }) = outcome else { continue };
+        let before = std::mem::replace(&mut lent, Lent { image, pool });
+        let report = check_line(pair, &Line::Report { image: lent.image.clone() }, tally)?;
+        check_rule(pair, &lent, tally)?;
+        tally.ledger_steps += 1;
+        let (command, word) = (step.command.as_slice(), told.word);
+        let slot = current_df_slot(&before.image);
+        let found = books.enter(command, word, (slot, &lent.image), report.as_ref());
+        let data = response.get(..told.numbers[0] as usize).unwrap_or_default();
+        let given = contents::Given { command, word, data, before: &before, after: &lent };
+        let written = contents.enter(&given);
+        if let Some(complaint) = found.or(written) {
             let steps = history.steps.iter().take(number + 1).cloned().collect();
             let history = History { steps, ..history.clone() };
             return Err(Disagreement::Ledger { history, complaint });
         }
     }
     Ok(())
+}
+
+/// What the ledger has against a report on a directory.
+fn audit(ledger: &Ledger, directory: u16, report: &Outcome) -> Option<String> {
+    let Outcome::Report { answer, numbers: [total, room, children, _], .. } = *report else {
+        return None;
+    };
+    let known = (ledger.total(directory), ledger.room(directory), ledger.children(directory));
+    let told = (Some(total), Some(u64::from(room)), children as usize);
+    (answer != 0 || known != told).then(|| {
+        format!("total, room, children of slot {directory}: {known:?} known, {told:?} reported")
+    })
 }

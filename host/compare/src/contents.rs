@@ -4,14 +4,13 @@
 //! EF is current and where bodies lie.
 
 use std::collections::BTreeMap;
+use std::ops::Range;
 
 use cases::Lent;
 use model::bodies::{body, in_order};
 use model::ledger::announced;
 use model::words::{Word, SUCCESS};
 use model::Card;
-
-use crate::bodies::outside;
 
 /// What each file with a body holds, by its slot.
 #[derive(Clone, PartialEq, Eq, Debug, Default)]
@@ -40,18 +39,9 @@ impl Contents {
         let before = Card::decode(&given.before.image)?;
         let after = Card::decode(&given.after.image).filter(|card| card.edition.has_bodies())?;
         let heard = if given.word == SUCCESS { self.hear(given, &before, &after) } else { None };
-        let places = [&before, &after]
-            .map(|card| in_order(card).into_iter().map(|slot| body(card.record(slot))).collect());
         heard
             .or_else(|| self.held(&after, &given.after.pool))
-            .or_else(|| outside([&given.before.pool, &given.after.pool], places))
-    }
-
-    /// What is wrong after a call of which nothing is heard: every file holds what
-    /// it held.
-    pub fn unheard(&self, lent: &Lent) -> Option<String> {
-        let card = Card::decode(&lent.image).filter(|card| card.edition.has_bodies())?;
-        self.held(&card, &lent.pool)
+            .or_else(|| outside(given, [&before, &after]))
     }
 
     /// Takes in what a command did.
@@ -105,4 +95,24 @@ impl Contents {
         let found = slots.into_iter().find(wrong);
         found.map(|slot| format!("the file in slot {slot} holds other bytes than were written"))
     }
+}
+
+/// What is wrong outside the bodies: a byte that left one is zero, any other
+/// stays.
+fn outside(given: &Given, cards: [&Card; 2]) -> Option<String> {
+    let (old, new) = (&given.before.pool, &given.after.pool);
+    let [was, is] = cards.map(|card| {
+        let mut in_body = vec![false; new.len()];
+        let mut mark = |place: Range<usize>| {
+            in_body.get_mut(place).into_iter().for_each(|part| part.fill(true));
+        };
+        in_order(card).into_iter().for_each(|slot| mark(body(card.record(slot))));
+        in_body
+    });
+    let bytes = old.iter().zip(new).zip(was.into_iter().zip(is)).enumerate();
+    bytes.into_iter().find_map(|(at, ((old, new), places))| match places {
+        (true, false) if *new != 0 => Some(format!("byte {at} of the pool was left and is {new}")),
+        (false, false) if new != old => Some(format!("byte {at} of the pool was free and changed")),
+        _ => None,
+    })
 }

@@ -54,16 +54,6 @@ pub enum Disagreement {
         /// What is wrong.
         complaint: String,
     },
-    /// Card and model agree, and what was moved of bodies is not what was told or
-    /// what must be.
-    Moving {
-        /// The line.
-        line: Box<Line>,
-        /// What both give.
-        given: Box<Outcome>,
-        /// What is wrong.
-        complaint: String,
-    },
     /// Card and model agree, and a file's template does not make it again.
     Again {
         /// The card that holds the file.
@@ -78,23 +68,6 @@ pub enum Disagreement {
         /// The line.
         line: Box<Line>,
     },
-}
-
-impl Disagreement {
-    /// The line that shows it alone, if there is one; what shows now and not then
-    /// has none.
-    pub fn line(&self) -> Option<&Line> {
-        match self {
-            Disagreement::Line { line, .. }
-            | Disagreement::Demand1 { line, .. }
-            | Disagreement::Opened { line, .. }
-            | Disagreement::Standing { line, .. }
-            | Disagreement::Moving { line, .. } => Some(line),
-            Disagreement::Ledger { .. }
-            | Disagreement::Again { .. }
-            | Disagreement::Unsteady { .. } => None,
-        }
-    }
 }
 
 /// Lines of the vectors that show it, and comments that say what is wrong.
@@ -115,8 +88,7 @@ impl fmt::Display for Disagreement {
             Disagreement::Opened { line, complaint } => {
                 write!(f, "{}\n# told of the refusal: {complaint}", line.line())
             }
-            Disagreement::Standing { line, given, complaint }
-            | Disagreement::Moving { line, given, complaint } => {
+            Disagreement::Standing { line, given, complaint } => {
                 write!(f, "{}\n# both give {given}\n# and yet: {complaint}", line.line())
             }
             Disagreement::Again { lines, complaint, .. } => {

@@ -3,7 +3,10 @@
 
 use card::{pool_length, HEADER_BYTES, RECORD_BYTES};
 
-use crate::bodies::{bodies, Body, START};
+/// Where a record tells its size and its start.
+const SIZE: std::ops::Range<usize> = 12..16;
+const START: std::ops::Range<usize> = 62..64;
+const EF: u8 = 2;
 
 /// Where bodies go that no longer fit.
 #[derive(Clone, Copy, PartialEq, Eq, Debug)]
@@ -12,6 +15,20 @@ pub enum Laying {
     High,
     /// As far up the pool as before, in proportion.
     Scaled,
+}
+
+/// A body by its slot.
+#[derive(Clone, Copy)]
+struct Body {
+    slot: usize,
+    start: usize,
+    size: usize,
+}
+
+impl Body {
+    fn end(&self) -> usize {
+        self.start.saturating_add(self.size)
+    }
 }
 
 /// A smaller image with its bodies inside the pool that its root's total asks
@@ -75,6 +92,20 @@ fn pairs(before: &[u8], after: &[u8]) -> Vec<(Body, Body)> {
     }
     let same = |body: &Body| new.iter().find(|other| other.slot == body.slot).copied();
     old.into_iter().filter_map(|body| same(&body).map(|other| (body, other))).collect()
+}
+
+/// The bodies of an image in the order of their starts.
+fn bodies(image: &[u8]) -> Vec<Body> {
+    let records = image.get(HEADER_BYTES..).unwrap_or_default().chunks_exact(RECORD_BYTES);
+    let files = records.enumerate().filter(|(_, record)| record.first() == Some(&EF));
+    let read = |(slot, record): (usize, &[u8])| {
+        let start = record.get(START)?.try_into().map(u16::from_be_bytes).ok()?;
+        let size = record.get(SIZE)?.try_into().map(u32::from_be_bytes).ok()?;
+        Some(Body { slot, start: start.into(), size: usize::try_from(size).ok()? })
+    };
+    let mut all: Vec<Body> = files.filter_map(read).collect();
+    all.sort_by_key(|body| body.start);
+    all
 }
 
 fn put_start(image: &mut [u8], slot: usize, start: usize) -> Option<()> {

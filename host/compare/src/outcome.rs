@@ -36,17 +36,6 @@ pub enum Outcome {
         /// What the call for soundness says.
         sound: bool,
     },
-    /// P.
-    Pack {
-        /// 0, 1 or 6.
-        answer: u32,
-        /// How many bytes of bodies were moved.
-        moved: u32,
-        /// The image afterwards.
-        image: Vec<u8>,
-        /// The pool afterwards.
-        pool: Vec<u8>,
-    },
     /// Y.
     Replay {
         /// What is printed.
@@ -81,11 +70,6 @@ pub fn run(subject: &dyn Subject, line: &Line) -> Option<Outcome> {
         Line::Report { image } => {
             let (answer, numbers) = subject.report(image);
             Some(Outcome::Report { answer, numbers, sound: subject.sound(image) })
-        }
-        Line::Pack { image, pool } => {
-            let [mut image, mut pool] = [image, pool].map(Vec::clone);
-            let (answer, moved) = subject.pack(&mut image, &mut pool);
-            Some(Outcome::Pack { answer, moved, image, pool })
         }
         Line::Replay { input } => Some(Outcome::Replay { output: subject.replay(input) }),
         Line::Deciding { image, pool, slot } => {
@@ -124,9 +108,6 @@ impl Outcome {
             }
             Outcome::Report { answer, numbers: [total, room, children, beneath], .. } => {
                 format!("R {answer} {total} {room} {children} {beneath}")
-            }
-            Outcome::Pack { answer, moved, image, pool } => {
-                format!("P {answer} {moved} {} {}", hex(image), hex(pool))
             }
             Outcome::Replay { output } => format!("Y {}", hex(output)),
             Outcome::Rule { numbers: [sort, from, _], rule, .. } => {

@@ -7,7 +7,7 @@ use model::State;
 pub fn image_of(line: &Line) -> Option<&[u8]> {
     match line {
         Line::Command { image, .. } | Line::Report { image } => Some(image),
-        Line::Deciding { image, .. } | Line::Pack { image, .. } => Some(image),
+        Line::Deciding { image, .. } => Some(image),
         Line::Make { buffer, .. } => Some(buffer),
         _ => None,
     }
@@ -31,10 +31,10 @@ pub fn response_of(line: &Line) -> &[u8] {
     }
 }
 
-/// The pool of a command, of a PACK or of a question where a rule stands.
+/// The pool of a command or of a question where a rule stands.
 pub fn pool_of(line: &Line) -> &[u8] {
     match line {
-        Line::Command { pool, .. } | Line::Deciding { pool, .. } | Line::Pack { pool, .. } => pool,
+        Line::Command { pool, .. } | Line::Deciding { pool, .. } => pool,
         _ => &[],
     }
 }
@@ -44,7 +44,7 @@ pub fn with_bytes_of_image(line: &Line, new: Vec<u8>) -> Option<Line> {
     let mut line = line.clone();
     match &mut line {
         Line::Command { image, .. } | Line::Report { image } => *image = new,
-        Line::Deciding { image, .. } | Line::Pack { image, .. } => *image = new,
+        Line::Deciding { image, .. } => *image = new,
         Line::Make { buffer, .. } => *buffer = new,
         _ => return None,
     }
@@ -78,7 +78,6 @@ pub fn with_pool(line: &Line, new: Vec<u8>) -> Option<Line> {
     let mut line = line.clone();
     match &mut line {
         Line::Command { pool, .. } | Line::Deciding { pool, .. } => *pool = new,
-        Line::Pack { pool, .. } => *pool = new,
         _ => return None,
     }
     Some(line)

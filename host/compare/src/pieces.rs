@@ -4,7 +4,6 @@
 use model::lines::Case as Line;
 use model::State;
 
-use crate::fitted::{fits_of, fitted, Fit};
 use crate::laid::{laid, pool_for, Laying};
 use crate::parts::{bytes_of, image_of, pool_of, response_of};
 use crate::parts::{
@@ -54,8 +53,6 @@ pub enum Piece {
     Tighten(u32, Laying),
     /// The same, with records of one byte.
     TightenRecords(u32, Laying),
-    /// The same as the first, with a command that goes with it and room for that.
-    TightenFor(Fit, Laying),
     /// Records in which rules are kept, smaller or plainer.
     Records(usize, Change),
     /// References from a slot on, of so many records, become open rules.
@@ -98,9 +95,6 @@ pub fn pieces_of(line: &Line) -> Vec<Piece> {
         for laying in [Laying::High, Laying::Scaled] {
             all.extend(ROOMS.map(|room| Piece::Tighten(room, laying)));
             all.extend(ROOMS.map(|room| Piece::TightenRecords(room, laying)));
-            all.extend(
-                fits_of(bytes_of(line)).into_iter().map(|fit| Piece::TightenFor(fit, laying)),
-            );
         }
     }
     all.extend([0, slots].map(Piece::Slot));
@@ -112,23 +106,18 @@ pub fn pieces_of(line: &Line) -> Vec<Piece> {
         all.extend((0..bytes).rev().step_by(width).map(|at| Piece::Remove(at, width)));
     }
     all.extend((0..bytes).map(Piece::Byte));
-    all.push(Piece::Data);
-    all.extend(pieces_of_buffers(response_of(line).len(), pool_of(line).len()));
-    let marked = image.iter().enumerate().filter(|(_, &byte)| byte != 0);
-    all.extend(marked.map(|(at, _)| Piece::ImageByte(at)));
-    all
-}
-
-/// The pieces of a response buffer and of a pool that are so long.
-fn pieces_of_buffers(response: usize, pool: usize) -> Vec<Piece> {
-    let mut all = vec![Piece::Response(response)];
+    let response = response_of(line).len();
+    all.extend([Piece::Data, Piece::Response(response)]);
     all.extend(halves(response).map(Piece::Response));
     all.extend((0..response).rev().map(Piece::ResponseByte));
+    let pool = pool_of(line).len();
     all.push(Piece::Pool(pool));
     all.extend(halves(pool).map(Piece::Pool));
     for width in std::iter::once(pool.max(1)).chain(halves(pool)) {
         all.extend((0..pool).step_by(width).map(|at| Piece::PoolBytes(at, width)));
     }
+    let marked = image.iter().enumerate().filter(|(_, &byte)| byte != 0);
+    all.extend(marked.map(|(at, _)| Piece::ImageByte(at)));
     all
 }
 
@@ -144,13 +133,13 @@ impl Piece {
                 let new = packed(image_of(line)?, spare)?;
                 moved(line, with_image(line, new)?)
             }
-            Piece::Tighten(room, laying) => tight(line, image_of(line)?, room, laying),
-            Piece::TightenRecords(room, laying) => {
-                tight(line, &short_records(image_of(line)?)?, room, laying)
+            Piece::Tighten(room, laying) => {
+                let new = tightened(image_of(line)?, room)?;
+                moved(line, with_bodies(line, new, laying)?)
             }
-            Piece::TightenFor(fit, laying) => {
-                let (command, room) = fitted(bytes_of(line), fit)?;
-                Some(with_bytes(&tight(line, image_of(line)?, room, laying)?, command))
+            Piece::TightenRecords(room, laying) => {
+                let new = tightened(&short_records(image_of(line)?)?, room)?;
+                moved(line, with_bodies(line, new, laying)?)
             }
             Piece::Records(slot, change) => {
                 let (image, pool) = changed(image_of(line)?, pool_of(line), slot, change)?;
@@ -162,7 +151,6 @@ impl Piece {
             Piece::Slot(slot) => with_slot(line, slot),
             Piece::ImageByte(at) => with_bytes_of_image(line, zeroed(image_of(line)?, at)?),
             Piece::Byte(at) => Some(with_bytes(line, zeroed(bytes_of(line), at)?)),
-            Piece::Remove(at, count) => Some(with_bytes(line, without(bytes_of(line), at, count)?)),
             Piece::Data => Some(with_bytes(line, without_data(bytes_of(line))?)),
             Piece::Response(fewer) => with_response(line, shorter(response_of(line), fewer)?),
             Piece::ResponseByte(at) => with_response(line, zeroed(response_of(line), at)?),
@@ -172,6 +160,12 @@ impl Piece {
                 let end = pool.len().min(at.saturating_add(count));
                 pool.get_mut(at..end)?.fill(0);
                 with_pool(line, pool)
+            }
+            Piece::Remove(at, count) => {
+                let mut bytes = bytes_of(line).to_vec();
+                let end = bytes.len().min(at.saturating_add(count));
+                (at < end).then(|| bytes.drain(at..end).count())?;
+                Some(with_bytes(line, bytes))
             }
         }
     }
@@ -196,13 +190,6 @@ fn shorter(bytes: &[u8], fewer: usize) -> Option<Vec<u8>> {
     Some(bytes.get(..bytes.len().checked_sub(fewer)?)?.to_vec())
 }
 
-fn without(bytes: &[u8], at: usize, count: usize) -> Option<Vec<u8>> {
-    let mut bytes = bytes.to_vec();
-    let end = bytes.len().min(at.saturating_add(count));
-    (at < end).then(|| bytes.drain(at..end).count())?;
-    Some(bytes)
-}
-
 fn zeroed(bytes: &[u8], at: usize) -> Option<Vec<u8>> {
     let mut bytes = bytes.to_vec();
     *bytes.get_mut(at)? = 0;
@@ -221,11 +208,6 @@ fn with_bodies(line: &Line, new: Vec<u8>, laying: Laying) -> Option<Line> {
     let pool = pool_for(old, pool_of(line), &new);
     let smaller = with_bytes_of_image(line, new)?;
     Some(with_pool(&smaller, pool).unwrap_or(smaller))
-}
-
-/// The line with this image made tight, with so much room.
-fn tight(line: &Line, image: &[u8], room: u32, laying: Laying) -> Option<Line> {
-    moved(line, with_bodies(line, tightened(image, room)?, laying)?)
 }
 
 /// The line whose used records were put side by side, asked for the same file.

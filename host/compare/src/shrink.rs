@@ -18,23 +18,26 @@ const EACH_TRY: usize = 1000;
 
 /// The smallest disagreement found from this one on.
 pub fn smallest(pair: Pair, found: Disagreement) -> Disagreement {
-    if let Some(line) = found.line() {
-        let shows = |line: &Line| check_line(pair, line, &mut Tally::default()).is_err();
-        let line = smallest_line(line.clone(), &shows);
-        return match check_line(pair, &line, &mut Tally::default()) {
-            Err(smaller) => smaller,
-            Ok(_) => Disagreement::Unsteady { line: line.into() },
-        };
-    }
     match found {
+        Disagreement::Line { line, .. }
+        | Disagreement::Demand1 { line, .. }
+        | Disagreement::Opened { line, .. }
+        | Disagreement::Standing { line, .. } => {
+            let shows = |line: &Line| check_line(pair, line, &mut Tally::default()).is_err();
+            let line = smallest_line(*line, &shows);
+            match check_line(pair, &line, &mut Tally::default()) {
+                Err(smaller) => smaller,
+                Ok(_) => Disagreement::Unsteady { line: line.into() },
+            }
+        }
         Disagreement::Ledger { history, complaint } => smallest_history(pair, history, complaint),
         Disagreement::Again { ref again, .. } => smallest_again(pair, again).unwrap_or(found),
-        _ => found,
+        Disagreement::Unsteady { .. } => found,
     }
 }
 
-/// Leaves out single commands and PACKs, from the last on, as long as something
-/// still disagrees.
+/// Leaves out single commands, from the last on, as long as something still
+/// disagrees.
 fn smallest_history(pair: Pair, whole: History, complaint: String) -> Disagreement {
     let mut best = Disagreement::Ledger { history: whole, complaint };
     let mut at = usize::MAX;
@@ -42,30 +45,13 @@ fn smallest_history(pair: Pair, whole: History, complaint: String) -> Disagreeme
         at = at.min(history.steps.len());
         let Some(place) = at.checked_sub(1) else { break };
         at = place;
-        let shown = fewer(history, place)
-            .into_iter()
-            .find_map(|fewer| check_history(pair, &fewer, &mut Tally::default()).err());
-        best = shown.unwrap_or(best);
+        let mut fewer = history.clone();
+        fewer.steps.remove(place);
+        if let Err(smaller) = check_history(pair, &fewer, &mut Tally::default()) {
+            best = smaller;
+        }
     }
     smaller_of_another_sort(pair, best)
-}
-
-/// The history without one of its steps; where a PACK comes before that, also with
-/// the PACK alone, if another command follows it, and with the command alone.
-fn fewer(history: &History, place: usize) -> Vec<History> {
-    let mut without = history.clone();
-    let mut all = Vec::new();
-    if without.steps.remove(place).pack {
-        let [mut handed_on, mut unpacked] = [without.clone(), history.clone()];
-        if let Some(next) = handed_on.steps.get_mut(place).filter(|next| !next.pack) {
-            next.pack = true;
-            all.push(handed_on);
-        }
-        unpacked.steps.get_mut(place).into_iter().for_each(|step| step.pack = false);
-        all.push(unpacked);
-    }
-    all.insert(0, without);
-    all
 }
 
 /// Makes the card smaller whose files are made again, as a report's line does.
@@ -84,9 +70,12 @@ fn smallest_again(pair: Pair, whole: &Again) -> Option<Disagreement> {
 
 /// A disagreement that shows in one line is made smaller as that.
 fn smaller_of_another_sort(pair: Pair, found: Disagreement) -> Disagreement {
-    match found.line() {
-        Some(_) => smallest(pair, found),
-        None => found,
+    match found {
+        Disagreement::Line { .. }
+        | Disagreement::Demand1 { .. }
+        | Disagreement::Opened { .. }
+        | Disagreement::Standing { .. } => smallest(pair, found),
+        _ => found,
     }
 }
 

@@ -12,8 +12,8 @@ pub struct Told {
     /// The word; 0000 with any answer but 0.
     pub word: u16,
     /// How many bytes of data stand in the response buffer; what a security
-    /// refusal lacks (02, Ticket 6): 0 there is none, 1 lacking, 2 closed; how many
-    /// bytes of bodies were moved (Ticket 8).
+    /// refusal lacks (02, Ticket 6): 0 there is none, 1 lacking, 2 closed; and a
+    /// number of a later ticket, which is 0.
     pub numbers: [u32; 3],
 }
 
@@ -31,9 +31,6 @@ pub trait Subject {
         response: &mut [u8],
         state: &State,
     ) -> Told;
-
-    /// PACK's answer, and how many bytes of bodies were moved (02, Ticket 8).
-    fn pack(&self, image: &mut [u8], pool: &mut [u8]) -> (u32, u32);
 
     /// The report's answer and numbers.
     fn report(&self, image: &[u8]) -> (u32, [u32; 4]);
@@ -112,11 +109,6 @@ impl Subject for Proved {
         Told { answer: both >> 16, word: both as u16, numbers }
     }
 
-    fn pack(&self, image: &mut [u8], pool: &mut [u8]) -> (u32, u32) {
-        let (answer, [moved]) = card::ffi::pack(image, pool);
-        (answer, moved)
-    }
-
     fn report(&self, image: &[u8]) -> (u32, [u32; 4]) {
         card::ffi::report(image)
     }
@@ -148,13 +140,8 @@ impl Subject for Model {
     ) -> Told {
         let outcome = model::command(image, pool, command, response, state);
         let data = u32::try_from(outcome.data).unwrap_or(u32::MAX);
-        let numbers = [data, outcome.security.into(), outcome.moved];
+        let numbers = [data, outcome.security.into(), 0];
         Told { answer: outcome.answer.into(), word: outcome.word, numbers }
-    }
-
-    fn pack(&self, image: &mut [u8], pool: &mut [u8]) -> (u32, u32) {
-        let (answer, moved) = model::pack(image, pool);
-        (u32::from(answer), moved)
     }
 
     fn report(&self, image: &[u8]) -> (u32, [u32; 4]) {

@@ -36,12 +36,6 @@ pub struct Tally {
     pub updates: u64,
     /// CREATEs that moved bodies.
     pub packings: u64,
-    /// Calls of PACK.
-    pub packs: u64,
-    /// Those that moved bodies.
-    pub packs_moving: u64,
-    /// Bytes of bodies that CREATEs and PACKs moved.
-    pub bytes_moved: u64,
     /// Files made again by their templates.
     pub made_again: u64,
     /// Questions where a rule stands.
@@ -57,23 +51,17 @@ impl Tally {
     pub fn count(&mut self, line: &Line, given: &Outcome) {
         match given {
             Outcome::Make { .. } => self.makes += 1,
-            Outcome::Command { told, .. } => {
-                let [data, security, moved] = told.numbers;
+            Outcome::Command { told, image, .. } => {
                 self.commands += 1;
-                self.lacking += u64::from(security == 1);
-                self.closed += u64::from(security == 2);
-                self.packings += u64::from(moved > 0);
-                self.bytes_moved += u64::from(moved);
-                if let (Line::Command { command, .. }, true) = (line, is_success(told.word)) {
-                    self.count_effect(command, data);
+                self.lacking += u64::from(told.numbers[1] == 1);
+                self.closed += u64::from(told.numbers[1] == 2);
+                if let (Line::Command { image: came, command, .. }, true) =
+                    (line, is_success(told.word))
+                {
+                    self.count_effect(command, told.numbers[0], (came, image));
                 }
             }
             Outcome::Report { .. } => self.reports += 1,
-            Outcome::Pack { moved, .. } => {
-                self.packs += 1;
-                self.packs_moving += u64::from(*moved > 0);
-                self.bytes_moved += u64::from(*moved);
-            }
             Outcome::Replay { .. } => self.replays += 1,
             Outcome::Rule { answer, numbers: [sort, ..], .. } => {
                 self.places += 1;
@@ -83,13 +71,15 @@ impl Tally {
         }
     }
 
-    /// Counts a command that had its effect, with how many bytes it told.
-    fn count_effect(&mut self, command: &[u8], data: u32) {
+    /// Counts a command that had its effect, with how many bytes it told and
+    /// the image before and after.
+    fn count_effect(&mut self, command: &[u8], data: u32, (before, after): (&[u8], &[u8])) {
         self.effects += 1;
         match command.get(1) {
             Some(0xA4) => self.templates += u64::from(data > 0),
             Some(0xB0 | 0xB2) => self.reads += 1,
             Some(0xD6 | 0xDC) => self.updates += 1,
+            Some(0xE0) => self.packings += u64::from(moved(before, after)),
             _ => {}
         }
     }
@@ -110,9 +100,6 @@ impl std::ops::AddAssign for Tally {
         self.reads += other.reads;
         self.updates += other.updates;
         self.packings += other.packings;
-        self.packs += other.packs;
-        self.packs_moving += other.packs_moving;
-        self.bytes_moved += other.bytes_moved;
         self.made_again += other.made_again;
         self.places += other.places;
         self.in_pools += other.in_pools;
@@ -124,15 +111,24 @@ impl fmt::Display for Tally {
     fn fmt(&self, f: &mut fmt::Formatter<'_>) -> fmt::Result {
         let Tally { cases, makes, commands, effects, lacking, closed, reports, replays, .. } = self;
         let Tally { ledger_steps, templates, reads, updates, packings, made_again, .. } = self;
-        let Tally { packs, packs_moving, bytes_moved, places, in_pools, nowhere, .. } = self;
+        let Tally { places, in_pools, nowhere, .. } = self;
         write!(
             f,
             "{cases} cases, {commands} commands ({effects} with effect, {lacking} lacking, {closed} \
              closed, {ledger_steps} beside the ledger, {templates} with a template, {reads} READ, \
-             {updates} UPDATE, {packings} that moved bodies), {packs} PACK ({packs_moving} that moved \
-             bodies), {bytes_moved} bytes moved, {made_again} files made again, {makes} makes, \
-             {reports} reports, {replays} replays, {places} rules looked for ({in_pools} in the pool, \
-             {nowhere} nowhere)"
+             {updates} UPDATE, {packings} that moved bodies), {made_again} files made again, \
+             {makes} makes, {reports} reports, {replays} replays, {places} rules looked for \
+             ({in_pools} in the pool, {nowhere} nowhere)"
         )
     }
+}
+
+/// Whether a file that was there before has another start afterwards: the last
+/// two bytes of its record.
+fn moved(before: &[u8], after: &[u8]) -> bool {
+    let records = |image| <[u8]>::chunks_exact(image, 64);
+    let (old, new) = (before.get(16..).unwrap_or(&[]), after.get(16..).unwrap_or(&[]));
+    records(old).zip(records(new)).any(|(old, new)| {
+        old.first().is_some_and(|&kind| kind != 0) && old.get(62..) != new.get(62..)
+    })
 }

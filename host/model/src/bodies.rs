@@ -1,7 +1,6 @@
-//! Bodies in the pool: 02, Ticket 4, and how many of their bytes are moved,
-//! Ticket 8. A body is the part of the pool that an EF's start and size tell; the
-//! pool is as long as the root's total. A gap is a run of bytes in no body, the
-//! one above the last body included.
+//! Bodies in the pool: 02, Ticket 4. A body is the part of the pool that an EF's
+//! start and size tell; the pool is as long as the root's total. A gap is a run
+//! of bytes in no body, the one above the last body included.
 
 use std::ops::Range;
 
@@ -50,17 +49,14 @@ pub fn lie_apart(card: &Card) -> bool {
 }
 
 /// Makes room for a new body of this size, fills it, and gives its start: in
-/// the lowest gap that fits, else above all bodies, which are moved down first;
-/// and how many bytes were moved for it. It is for a size that the directory can
-/// pay; all that is paid, bodies and 64 a file, is no more than the pool holds.
-pub fn place(card: &mut Card, pool: &mut [u8], size: u32) -> (u16, u32) {
+/// the lowest gap that fits, else above all bodies, which are moved down first.
+/// It is for a size that the directory can pay; all that is paid, bodies and
+/// 64 a file, is no more than the pool holds.
+pub fn place(card: &mut Card, pool: &mut [u8], size: u32) -> u16 {
     let size = whole(size);
-    let (start, moved) = match lowest_gap(card, pool.len(), size) {
-        Some(start) => (start, 0),
-        None => pack(card, pool),
-    };
+    let start = lowest_gap(card, pool.len(), size).unwrap_or_else(|| pack(card, pool));
     fill(pool, start..start.saturating_add(size), NEW);
-    (start_number(start), moved)
+    start_number(start)
 }
 
 /// The start of the lowest gap that holds so many bytes.
@@ -77,30 +73,9 @@ fn lowest_gap(card: &Card, pool_length: usize, size: usize) -> Option<usize> {
 }
 
 /// Moves all bodies down, in order, until there is no gap below any; gives the
-/// end of the last, and how many bytes were moved. The bytes that bodies leave
-/// are wiped, other free bytes are not.
-pub fn pack(card: &mut Card, pool: &mut [u8]) -> (usize, u32) {
-    let moved = bytes_above_a_gap(card, pool.len());
-    (move_down(card, pool), moved)
-}
-
-/// The sum of the sizes of those bodies that lie above a gap: the lowest byte of
-/// the pool that is in no body is below their start. It asks only how bodies lie
-/// when moving starts, and not what the moving does.
-pub fn bytes_above_a_gap(card: &Card, pool_length: usize) -> u32 {
-    let bodies: Vec<_> = in_order(card).into_iter().map(|slot| card.record(slot)).collect();
-    let mut in_a_body = vec![false; pool_length];
-    for file in &bodies {
-        in_a_body.get_mut(body(file)).into_iter().for_each(|bytes| bytes.fill(true));
-    }
-    let Some(lowest_free) = in_a_body.iter().position(|is_in| !is_in) else { return 0 };
-    let above = bodies.into_iter().filter(|file| lowest_free < body(file).start);
-    // On a sound card they all lie in the pool, so that the sum is no larger.
-    above.map(|file| file.size).fold(0, u32::saturating_add)
-}
-
-/// The moving itself; gives the end of the last body.
-fn move_down(card: &mut Card, pool: &mut [u8]) -> usize {
+/// end of the last. The bytes that they leave are wiped, other free bytes are
+/// not.
+fn pack(card: &mut Card, pool: &mut [u8]) -> usize {
     let before = pool.to_vec();
     let slots = in_order(card);
     for &slot in &slots {

@@ -3,18 +3,18 @@
 //! order, in the module of each command. The response buffer is looked at last
 //! of all (02, Ticket 2), the pool's length before the command (Ticket 4). A
 //! refusal for security has a number beside its word (Ticket 6); the rule that
-//! refuses may stand in the pool (Ticket 7), so every judge is lent it. What
-//! CREATE moves is counted (Ticket 8).
+//! refuses may stand in the pool (Ticket 7), so every judge is lent it.
 
-use crate::answers::{Answer, DONE, SHORT_BUFFER};
+use crate::answers::{Answer, DONE, SHORT_BUFFER, UNSOUND, WRONG_POOL};
+use crate::bodies;
 use crate::bytes::{byte, number16, rest};
 use crate::card::{Card, ROOT};
 use crate::commands::read_update::{self, Unit};
 use crate::commands::{change, create, delete, select};
 use crate::edition::Edition;
-use crate::lent;
 use crate::refusal::{refuse_if, Refusal};
 use crate::security::State;
+use crate::soundness::sound_card;
 use crate::words::{
     Word, CONDITIONS_NOT_SATISFIED, NO_WORD, UNKNOWN_CLASS, UNKNOWN_INSTRUCTION, WRONG_LENGTH,
     WRONG_PARAMETERS,
@@ -45,28 +45,24 @@ pub struct Outcome {
     /// 0 for no security refusal; with word 6982, and only then, 1 if some
     /// security state would have been granted it, 2 if none is.
     pub security: u8,
-    /// How many bytes of bodies a CREATE moved; 0 for every refusal.
-    pub moved: u32,
 }
 
 impl Outcome {
-    /// An answer other than 0: no word, no data, security refused nothing, and
-    /// nothing is moved.
+    /// An answer other than 0: no word, no data, and security refused nothing.
     fn wordless(answer: Answer) -> Outcome {
-        Outcome { answer, word: NO_WORD, data: 0, security: NO_SECURITY_REFUSAL, moved: 0 }
+        Outcome { answer, word: NO_WORD, data: 0, security: NO_SECURITY_REFUSAL }
     }
 
     /// A command that is not done.
     fn refused(refusal: Refusal) -> Outcome {
         let Refusal { word, decision } = refusal;
-        Outcome { answer: DONE, word, data: 0, security: decision.number(), moved: 0 }
+        Outcome { answer: DONE, word, data: 0, security: decision.number() }
     }
 
     /// A command that is done.
     fn done(told: &Told) -> Outcome {
-        let Told { word, ref data, moved } = *told;
-        let (data, security) = (data.len(), NO_SECURITY_REFUSAL);
-        Outcome { answer: DONE, word, data, security, moved }
+        let data = told.data.len();
+        Outcome { answer: DONE, word: told.word, data, security: NO_SECURITY_REFUSAL }
     }
 }
 
@@ -77,14 +73,12 @@ pub struct Told {
     pub word: Word,
     /// What the response buffer should take.
     pub data: Vec<u8>,
-    /// How many bytes of bodies were moved.
-    pub moved: u32,
 }
 
 impl Told {
-    /// A word alone: no data, and nothing was moved.
-    pub fn word(word: Word) -> Told {
-        Told { word, data: Vec::new(), moved: 0 }
+    /// A word alone.
+    fn word(word: Word) -> Told {
+        Told { word, data: Vec::new() }
     }
 }
 
@@ -151,10 +145,12 @@ pub fn command(
     response: &mut [u8],
     state: &State,
 ) -> Outcome {
-    let mut card = match lent::card_of(image, pool) {
-        Ok(card) => card,
-        Err(answer) => return Outcome::wordless(answer),
+    let Some(mut card) = sound_card(image) else {
+        return Outcome::wordless(UNSOUND);
     };
+    if bodies::pool_length(&card).is_some_and(|length| length != pool.len()) {
+        return Outcome::wordless(WRONG_POOL);
+    }
     let mut pool_after = pool.to_vec();
     let told = match judge(&mut card, &mut pool_after, command, state) {
         Ok(told) => told,
@@ -185,8 +181,8 @@ fn judge(card: &mut Card, pool: &mut [u8], command: &[u8], state: &State) -> Res
             return Ok(select::run(card, number16(data, 0), wants_data(command))?)
         }
         Instruction::Read(unit) => return read_update::read(card, pool, command, unit, state),
-        Instruction::Create => return create::run(card, pool, data, state),
         Instruction::Update(unit) => read_update::update(card, pool, command, unit, state),
+        Instruction::Create => create::run(card, pool, data, state),
         Instruction::Delete => delete::run(card, pool, number16(data, 0), state),
         Instruction::Activate => change::activate(card, pool, state),
         Instruction::Deactivate => change::deactivate(card, pool, state),

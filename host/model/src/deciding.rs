@@ -6,17 +6,17 @@
 
 use std::ops::Range;
 
-use crate::answers::DONE;
+use crate::answers::{DONE, UNSOUND, WRONG_POOL};
 use crate::bodies;
 use crate::bytes::{number16, part};
 use crate::card::{Card, HEADER_BYTES, ROOT};
 use crate::decision::Decision;
 use crate::descriptor::{class, Class, Structure};
 use crate::expanded;
-use crate::lent;
 use crate::record::{Record, RECORD_BYTES, RULE_AT};
 use crate::rule::{self, Form, Right};
 use crate::security::State;
+use crate::soundness::sound_card;
 
 /// What a record of a rule file has behind its rule.
 pub const PADDING: u8 = 0xFF;
@@ -165,11 +165,12 @@ pub fn deciding(image: &[u8], pool: &[u8], slot: usize) -> Place {
 /// The same with the call's answer: 1 if the image is not sound, 6 if the pool
 /// does not fit, else 0; a slot without a file is no refusal.
 pub fn place_of(image: &[u8], pool: &[u8], slot: usize) -> (u32, Place) {
-    match lent::card_of(image, pool) {
-        Err(answer) => (u32::from(answer), Place::Nowhere),
-        Ok(card) => {
-            let found = rule_of(&card, pool, slot);
-            (u32::from(DONE), found.map_or(Place::Nowhere, |deciding| deciding.place))
-        }
+    let Some(card) = sound_card(image) else {
+        return (u32::from(UNSOUND), Place::Nowhere);
+    };
+    if bodies::pool_length(&card).is_some_and(|length| length != pool.len()) {
+        return (u32::from(WRONG_POOL), Place::Nowhere);
     }
+    let place = rule_of(&card, pool, slot).map_or(Place::Nowhere, |deciding| deciding.place);
+    (u32::from(DONE), place)
 }

@@ -6,7 +6,7 @@
 use crate::rule::Form;
 
 /// How many tickets the model contains; names the vectors it is tested with.
-pub const LEVEL: u8 = 8;
+pub const LEVEL: u8 = 7;
 
 /// The image version, header bytes 3 and 4.
 #[derive(Clone, Copy, PartialEq, Eq, Debug)]

@@ -14,8 +14,6 @@
 //! | image layout | [`card`], [`record`], [`bytes`] |
 //! | data objects | [`objects`] |
 //! | bodies in the pool | [`bodies`] |
-//! | PACK | [`mod@pack`] |
-//! | what is looked at before every call | [`lent`] |
 //! | soundness | [`soundness`] |
 //! | descriptor, life cycle | [`descriptor`], [`life_cycle`] |
 //! | rules of each form | [`rule`], [`compact`], [`expanded`] |
@@ -55,12 +53,10 @@ pub mod edition;
 pub mod expanded;
 pub mod fcp;
 pub mod ledger;
-pub mod lent;
 pub mod life_cycle;
 pub mod lines;
 pub mod maker;
 pub mod objects;
-pub mod pack;
 pub mod record;
 pub mod refusal;
 pub mod replay;
@@ -78,7 +74,6 @@ pub use command::{command, Outcome};
 pub use decision::Decision;
 pub use ledger::Ledger;
 pub use maker::make;
-pub use pack::pack;
 pub use record::{Kind, Record};
 pub use replay::replay;
 pub use report::{report, Numbers};

@@ -7,7 +7,7 @@ use crate::deciding::{deciding, Place};
 use crate::edition::{Edition, Version};
 use crate::rule::{self, Form, Right};
 use crate::security::State;
-use crate::{command, make, pack, replay, report, Outcome};
+use crate::{command, make, replay, report, Outcome};
 
 /// A case of the vectors, without its result.
 #[derive(Clone, PartialEq, Eq, Debug)]
@@ -42,13 +42,6 @@ pub enum Case {
     Report {
         /// The image.
         image: Vec<u8>,
-    },
-    /// P: a call of PACK.
-    Pack {
-        /// The image.
-        image: Vec<u8>,
-        /// The pool; on a card without bodies of any length.
-        pool: Vec<u8>,
     },
     /// Y: a run of replay.
     Replay {
@@ -123,9 +116,6 @@ impl Case {
                 })
             }
             ["R", image] => Some(Case::Report { image: from_hex(image)? }),
-            ["P", image, pool] => {
-                Some(Case::Pack { image: from_hex(image)?, pool: from_hex(pool)? })
-            }
             ["Y", input] => Some(Case::Replay { input: from_hex(input)? }),
             ["E", form, rule, messaging, external, user] => Some(Case::Decide {
                 form: form.parse().ok()?,
@@ -159,7 +149,6 @@ impl Case {
                 format!("C {image} {command} {sets} {channels:02X} {pool} {response}")
             }
             Case::Report { image } => format!("R {}", hex(image)),
-            Case::Pack { image, pool } => format!("P {} {}", hex(image), hex(pool)),
             Case::Replay { input } => format!("Y {}", hex(input)),
             Case::Decide { form, rule, state } => {
                 format!("E {form} {} {}", hex(rule), sets(state))
@@ -182,18 +171,13 @@ impl Case {
             Case::Command { image, command: bytes, state, pool, response } => {
                 let [mut image, mut pool, mut response] = [image, pool, response].map(Vec::clone);
                 let outcome = command(&mut image, &mut pool, bytes, &mut response, state);
-                let Outcome { answer, word, data, security, moved } = outcome;
+                let Outcome { answer, word, data, security } = outcome;
                 let [image, pool, response] = [image, pool, response].map(|bytes| hex(&bytes));
-                format!("C {answer} {word:04X} {image} {pool} {response} {data} {security} {moved}")
+                format!("C {answer} {word:04X} {image} {pool} {response} {data} {security} 0")
             }
             Case::Report { image } => {
                 let (answer, [total, room, children, beneath]) = report(image);
                 format!("R {answer} {total} {room} {children} {beneath}")
-            }
-            Case::Pack { image, pool } => {
-                let [mut image, mut pool] = [image, pool].map(Vec::clone);
-                let (answer, moved) = pack(&mut image, &mut pool);
-                format!("P {answer} {moved} {} {}", hex(&image), hex(&pool))
             }
             Case::Replay { input } => format!("Y {}", hex(&replay(input))),
             Case::Decide { form, rule, state } => format!("E {}", decisions(*form, rule, state)),

@@ -17,7 +17,7 @@ pub use help::HELP;
 use options::Options;
 
 /// What can be done.
-const VERBS: &str = "run, show, read, write, pack, export, new or rule";
+const VERBS: &str = "run, show, read, write, export, new or rule";
 /// The name that means standard input, or standard output.
 pub const STREAM: &str = "-";
 
@@ -77,7 +77,6 @@ pub enum Wish {
     Show { image: PathBuf },
     Read { image: PathBuf, path: FilePath, part: Part, output: Output, state: State },
     Write { image: PathBuf, path: FilePath, part: Part, input: PathBuf, state: State },
-    Pack { image: PathBuf },
     Export { image: PathBuf },
     New { image: PathBuf, fresh: Fresh, replace: bool },
     Rule { rule: Vec<u8> },
@@ -101,7 +100,6 @@ fn wish(arguments: &[OsString]) -> Result<Wish, String> {
         Some("show") => Ok(Wish::Show { image: only_image(rest)? }),
         Some("read") => read_body(rest),
         Some("write") => write_body(rest),
-        Some("pack") => Ok(Wish::Pack { image: only_image(rest)? }),
         Some("export") => Ok(Wish::Export { image: only_image(rest)? }),
         Some("new") => {
             let mut options = Options::read(rest, &[CARD, &["--force"]])?;

@@ -77,12 +77,12 @@ pub fn form(form: Form) -> &'static str {
     }
 }
 
-/// So many bytes, by a number of the card's or of Rust's.
-pub fn bytes(many: impl TryInto<u64>) -> String {
-    match many.try_into().unwrap_or(u64::MAX) {
+/// So many bytes.
+pub fn bytes(many: usize) -> String {
+    match many {
         0 => "no byte".to_string(),
         1 => "1 byte".to_string(),
-        many => format!("{many} bytes"),
+        _ => format!("{many} bytes"),
     }
 }
 

@@ -1,12 +1,10 @@
 //! A program for people: plays scripts of commands on the proved card (`run`),
 //! makes card images (`new`), shows what is on them (`show`), reads and writes
-//! the bodies of files (`read`, `write`), moves them together (`pack`), writes the
-//! script that makes the files of a card again (`export`), and explains access
-//! rules (`rule`).
+//! the bodies of files (`read`, `write`), writes the script that makes the files
+//! of a card again (`export`), and explains access rules (`rule`).
 //!
 //! The proved card decides everything, also whether it takes a rule, where the
-//! rule of a file stands, whether anything opens a command that it refused, and
-//! what is moved.
+//! rule of a file stands, and whether anything opens a command that it refused.
 //! Only `show` and `export`, `read` and `write` to see where they are on a path,
 //! and the words for what a rule asks and for why the search for one denies read
 //! the records of an image by the model, once the proved card has found it sound.
@@ -24,7 +22,6 @@ mod file_path;
 mod hex;
 mod hint;
 mod meaning;
-mod pack;
 mod pieces;
 mod play;
 mod pool;
@@ -101,8 +98,8 @@ fn carry_out(wish: Wish) -> Result<Done, Failure> {
             .map_err(Failure::Refused)
         }
         Wish::Show { image } => {
-            let kept = store::look(&image).map_err(Failure::Refused)?;
-            Ok(Done::told(tree::show(&kept).map_err(Failure::Refused)?))
+            let card = store::look(&image).map_err(Failure::Refused)?;
+            Ok(Done::told(tree::show(&card).map_err(Failure::Refused)?))
         }
         Wish::Read { image, path, part, output, state } => {
             transfer::read(&image, &path, &part, &output, &state).map_err(Failure::Refused)
@@ -110,17 +107,16 @@ fn carry_out(wish: Wish) -> Result<Done, Failure> {
         Wish::Write { image, path, part, input, state } => {
             transfer::write(&image, &path, &part, &input, &state).map_err(Failure::Refused)
         }
-        Wish::Pack { image } => pack::pack(&image).map_err(Failure::Refused),
         Wish::Export { image } => {
-            let kept = store::look(&image).map_err(Failure::Refused)?;
-            let Export { script, lost } = export::export(&kept.card).map_err(Failure::Refused)?;
+            let card = store::look(&image).map_err(Failure::Refused)?;
+            let Export { script, lost } = export::export(&card).map_err(Failure::Refused)?;
             let name = image.display();
             let lost = lost.into_iter().map(|what| format!("{name}: lost: {what}")).collect();
             Ok(Done { lost, ..Done::told(script) })
         }
         Wish::New { image, fresh, replace } => {
             let card = fresh_card(&fresh)?;
-            store::make(&image, card, replace).map_err(Failure::Refused)?;
+            store::make(&image, &card, replace).map_err(Failure::Refused)?;
             let text = format!("{}: {}\n", image.display(), fresh.describe());
             Ok(Done::saved(text, &image))
         }

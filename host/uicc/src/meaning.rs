@@ -90,12 +90,9 @@ mod tests {
         told_of(command, word, Kind::VERSION_3)
     }
 
-    fn reply(word: Word, security: Security) -> Reply {
-        Reply { word, security, data: Vec::new(), moved: 0 }
-    }
-
     fn told_of(command: &[u8], word: u16, kind: Kind) -> String {
-        of(command, &reply(Word(word), Security::NoRefusal), kind)
+        let reply = Reply { word: Word(word), security: Security::NoRefusal, data: Vec::new() };
+        of(command, &reply, kind)
     }
 
     #[test]
@@ -147,7 +144,7 @@ mod tests {
             (Security::Closed, "closed, no authentication opens the rule"),
             (Security::NoRefusal, "no access rule allows this"),
         ] {
-            let reply = reply(Word::SECURITY, security);
+            let reply = Reply { word: Word::SECURITY, security, data: Vec::new() };
             let told = of(&[0x00, 0xB0, 0x00, 0x00, 0x01], &reply, Kind::VERSION_3);
             assert_eq!(told, format!("security status not satisfied: {words}"));
         }

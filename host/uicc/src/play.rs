@@ -7,56 +7,41 @@ use card::{Card, State, Word};
 use crate::arguments::Fresh;
 use crate::pieces::{READ_BINARY, READ_RECORD};
 use crate::script::Step;
-use crate::store::{self, Moved};
-use crate::{describe, dump, fcp, hint, meaning, refusal, standing, Done};
+use crate::{describe, dump, fcp, hint, meaning, refusal, standing, store, Done};
 
 /// What only a CREATE is answered.
 const WRONG_DATA: Word = Word(0x6A80);
 /// The column of the commands' names is at least so wide.
 const NARROWEST: usize = 20;
 
-/// A script that was played: a line for each command and what stands below it, and
-/// what was moved meanwhile.
-struct Played {
-    told: String,
-    moved: Moved,
-}
-
 /// Plays on a fresh card, which is not kept.
 pub fn on_fresh(card: &Card, fresh: &Fresh, steps: &[Step], state: &State) -> Result<Done, String> {
     let mut card = card.clone();
-    let Played { told, moved } = play(&mut card, steps, state)?;
-    let moved = moved_in(&card, &format!("{moved} by this script"));
-    Ok(Done::told(format!("{}\n{told}{moved}", fresh.describe())))
+    let told = play(&mut card, steps, state)?;
+    Ok(Done::told(format!("{}\n{told}", fresh.describe())))
 }
 
 /// Plays on the card of an image file and saves it; the file is locked from
 /// the first look at it until it is saved. Nothing is told before the image
 /// is safe.
 pub fn on_image(image: &Path, steps: &[Step], state: &State) -> Result<Done, String> {
-    let opened = store::open(image)?;
-    let mut after = opened.kept.clone();
-    let Played { told, moved } = play(&mut after.card, steps, state)?;
-    after.moved = after.moved.and(moved);
-    let sum = format!("{moved} by this script, {} since the card was made", after.moved);
-    let moved = moved_in(&after.card, &sum);
-    opened.settle(&after, &format!("{}\n{told}{moved}", image.display()))
-}
-
-/// The line about what was moved; none where there are no bodies.
-fn moved_in(card: &Card, words: &str) -> String {
-    match card.kind().has_bodies() {
-        true => format!("bytes moved: {words}\n"),
-        false => String::new(),
+    let (held, mut card) = store::open(image)?;
+    let before = card.clone();
+    let told = play(&mut card, steps, state)?;
+    let name = image.display();
+    if card == before {
+        return Ok(Done::told(format!("{name}\n{told}{name} is as it was\n")));
     }
+    store::save(image, held, &card)?;
+    Ok(Done::saved(format!("{name}\n{told}{name} saved\n"), image))
 }
 
 /// A line for each command, below it what it answered, what is wrong with a rule
-/// or what would open it, what it moved, and at the end the current directory.
-fn play(card: &mut Card, steps: &[Step], state: &State) -> Result<Played, String> {
+/// or what would open it, and at the end the current directory.
+fn play(card: &mut Card, steps: &[Step], state: &State) -> Result<String, String> {
     let names: Vec<_> = steps.iter().map(|step| describe::command(&step.command)).collect();
     let width = names.iter().map(String::len).max().unwrap_or(0).max(NARROWEST);
-    let (mut told, mut moved) = (String::new(), Moved::default());
+    let mut told = String::new();
     for (Step { line, command }, name) in steps.iter().zip(names) {
         let reply = card.command(command, state);
         let reply = reply.map_err(|error| format!("line {line}, {name}: {error}"))?;
@@ -68,11 +53,7 @@ fn play(card: &mut Card, steps: &[Step], state: &State) -> Result<Played, String
             told += &hint.map_or_else(String::new, |(title, why)| fcp::line(title, &why));
         } else if word == Word::SECURITY {
             told += &refusal::below(command, card, state);
-        } else if reply.moved > 0 {
-            let many = describe::bytes(reply.moved);
-            told += &fcp::line("moved", &format!("{many} of other files: no gap held the new one"));
         }
-        moved = moved.and(Moved::from(reply.moved));
     }
     let report = card.report().map_err(|error| error.to_string())?;
     let files = if report.children == 1 { "file" } else { "files" };
@@ -80,7 +61,7 @@ fn play(card: &mut Card, steps: &[Step], state: &State) -> Result<Played, String
         "current directory: total {}, room {}, {} {files} in it, {} beneath it\n",
         report.total, report.room, report.children, report.beneath
     );
-    Ok(Played { told, moved })
+    Ok(told)
 }
 
 /// The data of a command, in lines below its own: what READ read, from its start

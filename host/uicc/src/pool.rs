@@ -1,5 +1,5 @@
-//! The pool of a card, for people: what of it is used, its gaps, which new file
-//! would make the card move bodies, what PACK would move, and what was moved.
+//! The pool of a card, for people: what of it is used, its gaps, and which new
+//! file would make the card move bodies.
 
 use std::ops::Range;
 
@@ -8,16 +8,14 @@ use model::bodies::{body, in_order, pool_length};
 use model::life_cycle::{is_deactivated, is_terminated};
 use model::Card as Decoded;
 
-use crate::store::Kept;
-use crate::{describe, pack};
+use crate::describe;
 
 /// Signs of the bar.
 const WIDTH: usize = 64;
 
-/// The map of the pool; nothing for a card without bodies. The records are told by
-/// the model.
-pub fn map(kept: &Kept, card: &Decoded) -> Result<String, String> {
-    let Some(length) = pool_length(card) else { return Ok(String::new()) };
+/// The map of the pool; nothing for a card without bodies.
+pub fn map(card: &Decoded) -> Option<String> {
+    let length = pool_length(card)?;
     let bodies: Vec<_> = in_order(card).into_iter().map(|slot| body(card.record(slot))).collect();
     let used: usize = bodies.iter().map(Range::len).sum();
     let gaps = gaps(&bodies, length);
@@ -37,10 +35,7 @@ pub fn map(kept: &Kept, card: &Decoded) -> Result<String, String> {
     for gap in &gaps {
         told += &format!("      {:>8}  {:>6}\n", gap.start, gap.len());
     }
-    let packing = packing(pack::would_move(&kept.card)?, used);
-    let sum = format!("bytes moved since the card was made: {}", kept.moved);
-    let lines = [moving(card, largest), packing, sum].map(|line| format!("      {line}\n"));
-    Ok(told + &lines.concat())
+    Some(told + &format!("      {}\n", moving(card, largest)))
 }
 
 /// The runs of bytes in no body, the one above the last body among them. The
@@ -93,28 +88,9 @@ fn moving(card: &Decoded, largest: usize) -> String {
     format!("a new file of {sizes} in {name:04X} needs bodies to be moved first: no gap holds it")
 }
 
-/// What PACK would move of all that the files hold.
-fn packing(moved: u32, used: usize) -> String {
-    let (many, all) = (describe::bytes(moved), describe::bytes(used));
-    match usize::try_from(moved) {
-        Ok(0) => "PACK would move nothing".to_string(),
-        Ok(moved) if moved == used => format!("PACK would move {many}, all that the files hold"),
-        _ => format!("PACK would move {moved} of the {all} that the files hold"),
-    }
-}
-
 #[cfg(test)]
 mod tests {
     use super::*;
-
-    #[test]
-    fn what_pack_would_move_is_told() {
-        assert_eq!(packing(0, 0), "PACK would move nothing");
-        assert_eq!(packing(0, 44), "PACK would move nothing");
-        assert_eq!(packing(1, 1), "PACK would move 1 byte, all that the files hold");
-        assert_eq!(packing(44, 44), "PACK would move 44 bytes, all that the files hold");
-        assert_eq!(packing(1, 44), "PACK would move 1 of the 44 bytes that the files hold");
-    }
 
     fn ranges<const MANY: usize>(pairs: [(usize, usize); MANY]) -> [Range<usize>; MANY] {
         pairs.map(|(start, end)| start..end)

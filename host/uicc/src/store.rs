@@ -1,64 +1,44 @@
-//! Cards in files. `files` locks and saves; here are the words for people, and
-//! below this the card in the bytes.
-
-mod kept;
-mod moved;
+//! Cards in files. `files` locks and saves; here are the card in the bytes,
+//! and the words for people.
+//!
+//! A card is one file: its image, and behind it the pool where there are bodies.
+//! Both stand in one file so that they are saved together or not at all.
 
 use std::fs::File;
 use std::io::{self, Read};
 use std::path::Path;
 
-use card::Card;
+use card::{image_length, largest_total, Card, CommandError, FEWEST_SLOTS, MOST_SLOTS};
 use files::disk::Real;
 use files::{Held, Saved, Trouble, Use};
 
-use crate::Done;
+use crate::describe;
 
-pub use kept::Kept;
-pub use moved::Moved;
+/// What an image begins with.
+const MARK: &[u8] = b"UFT";
 
-/// A card whose file is to be saved. The file is locked as long as this lives.
-pub struct Opened<'a> {
-    path: &'a Path,
-    held: Held,
-    pub kept: Kept,
+/// The bytes of the longest card: its image and its pool.
+fn longest() -> u64 {
+    image_length(MOST_SLOTS) as u64 + u64::from(largest_total(MOST_SLOTS))
 }
 
-impl Opened<'_> {
-    /// Saves what became of the card, unless it is as it was; which of both it is
-    /// ends what is told.
-    pub fn settle(self, after: &Kept, words: &str) -> Result<Done, String> {
-        let name = self.path.display();
-        if *after == self.kept {
-            return Ok(Done::told(format!("{words}{name} is as it was\n")));
-        }
-        told(self.path, self.held.replace(&Real, &after.bytes()))?;
-        Ok(Done::saved(format!("{words}{name} saved\n"), self.path))
-    }
-}
-
-/// Opens the file of a card that is to be saved, and reads it. Where another
-/// process uses it, that is told, and waited for.
-pub fn open(path: &Path) -> Result<Opened<'_>, String> {
+/// Opens the file of a card that is to be saved, and reads it. The file is
+/// locked as long as it is held; where another process uses it, that is told,
+/// and waited for.
+pub fn open(path: &Path) -> Result<(Held, Card), String> {
     let mut held = hold(path, Use::Write).map_err(|trouble| not_opened(path, trouble))?;
-    let kept = kept_in(path, held.read(most()))?;
-    Ok(Opened { path, held, kept })
+    let card = card_of(path, held.read(longest() + 1))?;
+    Ok((held, card))
 }
 
 /// The card of a file that is only looked at. What is no regular file, as a
 /// pipe, is read once; nobody replaces it, so that it needs no lock.
-pub fn look(path: &Path) -> Result<Kept, String> {
+pub fn look(path: &Path) -> Result<Card, String> {
     match hold(path, Use::Read) {
-        Ok(mut held) => kept_in(path, held.read(most())),
-        Err(Trouble::Irregular(_)) => kept_in(path, read_once(path, most())),
+        Ok(mut held) => card_of(path, held.read(longest() + 1)),
+        Err(Trouble::Irregular(_)) => card_of(path, read_once(path, longest() + 1)),
         Err(trouble) => Err(not_opened(path, trouble)),
     }
-}
-
-/// So many bytes are read of a file: one more than any card has, so that a longer
-/// file is told from the longest card.
-fn most() -> u64 {
-    kept::longest() as u64 + 1
 }
 
 /// The bytes of a file that is not held, but no more than so many.
@@ -77,15 +57,75 @@ fn not_opened(path: &Path, trouble: Trouble) -> String {
 }
 
 /// The card of the bytes that were read, if they are one.
-fn kept_in(path: &Path, bytes: io::Result<Vec<u8>>) -> Result<Kept, String> {
+fn card_of(path: &Path, bytes: io::Result<Vec<u8>>) -> Result<Card, String> {
     let bytes = bytes.map_err(|error| error.to_string());
-    bytes.and_then(Kept::read).map_err(|why| format!("{}: {why}", path.display()))
+    bytes.and_then(card_in).map_err(|why| format!("{}: {why}", path.display()))
 }
 
-/// Makes the file of a fresh card; takes the place of one that is there only
-/// where it is told to replace.
-pub fn make(path: &Path, card: Card, replace: bool) -> Result<(), String> {
-    make_file(path, &Kept::fresh(card).bytes(), replace)
+/// The card in these bytes. Its slot count tells how long the image is; the
+/// proved card then judges the image, and the pool behind it.
+fn card_in(mut bytes: Vec<u8>) -> Result<Card, String> {
+    let all = bytes.len();
+    if all as u64 > longest() {
+        return Err(format!("this is no card image: it has more than {} bytes", longest()));
+    }
+    if !bytes.starts_with(MARK) {
+        return Err("this is no card image: it does not begin with UFT".to_string());
+    }
+    let [_, _, _, _, _, high, low, ..] = bytes.as_slice() else {
+        return Err(format!("the file is cut: it has {all} bytes, and a header alone has 16"));
+    };
+    let slots = usize::from(u16::from_be_bytes([*high, *low]));
+    if !(FEWEST_SLOTS..=MOST_SLOTS).contains(&slots) {
+        let why = format!("its header tells {slots} slots, and a card has 2 to 1,023");
+        return Err(format!("the card image is damaged: {why}"));
+    }
+    let length = image_length(slots);
+    if all < length {
+        let image = format!("an image of {slots} slots has {length} bytes");
+        return Err(format!("the file is cut: {image}, and {all} are there"));
+    }
+    let pool = bytes.split_off(length);
+    let behind = pool.len();
+    let card = Card::from_parts(bytes, pool).map_err(|refused| match refused.reason() {
+        CommandError::WrongPool { wanted, given } => wrong_pool(length, wanted, given),
+        reason => reason.to_string(),
+    })?;
+    if behind > 0 && !card.kind().has_bodies() {
+        let version = card.kind().version;
+        let image = format!("the image of {slots} slots has {length} bytes");
+        return Err(format!("{}: {image}, and version {version} has no pool", too_many(behind)));
+    }
+    Ok(card)
+}
+
+/// Why a file with a sound image is no card: its pool is cut, or more follows.
+fn wrong_pool(image: usize, wanted: usize, given: usize) -> String {
+    let pool = format!("behind the image of {image} bytes the pool has {wanted}, the root's total");
+    match given.checked_sub(wanted) {
+        Some(more) => format!("{}: {pool}, and {given} are there", too_many(more)),
+        None => format!("the file is cut: {pool}, and {given} are there"),
+    }
+}
+
+fn too_many(bytes: usize) -> String {
+    format!("the file has {} too many", describe::bytes(bytes))
+}
+
+/// The bytes of a card's file: the image, and behind it the pool.
+fn bytes_of(card: &Card) -> Vec<u8> {
+    [card.image(), card.pool()].concat()
+}
+
+/// Puts a card in the place of the held file.
+pub fn save(path: &Path, held: Held, card: &Card) -> Result<(), String> {
+    told(path, held.replace(&Real, &bytes_of(card)))
+}
+
+/// Makes the file of a card; takes the place of one that is there only where
+/// it is told to replace.
+pub fn make(path: &Path, card: &Card, replace: bool) -> Result<(), String> {
+    make_file(path, &bytes_of(card), replace)
 }
 
 /// The same for any bytes.

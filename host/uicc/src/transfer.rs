@@ -8,8 +8,7 @@ use card::{largest_total, State, MOST_SLOTS};
 use crate::arguments::{Output, STREAM};
 use crate::body::{self, Part};
 use crate::file_path::FilePath;
-use crate::store::{self, Kept};
-use crate::{describe, Done};
+use crate::{describe, store, Done};
 
 /// Reads a part of a file on a card, which is only looked at.
 pub fn read(
@@ -23,7 +22,7 @@ pub fn read(
         must_differ(image, name)?;
     }
     let name = image.display();
-    let card = store::look(image)?.card;
+    let card = store::look(image)?;
     let read = body::read(&card, path, part, state).map_err(|why| format!("{name}: {why}"))?;
     match output {
         Output::People => Ok(Done::told(read.told())),
@@ -46,13 +45,15 @@ pub fn write(
 ) -> Result<Done, String> {
     let data = bytes_of(input)?;
     let name = image.display();
-    let opened = store::open(image)?;
-    let Kept { card, moved } = &opened.kept;
-    let card = body::write(card, path, part, &data, state)
+    let (held, card) = store::open(image)?;
+    let after = body::write(&card, path, part, &data, state)
         .map_err(|why| format!("{name}: {why}: nothing was saved, the file is as it was"))?;
-    let after = Kept { card, moved: *moved };
-    let told = format!("{name}: {path}: {} written\n", describe::bytes(data.len()));
-    opened.settle(&after, &told)
+    let told = format!("{name}: {path}: {} written", describe::bytes(data.len()));
+    if after == card {
+        return Ok(Done::told(format!("{told}\n{name} is as it was\n")));
+    }
+    store::save(image, held, &after)?;
+    Ok(Done::saved(format!("{told}\n{name} saved\n"), image))
 }
 
 /// What is read of a card may not take the card's place.

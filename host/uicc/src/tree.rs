@@ -2,12 +2,11 @@
 
 use std::collections::HashMap;
 
-use card::Rule;
+use card::{Card, Rule};
 use model::Card as Decoded;
 
 use crate::rule::{self, Owner};
 use crate::standing::{Origin, Standing};
-use crate::store::Kept;
 use crate::{bar, describe, hex, pool};
 
 /// Deeper levels are no longer drawn further to the right; they are numbered.
@@ -24,8 +23,7 @@ struct Row {
 
 /// The whole tree with a line about the card above it; below it the pool, where
 /// there is one, and the rules.
-pub fn show(kept: &Kept) -> Result<String, String> {
-    let card = &kept.card;
+pub fn show(card: &Card) -> Result<String, String> {
     let decoded = Decoded::decode(card.image()).ok_or("the image cannot be read")?;
     let rows = rows(&decoded);
     let (slots, used, version) = (decoded.records.len(), rows.len(), card.kind().version);
@@ -51,7 +49,7 @@ pub fn show(kept: &Kept) -> Result<String, String> {
         let (rule, notes) = (rules.number(rule).to_string(), notes(&decoded, *slot));
         told += &line(width, [place, kind, &life_cycle, &measures, &rule, &notes]);
     }
-    Ok(told + &pool::map(kept, &decoded)? + &rules.told())
+    Ok(told + &pool::map(&decoded).unwrap_or_default() + &rules.told())
 }
 
 fn line(width: usize, [place, kind, life_cycle, measures, rule, notes]: [&str; 6]) -> String {

@@ -1,6 +1,6 @@
 -- `told_numbers`: what a word tells, or zeros.
 use mathlib.Core.Path.{refl}
-use Rattle.abi.proofs.Cases.{told-word, told_case, told_narrow, moved_narrow}
+use Rattle.abi.proofs.Cases.{told-word, told_case, told_narrow}
 use borrow.Author.Rules.{rules}
 use Rattle.abi.proofs.told_numbers.Statement.{statement}
 use Rattle.abi.proofs.told_numbers.Tie as tie
@@ -8,14 +8,11 @@ use Rattle.abi.proofs.told_numbers.Tie as tie
 enum-known-reply : tie.Need-enum-known-reply
 enum-known-reply c = search rules
 
-cast-t7 : tie.Need-overflow-cast-t7
-cast-t7 c = search told_narrow
+cast-t6 : tie.Need-overflow-cast-t6
+cast-t6 c = search told_narrow
 
 number-of-requires : tie.Need-number-of-requires
 number-of-requires c κs = search rules
-
-cast-t9 : tie.Need-overflow-cast-t9
-cast-t9 c = search moved_narrow
 
 enum_told : tie.Need-enum-told
 enum_told c = search rules
@@ -43,9 +40,8 @@ told-numbers-spec =
     tie.close
     (tie.spec
     enum-known-reply
-    cast-t7
+    cast-t6
     number-of-requires
-    cast-t9
     enum_told
     enum-told-2
     enum-told-3

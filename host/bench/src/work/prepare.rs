@@ -4,7 +4,6 @@
 use cases::actions::{bare, select};
 use cases::rules::Rule;
 use cases::template::FileData;
-use cases::Lent;
 use model::rule::Form;
 use model::{Card, Record};
 
@@ -58,13 +57,6 @@ pub fn last_file_again(card: &mut Card, descriptor: u8) -> Vec<u8> {
 pub fn beside_last_file(card: &mut Card, size: u32) -> Vec<u8> {
     card.make_current(card.parent(last_slot(card)));
     FileData::plain(0x41, 0x5555, size).command()
-}
-
-/// The card with all its bodies moved down already.
-pub fn packed(start: &Lent) -> Lent {
-    let Lent { mut image, mut pool } = start.clone();
-    model::pack(&mut image, &mut pool);
-    Lent { image, pool }
 }
 
 /// Makes the last file current, with its directory, and gives the READ or UPDATE

@@ -36,7 +36,7 @@ fn the_commands_do_what_their_titles_say() {
             let (bytes, state) = match call {
                 Call::Command(bytes) => (bytes, State::FULL),
                 Call::Unauthenticated(bytes) => (bytes, State::EMPTY),
-                Call::Sound | Call::Report | Call::Rule(_) | Call::Pack => continue,
+                Call::Sound | Call::Report | Call::Rule(_) => continue,
             };
             let wanted = match task {
                 Task::UnknownInstruction => (0x6D00, Security::NoRefusal),
@@ -54,24 +54,6 @@ fn the_commands_do_what_their_titles_say() {
             let has_data = format!("{task:?}").contains("Template")
                 || matches!(task, Task::Read | Task::ReadRecord);
             assert_eq!(answer.data_length > 0, has_data, "{}, {task:?}", worst.title);
-        }
-    }
-}
-
-/// One PACK moves all that is there, the other nothing.
-#[test]
-fn bodies_are_packed_by_one_pack_and_not_by_the_other() {
-    let shapes = [16, 128, 1023].into_iter().flat_map(shapes);
-    for worst in shapes.filter(|shape| shape.tasks == Task::BODIED) {
-        for (task, _) in Task::PACKS {
-            let (Lent { mut image, mut pool }, call) = task.prepared(&worst.start);
-            assert_eq!(call, Call::Pack);
-            let card = Card::decode(&image).expect("a card");
-            let live: u32 =
-                model::bodies::in_order(&card).iter().map(|&slot| card.record(slot).size).sum();
-            let wanted = if task == Task::PackMoving { live } else { 0 };
-            let moved = card::lent::pack(&mut image, &mut pool).expect("a sound card and its pool");
-            assert_eq!(moved, wanted, "{}, {task:?}", worst.title);
         }
     }
 }

@@ -4,7 +4,7 @@
 use card::{lent, Card, CommandError, Kind, Rule, State, LONGEST_RESPONSE};
 
 use crate::common::{create_open, done, fresh_of, noise, read, read_record, run, select};
-use crate::common::{runs, update, update_record, with_gaps};
+use crate::common::{update, update_record};
 
 const THREE: Kind = Kind::VERSION_3;
 
@@ -120,6 +120,26 @@ fn a_short_response_leaves_everything() {
             assert_eq!((&i, &p), (&image, &pool), "{le}, {length}");
         }
     }
+}
+
+/// Four files of a card whose free bytes are A5, the first and the third of them
+/// deleted again: gaps of 200, 200 and 256 bytes, and room for 464.
+fn with_gaps() -> Card {
+    let card = Card::make(16, THREE, 676, Rule::OPEN).expect("a card");
+    let mut card = Card::from_parts(card.into_image(), vec![0xA5; 676]).expect("a card");
+    for (identifier, size) in [(0x6F01, 200), (0x6F02, 10), (0x6F03, 200), (0x6F04, 10)] {
+        assert_eq!(run(&mut card, &create_open(identifier, 0, size)), 0x9000);
+        assert_eq!(run(&mut card, &update(0, &vec![identifier as u8; size.into()])), 0x9000);
+    }
+    for identifier in [0x01, 0x03] {
+        assert_eq!(run(&mut card, &[0x00, 0xE4, 0x00, 0x00, 0x02, 0x6F, identifier]), 0x9000);
+    }
+    card
+}
+
+/// The pool from one run of bytes after the other.
+fn runs(runs: &[(u8, usize)]) -> Vec<u8> {
+    runs.iter().flat_map(|&(byte, length)| vec![byte; length]).collect()
 }
 
 #[test]

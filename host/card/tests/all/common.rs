@@ -26,12 +26,6 @@ pub fn select_told(identifier: u16) -> Vec<u8> {
     vec![0x00, 0xA4, 0x00, 0x04, 0x02, high, low, 0x00]
 }
 
-/// DELETE of a file.
-pub fn delete(identifier: u16) -> Vec<u8> {
-    let [high, low] = identifier.to_be_bytes();
-    vec![0x00, 0xE4, 0x00, 0x00, 0x02, high, low]
-}
-
 /// READ BINARY of so many bytes from a start on.
 pub fn read(start: u16, length: u8) -> Vec<u8> {
     let [high, low] = start.to_be_bytes();
@@ -91,27 +85,7 @@ pub fn with_c6(template: &[u8]) -> Vec<u8> {
 
 /// What a command answers that is done, with so many bytes of data.
 pub fn done(data_length: usize) -> Answer {
-    Answer { word: Word::DONE, security: Security::NoRefusal, data_length, moved: 0 }
-}
-
-/// Four files of a card whose free bytes are A5, the first and the third of them
-/// deleted again: gaps of 200, 200 and 256 bytes, and room for 464.
-pub fn with_gaps() -> Card {
-    let card = Card::make(16, Kind::VERSION_3, 676, Rule::OPEN).expect("a card");
-    let mut card = Card::from_parts(card.into_image(), vec![0xA5; 676]).expect("a card");
-    for (identifier, size) in [(0x6F01, 200), (0x6F02, 10), (0x6F03, 200), (0x6F04, 10)] {
-        assert_eq!(run(&mut card, &create_open(identifier, 0, size)), 0x9000);
-        assert_eq!(run(&mut card, &update(0, &vec![identifier as u8; size.into()])), 0x9000);
-    }
-    for identifier in [0x6F01, 0x6F03] {
-        assert_eq!(run(&mut card, &delete(identifier)), 0x9000);
-    }
-    card
-}
-
-/// The pool from one run of bytes after the other.
-pub fn runs(runs: &[(u8, usize)]) -> Vec<u8> {
-    runs.iter().flat_map(|&(byte, length)| vec![byte; length]).collect()
+    Answer { word: Word::DONE, security: Security::NoRefusal, data_length }
 }
 
 /// What SELECT with 04 gives.

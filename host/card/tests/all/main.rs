@@ -6,7 +6,6 @@ mod calls;
 mod common;
 mod making;
 mod numbers;
-mod packing;
 mod places;
 mod pools;
 mod referred;

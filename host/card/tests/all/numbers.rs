@@ -72,7 +72,6 @@ fn the_header_has_the_same_numbers() {
         ("HULL_POOL_MOST", answer(largest_total(MOST_SLOTS))),
         ("HULL_RESPONSE_MOST", LONGEST_RESPONSE),
         ("HULL_COMMAND_NUMBERS", ffi::command(&mut [], &mut [], &[], &mut [], FULL, 0).1.len()),
-        ("HULL_PACK_NUMBERS", ffi::pack(&mut [], &mut []).1.len()),
         ("HULL_REPORT_NUMBERS", ffi::report(&[]).1.len()),
         ("HULL_RULE_NUMBERS", ffi::rule(&[], &[], 0).1.len()),
         ("HULL_NOT_SOUND", answer(CommandError::Damaged.answer())),

@@ -221,7 +221,7 @@ fn other_answers_have_no_number() {
 }
 
 /// Such a caller looked at the word, at the bytes and at the first number; the
-/// third is 0 with every refusal.
+/// third is kept still.
 #[test]
 fn a_caller_that_knows_no_such_number_finds_all_else_as_it_was() {
     for rule in [[0x02, USER_1], [0x02, 0xFF]] {

@@ -8,7 +8,7 @@ use crate::common::say;
 use cases::{Case, Generator, Kind};
 use model::command::Instruction;
 use model::lines::Case as Line;
-use model::{command, make, pack, replay, report, words};
+use model::{command, make, replay, report, words};
 
 const SEED: u64 = 20_240_229;
 const COUNT: usize = 6000;
@@ -35,9 +35,6 @@ fn every_word_and_every_answer_occurs() {
             Line::Report { image } => {
                 answers_seen.insert(('R', report(&image).0));
             }
-            Line::Pack { mut image, mut pool } => {
-                answers_seen.insert(('P', pack(&mut image, &mut pool).0));
-            }
             _ => {}
         }
     }
@@ -53,9 +50,6 @@ fn every_word_and_every_answer_occurs() {
         ('M', 2),
         ('M', 3),
         ('M', 4),
-        ('P', 0),
-        ('P', 1),
-        ('P', 6),
         ('R', 0),
         ('R', 1),
     ];
@@ -68,17 +62,16 @@ fn every_kind_occurs_in_the_mix() {
     for made in Generator::new(SEED).take(COUNT) {
         *counts.entry(made.kind).or_insert(0) += 1;
     }
-    let weights: usize = Kind::MIX.iter().map(|(_, weight)| weight).sum();
     for (kind, weight) in Kind::MIX {
-        let (count, share) = (counts.get(&kind).copied().unwrap_or(0), COUNT * weight / weights);
-        assert!(count * 4 >= share * 3 - 12, "{kind:?} comes {count} times, not {share}");
+        let share = counts.get(&kind).copied().unwrap_or(0) * 1000 / COUNT;
+        assert!(share * 2 + 4 >= weight, "{kind:?} comes {share} times in a thousand");
     }
 }
 
 #[test]
 fn every_instruction_succeeds_and_is_refused() {
     let mut seen = BTreeSet::new();
-    for made in Generator::only(SEED, Kind::SoundCommand).take(12_000) {
+    for made in Generator::only(SEED, Kind::SoundCommand).take(3000) {
         let Case::OneCommand { mut image, mut pool, command: bytes, mut response, state } =
             made.case
         else {

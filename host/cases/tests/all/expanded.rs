@@ -207,7 +207,7 @@ fn templates_have_rules_of_both_forms() {
 #[test]
 fn histories_and_images_make_files_with_rules_of_both_forms() {
     each_at_least(&creations(Kind::History, 500), 10, &MADE);
-    each_at_least(&creations(Kind::SoundCommand, 9000), 5, &MADE);
+    each_at_least(&creations(Kind::SoundCommand, 6000), 5, &MADE);
 }
 
 #[test]

@@ -6,11 +6,11 @@ use std::collections::BTreeSet;
 use crate::common::say;
 use cases::history::history_of;
 use cases::themes::Theme;
-use cases::{Case, Generator, History, Kind, Random, Step};
+use cases::{Case, Generator, History, Kind, Lent, Random, Step};
 use model::ledger::{announced, current_df_slot, Ledger};
 use model::record::charge;
 use model::soundness::sound_card;
-use model::{report, words, Card, Word};
+use model::{command, report, words, Card, Word};
 
 const SEED: u64 = 77;
 const COUNT: usize = 1500;
@@ -41,16 +41,13 @@ fn more_than_half_of_all_commands_succeed() {
 /// succeeded, how many were refused for memory, how many met the exact room
 /// and how many asked for one more.
 fn audit(history: &History) -> [u64; 4] {
-    let mut lent = history.fresh();
+    let Lent { mut image, mut pool } = history.fresh();
     let mut ledger = Ledger::open(history.total);
     let mut counts = [0; 4];
     for step in &history.steps {
-        // The ledger hears nothing of a PACK, which changes no report.
-        let reported = report(&lent.image);
-        step.pack_first(&mut lent);
-        assert_eq!(report(&lent.image), reported, "PACK leaves files and rooms");
-        let before = current_df_slot(&lent.image);
-        let word = step.run(&mut lent).word;
+        let before = current_df_slot(&image);
+        let mut response = step.response.clone();
+        let word = command(&mut image, &mut pool, &step.command, &mut response, &step.state).word;
         assert!(ledger.agrees(&step.command, word, before), "{step:02X?} answered {word:04X}");
         if step.command.get(1) == Some(&0xE0) {
             let room = ledger.room(before).expect("the ledger knows the current directory");
@@ -60,9 +57,9 @@ fn audit(history: &History) -> [u64; 4] {
             counts[2] += u64::from(word == words::SUCCESS && asked == Some(room));
             counts[3] += u64::from(word == words::NOT_ENOUGH_MEMORY && asked == Some(room + 1));
         }
-        let after = current_df_slot(&lent.image);
+        let after = current_df_slot(&image);
         ledger.enter(&step.command, word, before, after);
-        let (_, [total, room, children, _]) = report(&lent.image);
+        let (_, [total, room, children, _]) = report(&image);
         assert_eq!(ledger.total(after), Some(total));
         assert_eq!(ledger.room(after), Some(u64::from(room)));
         assert_eq!(ledger.children(after), children as usize);

@@ -19,7 +19,6 @@ mod life_cycles;
 mod met;
 mod mistaken;
 mod near;
-mod packs;
 mod pools;
 mod program;
 mod references;

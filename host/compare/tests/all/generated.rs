@@ -13,7 +13,7 @@ use compare::{check_case, Pair, Tally};
 /// One row of cases for each of two processes, and how many make 100,000
 /// commands.
 const SEEDS: [u64; 2] = [20_261_115, 20_261_116];
-const CASES_EACH: usize = 31_000;
+const CASES_EACH: usize = 28_000;
 
 /// Compares a case; a disagreement fails the test with its smallest form.
 fn must_agree(case: &cases::Case, what: &str, tally: &mut Tally) {
@@ -37,10 +37,10 @@ fn tally_of(told: &str) -> Tally {
     let number = |part: &str| part.parse().ok();
     let numbers: Vec<u64> =
         counts.split(|c: char| !c.is_ascii_digit()).filter_map(number).collect();
-    let Ok(numbers) = <[u64; 20]>::try_from(numbers) else { panic!("not a tally: {counts}") };
+    let Ok(numbers) = <[u64; 17]>::try_from(numbers) else { panic!("not a tally: {counts}") };
     let [cases, commands, effects, lacking, closed, ledger_steps, templates, ..] = numbers;
-    let [_, _, _, _, _, _, _, reads, updates, packings, packs, packs_moving, ..] = numbers;
-    let [.., bytes_moved, made_again, makes, reports, replays, places, in_pools, nowhere] = numbers;
+    let [_, _, _, _, _, _, _, reads, updates, packings, made_again, makes, ..] = numbers;
+    let [.., reports, replays, places, in_pools, nowhere] = numbers;
     Tally {
         cases,
         makes,
@@ -55,9 +55,6 @@ fn tally_of(told: &str) -> Tally {
         reads,
         updates,
         packings,
-        packs,
-        packs_moving,
-        bytes_moved,
         made_again,
         places,
         in_pools,
@@ -85,11 +82,8 @@ fn a_tally_is_read_as_it_is_told() {
         places: 15,
         in_pools: 16,
         nowhere: 17,
-        packs: 18,
-        packs_moving: 19,
-        bytes_moved: 20,
     };
-    assert_eq!(tally_of(&format!("seed 21: all agree in 22.0 s: {tally}\n")), tally);
+    assert_eq!(tally_of(&format!("seed 18: all agree in 19.0 s: {tally}\n")), tally);
 }
 
 #[test]
@@ -120,7 +114,6 @@ fn two_hundred_thousand_commands_agree() {
     assert!(tally.lacking > 5_000 && tally.closed > 20_000, "too few of a sort denied: {tally}");
     assert!(tally.templates > 10_000 && tally.made_again > 3_000, "{tally}");
     assert!(tally.reads > 1_000 && tally.updates > 1_000 && tally.packings > 200, "{tally}");
-    assert!(tally.packs > 6_000 && tally.packs_moving > 1_000, "too few PACKs: {tally}");
     assert!(tally.places > 8_000 && tally.in_pools > 2_500 && tally.nowhere > 4_000, "{tally}");
     let others = [tally.makes, tally.reports, tally.replays];
     assert!(others.iter().all(|&count| count > 1000), "{tally}");

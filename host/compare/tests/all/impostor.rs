@@ -12,6 +12,9 @@ use model::State;
 const CASES: usize = 1500;
 const MOST_CASES: usize = 6000;
 
+/// Tag and value.
+pub type Object = (u8, Vec<u8>);
+
 /// What a command came with.
 pub struct Came<'a> {
     pub image: &'a [u8],
@@ -72,17 +75,9 @@ impl Left<'_> {
 /// What a wrong card does after the right one has answered.
 pub type Spoil = fn(&Came, &mut Left, Told) -> Told;
 
-/// PACK's answer, and how many bytes were moved.
-pub type Packed = (u32, u32);
-
-/// What a wrong card does after the right one has packed; what PACK came with has
-/// no command and no response buffer.
-pub type Repack = fn(&Came, &mut Left, Packed) -> Packed;
-
 /// The model with something spoilt.
 pub struct Impostor {
     pub command: Spoil,
-    pub pack: Repack,
     pub report: fn([u32; 4]) -> [u32; 4],
     pub rule: Retell,
     pub sound: fn(bool) -> bool,
@@ -104,7 +99,6 @@ pub type Retell = fn(&Sought, Stands) -> Stands;
 
 pub const HONEST: Impostor = Impostor {
     command: |_, _, told| told,
-    pack: |_, _, packed| packed,
     report: |n| n,
     rule: |_, stands| stands,
     sound: |s| s,
@@ -130,14 +124,6 @@ impl Subject for Impostor {
         let told = Model.command(image, pool, command, response, state);
         let came = Came { image: &before, pool: &held, command, response: &lent, state };
         (self.command)(&came, &mut Left { image, pool, response }, told)
-    }
-
-    fn pack(&self, image: &mut [u8], pool: &mut [u8]) -> Packed {
-        let [before, held] = [&*image, &*pool].map(<[u8]>::to_vec);
-        let packed = Model.pack(image, pool);
-        let state = &State::EMPTY;
-        let came = Came { image: &before, pool: &held, command: &[], response: &[], state };
-        (self.pack)(&came, &mut Left { image, pool, response: &mut [] }, packed)
     }
 
     fn report(&self, image: &[u8]) -> (u32, [u32; 4]) {
@@ -172,10 +158,6 @@ impl Subject for Maker {
         state: &State,
     ) -> Told {
         Model.command(image, pool, command, response, state)
-    }
-
-    fn pack(&self, image: &mut [u8], pool: &mut [u8]) -> Packed {
-        Model.pack(image, pool)
     }
 
     fn report(&self, image: &[u8]) -> (u32, [u32; 4]) {
@@ -252,22 +234,8 @@ pub fn found_small_within(count: usize, title: &str, command: Spoil) {
 /// It is found among cases of a kind, and told on a card of at most so many
 /// slots.
 pub fn found_small_in(title: &str, command: Spoil, kind: Kind, slots: usize) {
-    found_small_among(MOST_CASES, title, &Impostor { command, ..HONEST }, Some(kind), slots);
-}
-
-/// The same within the first so many cases of a kind or of the mix, of a card that
-/// gets a command wrong or PACK.
-pub fn found_small_among(
-    count: usize,
-    title: &str,
-    impostor: &Impostor,
-    kind: Option<Kind>,
-    slots: usize,
-) {
-    let line = found_line_among(count, title, impostor, kind);
-    let (Line::Command { image, pool, .. } | Line::Pack { image, pool }) = &line else {
-        panic!("{title}: {}", line.line())
-    };
+    let line = found_line(title, &Impostor { command, ..HONEST }, Some(kind));
+    let Line::Command { image, pool, .. } = &line else { panic!("{title}: {}", line.line()) };
     let small = image.len() <= 16 + 64 * slots && pool.len() <= 64 * slots;
     assert!(small, "{title}: {} bytes: {}", image.len(), line.line());
 }
@@ -276,4 +244,44 @@ pub fn found_small_among(
 pub fn too_short(came: &Came, left: &mut Left) -> Told {
     left.restore(came);
     Told { answer: 5, word: 0, numbers: [0; 3] }
+}
+
+/// The objects of a template.
+fn objects_of(template: &[u8]) -> Vec<Object> {
+    let mut left = &template[2..];
+    let mut objects = Vec::new();
+    while let [tag, length, ..] = *left {
+        let (object, after) = left.split_at(2 + usize::from(length));
+        objects.push((tag, object[2..].to_vec()));
+        left = after;
+    }
+    objects
+}
+
+/// The template that the right card gave with its objects changed; answer 5
+/// where the buffer is too short for that.
+pub fn respelled(
+    came: &Came,
+    left: &mut Left,
+    told: Told,
+    change: impl Fn(&mut Vec<Object>),
+) -> Told {
+    let data = told.numbers[0] as usize;
+    if data == 0 || came.command.get(1) != Some(&0xA4) {
+        return told;
+    }
+    let mut objects = objects_of(&left.response[..data]);
+    change(&mut objects);
+    let new = cases::template::template(&objects);
+    if new.len() > left.response.len() {
+        return too_short(came, left);
+    }
+    left.response.copy_from_slice(came.response);
+    left.response[..new.len()].copy_from_slice(&new);
+    Told { numbers: [new.len() as u32, 0, 0], ..told }
+}
+
+/// The same object with another value.
+pub fn with_value(objects: &mut [Object], tag: u8, change: impl Fn(&mut Vec<u8>)) {
+    objects.iter_mut().filter(|(is, _)| *is == tag).for_each(|(_, value)| change(value));
 }

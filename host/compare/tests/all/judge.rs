@@ -103,8 +103,8 @@ pub fn asked(came: &Came) -> Option<(Card, Vec<(usize, Right)>)> {
 
 /// The same with another number for security.
 pub fn numbered(told: Told, security: u32) -> Told {
-    let [data, _, moved] = told.numbers;
-    Told { numbers: [data, security, moved], ..told }
+    let [data, _, later] = told.numbers;
+    Told { numbers: [data, security, later], ..told }
 }
 
 /// A card that tells the number of each security refusal by this judge.

@@ -178,10 +178,6 @@ impl Subject for Mistaken {
         })
     }
 
-    fn pack(&self, image: &mut [u8], pool: &mut [u8]) -> (u32, u32) {
-        Model.pack(image, pool)
-    }
-
     fn report(&self, image: &[u8]) -> (u32, [u32; 4]) {
         Model.report(image)
     }

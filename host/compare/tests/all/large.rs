@@ -1,6 +1,6 @@
-//! Bodies on the largest cards (02, Tickets 4 and 8): starts from 8000 on, parts far
-//! from the start, moves of nearly the whole pool and their counts, sums past FFFF.
-//! Generated cards are mostly small.
+//! Bodies on the largest cards (02, Ticket 4): starts from 8000 on, parts far from
+//! the start, moves of nearly the whole pool, sums past FFFF. Generated cards are
+//! mostly small.
 
 use crate::say;
 use cases::layouts::{lay_out, wrong_start, Layout};
@@ -83,7 +83,6 @@ fn large_bodies_agree() {
         let card = card(&mut random);
         let image = card.encode();
         let pool = pools::right(&mut random, &image);
-        same(&Line::Pack { image: image.clone(), pool: pool.clone() }, &mut tally);
         for _ in 0..COMMANDS {
             let command = match random.chance(60) {
                 true => reads::read_or_update(&mut random, &card),
@@ -98,7 +97,6 @@ fn large_bodies_agree() {
     }
     say(&format!("large bodies: {tally}: {reached:?}"));
     assert!(tally.reads > 100 && tally.updates > 100 && tally.packings > 10, "{tally}");
-    assert!(tally.packs_moving > 60 && tally.bytes_moved > 1_000_000, "{tally}");
     let Reached { starts_from_8000, parts_from_4000, last_records } = reached;
     assert!(starts_from_8000 > 30 && parts_from_4000 > 30 && last_records > 10, "{reached:?}");
 }

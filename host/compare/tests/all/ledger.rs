@@ -1,9 +1,6 @@
 //! The ledger of demand 3's theorem, by itself: its definitions on small
 //! histories, and that what it says of a command finds a wrong one out.
 
-use cases::Lent;
-use compare::books::Books;
-use compare::contents::Contents;
 use compare::demand3::{word_fits, Given};
 use compare::ledger::{heard, Announced, Ledger};
 use model::words::{NOT_ENOUGH_MEMORY, SUCCESS};
@@ -76,35 +73,13 @@ fn a_size_that_would_wrap_is_refused() {
     assert!(word_fits(&ledger, 0, &LARGEST, 0x6982), "other words are not judged");
 }
 
-/// A fresh card of 8 slots whose root has 448.
-fn fresh(version: u32) -> Vec<u8> {
-    let mut image = vec![0; 16 + 64 * 8];
-    let made = model::maker::make(&mut image, version, 448, 0, &[0x7F, 0, 0, 0, 0, 0, 0, 0]);
-    assert_eq!(made, 0);
-    image
-}
-
-/// What is said of a command on such a card.
+/// What is said of a command on a fresh card of 8 slots whose root has 448.
 fn said(next: &Ledger, told: Announced) -> Option<String> {
     let ledger = Ledger::opened(448);
-    Given { ledger: &ledger, next, told, before: 0, after: 0 }.complaint(&fresh(1))
-}
-
-/// Of a call of which nothing is heard: rooms stay, and so does what files hold.
-#[test]
-fn what_is_not_heard_changes_nothing() {
-    let mut lent = Lent { image: fresh(3), pool: vec![0; 448] };
-    let unheard = |total: u32, lent: &Lent| Books::open(total).unheard((0, &lent.image), None);
-    assert_eq!(unheard(448, &lent), None);
-    assert!(unheard(512, &lent).is_some_and(|complaint| complaint.contains("rooms: slot 0")));
-    assert_eq!(Contents::default().unheard(&lent), None);
-    let create = cases::template::FileData::plain(0x41, 0x6F07, 9).command();
-    let Lent { image, pool } = &mut lent;
-    let made = model::command(image, pool, &create, &mut [], &model::State::FULL);
-    assert_eq!(made.word, SUCCESS);
-    assert!(unheard(448, &lent).is_some_and(|complaint| complaint.contains("rooms: slot 0")));
-    let complaint = Contents::default().unheard(&lent);
-    assert_eq!(complaint.as_deref(), Some("0 bodies are known of 1"));
+    let mut image = vec![0; 16 + 64 * 8];
+    let made = model::maker::make(&mut image, 1, 448, 0, &[0x7F, 0, 0, 0, 0, 0, 0, 0]);
+    assert_eq!(made, 0);
+    Given { ledger: &ledger, next, told, before: 0, after: 0 }.complaint(&image)
 }
 
 #[test]

@@ -1,7 +1,7 @@
 //! Where bodies lie (02, Ticket 4), found in another way than the model's, and
 //! with one thing wrong if so wished; cards that lay out their pool by it.
 
-use crate::impostor::{Came, Left, Packed};
+use crate::impostor::{Came, Left};
 use compare::Told;
 use model::bodies::body;
 use model::soundness::sound_card;
@@ -113,17 +113,6 @@ impl Places {
             gaps(card, pool.len()).iter().for_each(|&(at, free)| pool[at..at + free].fill(0));
         }
         free_from
-    }
-
-    /// PACK on a card that lays its bodies so.
-    pub fn packing(&self, came: &Came, left: &mut Left, packed: Packed) -> Packed {
-        let bodied = |card: &Card| card.edition.has_bodies() && packed.0 == 0;
-        if let Some(mut card) = sound_card(came.image).filter(bodied) {
-            left.pool.copy_from_slice(came.pool);
-            self.pack(&mut card, left.pool, 0);
-            left.image.copy_from_slice(&card.encode());
-        }
-        packed
     }
 
     /// Lays a new body; gives its start.

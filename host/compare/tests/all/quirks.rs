@@ -2,8 +2,7 @@
 //! wrong, and cards that read their rules by it. A decision is one of three
 //! (Ticket 6), here too.
 
-use crate::impostor::{Came, Left};
-use crate::respelled::Object;
+use crate::impostor::{Came, Left, Object};
 use cases::template::{create_command, template};
 use compare::Told;
 use model::deciding::rule_of;
@@ -148,7 +147,7 @@ impl Quirks {
 
 /// The objects of a CREATE whose lengths are all good.
 pub fn objects_sent(command: &[u8]) -> Option<Vec<Object>> {
-    let [0x00, 0xE0, 0x00, 0x00, _, 0x62, 0..=0x7F, inside @ ..] = command else { return None };
+    let [0x00, 0xE0, 0x00, 0x00, _, 0x62, _, inside @ ..] = command else { return None };
     let sent = objects::all(inside)?;
     let sent: Vec<_> = sent.iter().map(|object| (object.tag, object.value.to_vec())).collect();
     (create_command(&template(&sent)) == command).then_some(sent)

@@ -1,27 +1,42 @@
 //! Rules kept in files (02, Ticket 7), by the proved card and the model: a command
 //! asked again after its rule was written, and smaller cards with such rules.
 
-use crate::packs::given;
 use crate::say;
 use cases::rule_files::kept;
-use cases::{Case, Generator, History, Kind, Random};
+use cases::{Case, Generator, History, Kind, Lent, Random};
 use compare::records::{changed, changes_of, owned, Change};
 use compare::shrink::smallest;
 use compare::smaller::{packed, rank};
-use compare::{check_case, Pair, Tally, Told};
+use compare::{check_case, run, Outcome, Pair, Proved, Tally, Told};
 use model::deciding::{place_of, Place};
+use model::lines::Case as Line;
 use model::rule::Form;
 use model::{sound, Card, State};
 
 const SEED: u64 = 20_261_120;
 const HISTORIES: usize = 120;
 
+/// What the proved card tells of each command of a history.
+fn told_by_the_card(history: &History) -> Vec<Told> {
+    let mut lent = history.fresh();
+    let told = history.steps.iter().map(|step| {
+        let Lent { image, pool } = &lent;
+        let line = Line::command(image, pool, &step.command, &step.response, step.state);
+        let Some(Outcome::Command { told, image, pool, .. }) = run(&Proved, &line) else {
+            panic!("a command has a call");
+        };
+        lent = Lent { image, pool };
+        told
+    });
+    told.collect()
+}
+
 /// How often a command is told something else than the last time, with a record
 /// written in between.
 fn turned(history: &History) -> usize {
     let mut last: Vec<(&[u8], State, Told)> = Vec::new();
     let (mut written, mut turned) = (false, 0);
-    for (step, (told, _)) in history.steps.iter().zip(given(history).commands) {
+    for (step, told) in history.steps.iter().zip(told_by_the_card(history)) {
         match step.command.as_slice() {
             [_, 0xDC, ..] => written |= told.word == 0x9000,
             [_, 0x04 | 0x44 | 0xB0 | 0xD6 | 0xE0, ..] => {

@@ -5,10 +5,8 @@ use cases::damage::{damaged, Field};
 use cases::images::sound_image;
 use cases::random::Random;
 use cases::worst;
-use compare::fitted::{fits_of, fitted, Fit};
 use compare::laid::{laid, pool_for, Laying};
 use compare::smaller::{cut, freed, lifted, packed, short_records, slots_of, tightened};
-use model::ledger::announced;
 use model::soundness::{sound, sound_card};
 use model::{bodies, Card};
 
@@ -148,35 +146,6 @@ fn lifting_keeps_what_lies_beneath() {
         }
     }
     assert!(kept > 500 && clashing > 5, "{kept} sound, {clashing} not");
-}
-
-/// A smaller file is announced with its size, and the room is what it costs; a
-/// command of any bytes gives a command or nothing.
-#[test]
-fn a_command_goes_with_a_tight_card() {
-    let (mut random, mut created, mut others) = (Random::new(14), 0, 0);
-    for _ in 0..3_000 {
-        let card = cases::images::sound_card(&mut random);
-        let command = match random.below(3) {
-            0 => cases::raw::raw(&mut random),
-            1 => cases::bodied::command(&mut random, &card),
-            _ => cases::history::fitting_command(&mut random, &card),
-        };
-        for fit in fits_of(&command) {
-            let Some((smaller, room)) = fitted(&command, fit) else { continue };
-            assert!(smaller.len() <= command.len() && smaller.get(1) == command.get(1));
-            match (fit, announced(&command), announced(&smaller)) {
-                (Fit::Smaller(fewer), Some(was), Some(is)) => {
-                    assert!(is.size <= was.size && room == is.size + 64, "{command:02X?}");
-                    assert!(fewer > 0 || is.size == was.size || command[9] > 2, "{command:02X?}");
-                    created += 1;
-                }
-                (Fit::Smaller(_), ..) => panic!("no size is announced: {smaller:02X?}"),
-                _ => others += 1,
-            }
-        }
-    }
-    assert!(created > 1_000 && others > 300, "{created}, {others}");
 }
 
 #[test]

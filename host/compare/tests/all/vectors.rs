@@ -12,7 +12,7 @@ use model::vectors::{case_lines, shared_file, shared_text, stored_text};
 use model::State;
 
 /// The kinds of lines; each text has some of each.
-const KINDS: [char; 8] = ['C', 'M', 'R', 'P', 'Y', 'E', 'W', 'D'];
+const KINDS: [char; 7] = ['C', 'M', 'R', 'Y', 'E', 'W', 'D'];
 /// The longest rule that a record of any version takes, and that another file keeps.
 const LONGEST_RULE: usize = 30;
 const LONGEST_KEPT: usize = 255;
@@ -81,10 +81,6 @@ impl Subject for OneMore {
         Proved.command(image, pool, command, response, state)
     }
 
-    fn pack(&self, image: &mut [u8], pool: &mut [u8]) -> (u32, u32) {
-        Proved.pack(image, pool)
-    }
-
     fn report(&self, image: &[u8]) -> (u32, [u32; 4]) {
         let (answer, [total, room, children, beneath]) = Proved.report(image);
         (answer, [total, room, children, beneath + 1])
@@ -106,33 +102,14 @@ fn a_wrong_card_fails_the_vectors() {
     assert!(wrong.starts_with("R "), "{wrong}");
 }
 
-/// A wrong count of moved bytes shows in lines of PACK and of CREATE.
-#[test]
-fn a_wrong_count_fails_the_vectors() {
-    let text = stored_text().expect("the stored cases are there");
-    let silent = Impostor {
-        command: |_, _, told| Told { numbers: [told.numbers[0], told.numbers[1], 0], ..told },
-        pack: |_, _, (answer, _)| (answer, 0),
-        ..HONEST
-    };
-    for kind in ['P', 'C'] {
-        let lines = only(&text, kind);
-        let wrong = check_vectors(&silent, &lines).expect_err("a count is wrong");
-        assert!(wrong.starts_with(kind), "{wrong}");
-        assert!(check_vectors(&HONEST, &lines).is_ok());
-    }
-}
-
-/// The lines of a kind.
-fn only(text: &str, kind: char) -> String {
-    case_lines(text).filter(|line| line.starts_with(kind)).map(|l| format!("{l}\n")).collect()
-}
-
 /// E and W are asked by other calls, and a wrong answer to those shows; so does a
 /// wrong number.
 #[test]
 fn a_wrong_rule_fails_the_vectors() {
     let text = stored_text().expect("the stored cases are there");
+    let only = |kind: char| -> String {
+        case_lines(&text).filter(|line| line.starts_with(kind)).map(|l| format!("{l}\n")).collect()
+    };
     let denying =
         Impostor { command: |_, _, _| Told { numbers: [0, 2, 0], ..word(0x6982) }, ..HONEST };
     // Lacking and closed exchanged, and neither told.
@@ -159,8 +136,8 @@ fn a_wrong_rule_fails_the_vectors() {
         (&silent, 'E'),
     ];
     for (subject, kind) in cases {
-        let wrong = check_vectors(subject, &only(&text, kind)).expect_err("a rule is wrong");
+        let wrong = check_vectors(subject, &only(kind)).expect_err("a rule is wrong");
         assert!(wrong.starts_with(kind), "{wrong}");
-        assert!(check_vectors(&HONEST, &only(&text, kind)).is_ok());
+        assert!(check_vectors(&HONEST, &only(kind)).is_ok());
     }
 }

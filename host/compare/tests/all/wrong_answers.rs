@@ -2,9 +2,9 @@
 //! order, lengths, and templates that CREATE takes all the same.
 
 use crate::impostor::{
-    found, found_line, found_small, too_short, word, After, Came, Impostor, Spoil, HONEST,
+    found, found_line, found_small, respelled, too_short, with_value, word, After, Came, Impostor,
+    Spoil, HONEST,
 };
-use crate::respelled::{respelled, with_value};
 use cases::Kind;
 use compare::{Disagreement, Pair, Told};
 use model::lines::Case as Line;
@@ -96,7 +96,7 @@ const ANSWERS: [(&str, Spoil); 16] = [
         [data, ..] if data > 0 => Told { numbers: [left.response.len() as u32, 0, 0], ..told },
         _ => told,
     }),
-    ("tells of a moved byte with 6982", |_, _, told| match told.word {
+    ("has a number of a later ticket", |_, _, told| match told.word {
         0x6982 => Told { numbers: [0, told.numbers[1], 1], ..told },
         _ => told,
     }),
@@ -155,7 +155,7 @@ const BROKEN: [(&str, Spoil); 13] = [
         5 => Told { answer: 4, ..told },
         _ => told,
     }),
-    ("bytes were moved by no CREATE with an effect", |_, _, told| match told.word {
+    ("a number of a later ticket", |_, _, told| match told.word {
         0x6982 => Told { numbers: [0, told.numbers[1], 1], ..told },
         _ => told,
     }),

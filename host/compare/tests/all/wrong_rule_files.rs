@@ -37,8 +37,8 @@ const MISTAKES: [(usize, usize, Mistake); 18] = [
     (400, 800, Mistake::DeactivatedDenies),
     (300, 300, Mistake::TerminatedDenies),
     (300, 300, Mistake::ReferredDenies),
-    (1500, 1000, Mistake::ZeroIsTheLast),
-    (1500, 1000, Mistake::ZeroIsTheFirst),
+    (1500, 600, Mistake::ZeroIsTheLast),
+    (1500, 600, Mistake::ZeroIsTheFirst),
     (1200, 600, Mistake::PastTheLastWraps),
     (1200, 600, Mistake::PastTheLastIsTheLast),
     (100, 300, Mistake::CutFirst),
@@ -246,10 +246,6 @@ impl Subject for Stale {
             self.update.replace((held.clone(), pool.to_vec()));
         }
         told
-    }
-
-    fn pack(&self, image: &mut [u8], pool: &mut [u8]) -> (u32, u32) {
-        Model.pack(image, pool)
     }
 
     fn report(&self, image: &[u8]) -> (u32, [u32; 4]) {

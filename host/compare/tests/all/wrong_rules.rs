@@ -1,9 +1,10 @@
 //! Cards that get Ticket 3 of 02 wrong are found, and told in a small form: the
 //! grammar of expanded rules, how they decide, versions and forms.
 
-use crate::impostor::{found, found_small_in, Came, Impostor, Left, Maker, Spoil, HONEST};
+use crate::impostor::{
+    found, found_small_in, respelled, Came, Impostor, Left, Maker, Spoil, HONEST,
+};
 use crate::quirks::{deciding, lenient, objects_sent, Quirks, RIGHT};
-use crate::respelled::respelled;
 use cases::template::{create_command, template};
 use cases::{Kind, Random, Rule};
 use compare::{Model, Pair, Told};

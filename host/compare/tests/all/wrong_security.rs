@@ -96,7 +96,7 @@ fn tried(came: &Came, told: Told, states: &[State]) -> Told {
 
 /// Cards that tell closed where some state opens, or the other way round.
 const TOLD: [(usize, &str, Spoil); 7] = [
-    (80, "lacking is never told", |_, _, told| match told.numbers[1] {
+    (50, "lacking is never told", |_, _, told| match told.numbers[1] {
         1 => numbered(told, 2),
         _ => told,
     }),
@@ -118,7 +118,7 @@ const TOLD: [(usize, &str, Spoil); 7] = [
         let external = State { external: 0xFFFF, ..none };
         tried(came, told, &[messaging, external, State { user: 0xFFFF, ..none }])
     }),
-    (160, "environments up to 7 are tried", |came, _, told| {
+    (100, "environments up to 7 are tried", |came, _, told| {
         let [messaging, external, user] = [0x00FF; 3];
         tried(came, told, &[State { messaging, external, user, ..*came.state }])
     }),
@@ -163,7 +163,7 @@ const WITHOUT: [(usize, &str, Spoil); 10] = [
     (100, "left of the child's rule with 9000", |came, _, told| {
         left_behind(came, told, 0x9000, &CHILD_ALONE)
     }),
-    (30, "closed with answer 1", |_, _, told| match told.answer {
+    (20, "closed with answer 1", |_, _, told| match told.answer {
         1 => numbered(told, 2),
         _ => told,
     }),

@@ -1,8 +1,9 @@
 //! Cards with a wrong template (02, Ticket 2) are found, and told in a small
 //! form; also where nothing else shows it than that a file is not made again.
 
-use crate::impostor::{found, found_small, word, Came, Impostor, Left, Spoil, HONEST};
-use crate::respelled::{respelled, with_value};
+use crate::impostor::{
+    found, found_small, respelled, with_value, word, Came, Impostor, Left, Spoil, HONEST,
+};
 use cases::Kind;
 use compare::{Disagreement, Pair, Told};
 use model::deciding::decide;

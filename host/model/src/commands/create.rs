@@ -1,9 +1,8 @@
 //! CREATE FILE in the current DF: 01, "CREATE"; 02, Ticket 4 (the new body),
-//! Tickets 6 and 7, and Ticket 8 (the bytes moved for it).
+//! Tickets 6 and 7.
 
 use crate::bodies;
 use crate::card::{slot_number, Card};
-use crate::command::Told;
 use crate::deciding;
 use crate::decision::Decision;
 use crate::descriptor::Class;
@@ -17,9 +16,8 @@ use crate::words::{
     WRONG_DATA,
 };
 
-/// Steps H, J, K and L, then the effect. Only a new body for which no gap is large
-/// enough moves others.
-pub fn run(card: &mut Card, pool: &mut [u8], data: &[u8], state: &State) -> Result<Told, Refusal> {
+/// Steps H, J, K and L, then the effect.
+pub fn run(card: &mut Card, pool: &mut [u8], data: &[u8], state: &State) -> Result<Word, Refusal> {
     let new = template::read(data, card.edition).ok_or(WRONG_DATA)?;
     step_j_security(decide(card, pool, &new, state))?;
     step_k_life_cycle(card)?;
@@ -27,13 +25,12 @@ pub fn run(card: &mut Card, pool: &mut [u8], data: &[u8], state: &State) -> Resu
     step_l_name(card, &new)?;
     let slot = step_l_memory(card, &new)?;
     let mut record = record_of(card, new);
-    let mut told = Told::word(SUCCESS);
     if bodies::has_body(card, &record) {
-        (record.start, told.moved) = bodies::place(card, pool, record.size);
+        record.start = bodies::place(card, pool, record.size);
     }
     card.put(slot, record);
     card.make_current(slot);
-    Ok(told)
+    Ok(SUCCESS)
 }
 
 /// Bit b3 of the current DF's rule for a DF, b2 for an EF.

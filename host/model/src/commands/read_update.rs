@@ -47,7 +47,7 @@ pub fn read(
     };
     let place = place(file, unit, number16(command, 2), length)?;
     let data = pool.get(place).unwrap_or(&[]).to_vec();
-    Ok(Told { data, ..Told::word(SUCCESS) })
+    Ok(Told { word: SUCCESS, data })
 }
 
 /// UPDATE: steps I to K, then the data into the part of the body.

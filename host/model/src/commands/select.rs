@@ -11,7 +11,7 @@ pub fn run(card: &mut Card, identifier: u16, wants_data: bool) -> Result<Told, W
     card.make_current(slot);
     let file = card.record(slot);
     let data = if wants_data { fcp::template(file) } else { Vec::new() };
-    Ok(Told { data, ..Told::word(word_for(file.life_cycle)) })
+    Ok(Told { word: word_for(file.life_cycle), data })
 }
 
 /// The word that tells the selected file's own life cycle.

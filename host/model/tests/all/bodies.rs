@@ -16,7 +16,7 @@ fn new_body(lent: &mut Lent, text: &str) -> Range<usize> {
 }
 
 /// Five EFs of 10, 20, 5, 30 and 5 bytes, one above the other; of 1,216 bytes.
-pub fn five() -> Lent {
+fn five() -> Lent {
     let sizes = [10, 20, 5, 30, 5].into_iter().enumerate();
     let commands: Vec<_> =
         sizes.map(|(n, size)| create_ef(&format!("6F0{n}"), size, OPEN)).collect();
@@ -112,7 +112,7 @@ fn a_directory_is_deleted_with_its_bodies() {
 
 /// Two EFs of 3 and 2 bytes, of 320; none of the gaps of 100, 102 and 113 holds
 /// 123, which the room just pays.
-pub fn fragmented() -> Lent {
+fn fragmented() -> Lent {
     let mut lent = Lent::with(6, &[create_ef("6F01", 3, OPEN), create_ef("6F02", 2, OPEN)]);
     lent.pool = pattern(320);
     moved(&lent, &[100, 205])
@@ -171,7 +171,7 @@ fn a_body_moves_onto_itself() {
 }
 
 /// The bodies of a card in their order, each with its slot.
-pub fn bodies_of(lent: &Lent) -> Vec<(usize, Range<usize>)> {
+fn bodies_of(lent: &Lent) -> Vec<(usize, Range<usize>)> {
     let card = lent.card();
     in_order(&card).into_iter().map(|slot| (slot, body(card.record(slot)))).collect()
 }
@@ -201,7 +201,7 @@ fn told(
 
 /// The bytes afterwards: FF in the new body, in a body what it held, 00 where
 /// one was, else what was there.
-pub fn told_pool(
+fn told_pool(
     pool: &[u8],
     before: &[(usize, Range<usize>)],
     after: &[(usize, Range<usize>)],
@@ -222,7 +222,7 @@ pub fn told_pool(
 }
 
 /// Files of the root, one to six, with all that is free between them by chance.
-pub fn by_chance(random: &mut Random) -> Lent {
+fn by_chance(random: &mut Random) -> Lent {
     let files = 1 + random.below(6);
     let largest = [3, 30, 90][random.below(3)];
     let commands: Vec<_> = (0..files)

@@ -144,7 +144,7 @@ fn a_short_buffer_is_answer_5_and_leaves_everything() {
                 let (outcome, after, response) = ask_with(&image, &select_fcp(&last), length);
                 assert_eq!(
                     outcome,
-                    Outcome { answer: 5, word: 0, data: 0, security: 0, moved: 0 },
+                    Outcome { answer: 5, word: 0, data: 0, security: 0 },
                     "{length} bytes"
                 );
                 assert_eq!(after, image, "nothing is selected");
@@ -152,10 +152,7 @@ fn a_short_buffer_is_answer_5_and_leaves_everything() {
             }
             for length in [template.len(), template.len() + 1, 300] {
                 let (outcome, after, response) = ask_with(&image, &select_fcp(&last), length);
-                assert_eq!(
-                    outcome,
-                    Outcome { answer: 0, word, data: template.len(), security: 0, moved: 0 }
-                );
+                assert_eq!(outcome, Outcome { answer: 0, word, data: template.len(), security: 0 });
                 assert_eq!(after == image, slot == 0, "selected");
                 assert_eq!(response[template.len()..], vec![MARK; length - template.len()]);
             }
@@ -184,7 +181,7 @@ fn a_short_buffer_is_found_last() {
         (&card(), "00A40004026F0100", FILE_NOT_FOUND),
     ] {
         let (outcome, after, _) = ask_with(image, text, 0);
-        assert_eq!(outcome, Outcome { answer: 0, word, data: 0, security: 0, moved: 0 }, "{text}");
+        assert_eq!(outcome, Outcome { answer: 0, word, data: 0, security: 0 }, "{text}");
         assert_eq!(&after, image);
     }
 }
@@ -221,7 +218,7 @@ fn other_commands_need_no_buffer() {
     ] {
         let (without, one, _) = ask_with(&card(), &text, 0);
         let (with, other, response) = ask_with(&card(), &text, 256);
-        assert_eq!(without, Outcome { answer: 0, word, data: 0, security: 0, moved: 0 }, "{text}");
+        assert_eq!(without, Outcome { answer: 0, word, data: 0, security: 0 }, "{text}");
         assert_eq!((without, one), (with, other), "{text}");
         assert_eq!(response, [MARK; 256], "{text}");
     }

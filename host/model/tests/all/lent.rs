@@ -2,9 +2,8 @@
 
 use crate::common::*;
 use model::lines::hex;
-use model::soundness::sound_card;
 use model::words::is_success;
-use model::{bodies, command, pack, sound, Card, Outcome, State, Word};
+use model::{bodies, command, sound, Card, Outcome, State, Word};
 
 /// Image and pool.
 #[derive(Clone, PartialEq, Eq, Debug)]
@@ -45,21 +44,7 @@ impl Lent {
         }
         assert_eq!(sound(&before.image), sound(&self.image), "{text}");
         number_fits(&outcome);
-        self.moved_fits(&before, text, &outcome);
         (outcome, response)
-    }
-
-    /// 02, Ticket 8: a CREATE tells the sizes of the bodies whose start differs
-    /// afterwards; no other command moves any.
-    fn moved_fits(&self, before: &Lent, text: &str, outcome: &Outcome) {
-        if let (Some(old), Some(new)) = (sound_card(&before.image), sound_card(&self.image)) {
-            assert_eq!(outcome.moved, moved_between(&old, &new), "{text}");
-        }
-    }
-
-    /// PACK; gives its answer and how many bytes were moved.
-    pub fn pack(&mut self) -> (u8, u32) {
-        pack(&mut self.image, &mut self.pool)
     }
 
     /// The word of a command under the full state, with a long buffer.
@@ -91,15 +76,6 @@ impl Lent {
         let at = 16 + 64 * slot + 62;
         self.image[at..at + 2].copy_from_slice(&start.to_be_bytes());
     }
-}
-
-/// The sum of the sizes of those bodies whose start differs afterwards; a file
-/// that is new or gone has none before or after.
-pub fn moved_between(before: &Card, after: &Card) -> u32 {
-    let stays = |slot: &usize| bodies::has_body(after, after.record(*slot));
-    let differs = |slot: &usize| before.record(*slot).start != after.record(*slot).start;
-    let slots = bodies::in_order(before).into_iter().filter(stays).filter(differs);
-    slots.map(|slot| before.record(slot).size).sum()
 }
 
 /// The same card with other starts, in slots 1, 2 and so on.

@@ -20,7 +20,6 @@ fn call_with_image(image: &[u8], random: &mut Random) {
     number_fits(&outcome);
     assert!(outcome.data <= response.len());
     assert_eq!(after.len(), image.len());
-    pack_with_any_pool(image, random);
     select_with_templates(image, random);
     read_and_update(image, random);
     assert_eq!(report(image).0 == 0, sound(image));
@@ -49,17 +48,6 @@ fn call_with_image(image: &[u8], random: &mut Random) {
             );
             let _ = changed.encode();
         }
-    }
-}
-
-/// PACK with the right pool, and with any.
-fn pack_with_any_pool(image: &[u8], random: &mut Random) {
-    for mut pool in [pool_for(image), random.bytes(60)] {
-        let mut after = image.to_vec();
-        let (answer, moved) = pack(&mut after, &mut pool);
-        assert!([0, 1, 6].contains(&answer));
-        assert!(moved as usize <= pool.len(), "no more than the pool holds");
-        assert_eq!(sound(&after), sound(image));
     }
 }
 

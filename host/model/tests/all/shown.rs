@@ -179,20 +179,3 @@ fn the_stored_cases_show_rules_kept_in_a_file() {
         "C 04 0 6982 by 8B NoRuleFile closed",
     ]);
 }
-
-/// Ticket 8. A CREATE for which bodies are moved is among those of Ticket 4.
-#[test]
-fn the_stored_cases_show_packing() {
-    stored_show(&[
-        "P 0 v1 no bodies",
-        "P 0 v2 no bodies",
-        "P 0 v3 no bodies",
-        "P 0 v3 none",
-        "P 0 v3 some",
-        "P 0 v3 some in another order",
-        "P 0 v3 all",
-        "P 0 v3 all in another order",
-        "P 1 unsound",
-        "P 6 v3",
-    ]);
-}

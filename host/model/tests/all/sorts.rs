@@ -3,12 +3,11 @@
 
 use std::collections::BTreeMap;
 
-use crate::sorts_bodies::{met_with_bodies, of_pack};
 use model::lines::{from_hex, Case};
 use model::rule::Right;
 use model::soundness::sound_card;
 use model::vectors::case_lines;
-use model::{deciding, objects, Card};
+use model::{bodies, deciding, objects, Card};
 
 /// How many cases are stored, or a few more.
 pub const STORED_CASES: usize = 400;
@@ -142,6 +141,41 @@ fn of_deciding(case: &str) -> String {
     }
 }
 
+/// What a command shows of Ticket 4: the version, where it reads or writes a
+/// body; how CREATE found a place for a new body; whether DELETE wiped any.
+fn met_with_bodies(instruction: &str, case: &str, result: &str) -> String {
+    let case: Vec<&str> = case.split(' ').collect();
+    let result: Vec<&str> = result.split(' ').collect();
+    let (&[_, image, .., pool, _], &[_, _, word, image_after, pool_after, ..]) =
+        (case.as_slice(), result.as_slice())
+    else {
+        return String::new();
+    };
+    let card = |image: &str| from_hex(image).and_then(|image| sound_card(&image));
+    let (Some(before), Some(after)) = (card(image), card(image_after)) else {
+        return String::new();
+    };
+    match (instruction, word, after.edition.has_bodies()) {
+        ("B0" | "D6" | "B2" | "DC", ..) => format!(" v{}", after.edition.version_number()),
+        ("E0", "9000", true) => place_of_the_new(&before, &after).to_string(),
+        ("E4", "9000", true) if pool != pool_after => " wiped".to_string(),
+        _ => String::new(),
+    }
+}
+
+/// Where a new EF's body is: above all others, in a gap below one, or above them
+/// after they were packed.
+fn place_of_the_new(before: &Card, after: &Card) -> &'static str {
+    let old = bodies::in_order(before);
+    let start = |card: &Card, slot: usize| card.record(slot).start;
+    match after.current_ef {
+        None => "",
+        Some(_) if old.iter().any(|&slot| start(before, slot) != start(after, slot)) => " packed",
+        Some(new) if old.iter().any(|&slot| start(after, slot) > start(after, new)) => " in a gap",
+        Some(_) => " above",
+    }
+}
+
 /// What a refusal for security shows of Ticket 6: the result's number, in
 /// words; of DELETE also where its two rules decide differently.
 fn met_with_security(case: &str, result: &str) -> String {
@@ -195,7 +229,6 @@ pub fn sort_of(line: &str) -> String {
         "Y" => format!("Y {:.8}", head.first().unwrap_or(&"")),
         "E" => format!("E {} {}", case.get(2..3).unwrap_or(""), decided(result)),
         "D" => format!("D {}", of_deciding(case)),
-        "P" => format!("P {} {}", head.first().unwrap_or(&""), of_pack(case, result)),
         _ => format!("{kind}{} {}", versions(case), head.first().unwrap_or(&"")),
     }
 }
@@ -226,8 +259,7 @@ fn versions(case: &str) -> String {
 /// How long the first case of a sort may be.
 fn longest_first(sort: &str) -> usize {
     let reads_or_writes = ["C B", "C D"].iter().any(|start| sort.starts_with(start));
-    let moves = sort.contains("packed") || sort.starts_with("P 0");
-    if reads_or_writes || moves || sort.contains("in a gap") {
+    if reads_or_writes || sort.contains("packed") || sort.contains("in a gap") {
         LONGEST_FIRST_LINE_WITH_BODIES
     } else {
         LONGEST_FIRST_LINE

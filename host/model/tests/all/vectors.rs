@@ -9,11 +9,9 @@ use std::collections::BTreeMap;
 use std::time::Instant;
 
 use crate::common::say;
-use crate::lent::moved_between;
 use crate::sorts::{choose, STORED_CASES};
 use model::edition::LEVEL;
-use model::lines::{from_hex, Case};
-use model::soundness::sound_card;
+use model::lines::Case;
 use model::vectors::{case_lines, shared_file, shared_text, stored_file, stored_text};
 
 /// Checks every line; gives the number of cases of each kind.
@@ -64,7 +62,7 @@ fn every_stored_case_agrees() {
     let text = stored_text().expect("the stored cases are there");
     let start = Instant::now();
     let counts = check(&text);
-    for kind in "MCRPYEWD".chars() {
+    for kind in "MCRYEWD".chars() {
         assert!(counts.contains_key(&kind), "no stored case of kind {kind}");
     }
     assert!(counts.values().sum::<usize>() >= STORED_CASES, "too few stored cases");
@@ -78,10 +76,9 @@ fn the_stored_cases_hold_every_word_and_answer() {
         let sign = format!(" > C 0 {word:04X} ");
         assert!(text.contains(&sign), "no stored case with word {word:04X}");
     }
-    let of_commands = ["C 1 0000", "C 5 0000", "C 6 0000"];
-    let of_others =
-        ["M 0", "M 2", "M 3", "M 4", "R 0", "R 1", "P 0", "P 1 0", "P 6 0", "W 0", "W 1"];
-    for sign in of_commands.into_iter().chain(of_others) {
+    for sign in
+        ["C 1 0000", "C 5 0000", "C 6 0000", "M 0", "M 2", "M 3", "M 4", "R 0", "R 1", "W 0", "W 1"]
+    {
         assert!(text.contains(&format!(" > {sign}")), "no stored case with {sign}");
     }
     assert!(text.contains(" > E malformed"), "no stored malformed rule");
@@ -98,28 +95,6 @@ fn the_stored_results_tell_a_number_exactly_with_6982() {
         assert_eq!(["1", "2"].contains(&fields[7]), refused, "{line:.200}");
         assert_eq!(fields[7] == "0", !refused, "{line:.200}");
     }
-}
-
-/// Ticket 8 and A73, in what others gave: what was moved are the bodies whose start
-/// differs afterwards, by a PACK or by a CREATE that has its effect.
-#[test]
-fn the_stored_results_tell_what_was_moved() {
-    let text = stored_text().expect("the stored cases are there");
-    let (mut created, mut packed) = (0, 0);
-    for line in case_lines(&text).filter(|line| line.starts_with(['C', 'P'])) {
-        let (case, result) = line.split_once(" > ").expect("a case and its result");
-        let fields: Vec<&str> = result.split(' ').collect();
-        let (told, after) = if fields[0] == "P" { (2, 3) } else { (8, 3) };
-        let told: u32 = fields[told].parse().expect("a number");
-        let card = |hex: &str| from_hex(hex).and_then(|image| sound_card(&image));
-        let before = case.split(' ').nth(1).and_then(card);
-        let moved =
-            before.zip(card(fields[after])).map_or(0, |(old, new)| moved_between(&old, &new));
-        assert_eq!(told, moved, "{line:.200}");
-        created += usize::from(told > 0 && result.starts_with("C 0 9000 "));
-        packed += usize::from(told > 0 && result.starts_with("P 0 "));
-    }
-    assert!(created >= 1 && packed >= 4, "{created} by CREATE, {packed} by PACK");
 }
 
 /// A wrong result must be found: each stored case is given a changed result.

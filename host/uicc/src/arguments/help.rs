@@ -9,13 +9,10 @@ uicc: a test UICC's files, on the proved card
         file's template (SELECT with P2 04) in words, what READ gives in hex
         and characters; and, where a rule refuses it (6982), whose rule that
         is, which record keeps it or why none is found, what it asks for, and
-        what of that is missing; and what a CREATE moved of other files' bodies.
-        At the end the bytes that were moved by the script are told, and those
-        since the card was made
+        what of that is missing
   uicc show IMAGE
         prints the tree of files, each directory's room as a bar, where in the
-        pool the bodies lie, what PACK would move and what was moved so far, and
-        of each rule where it stands and what it allows
+        pool the bodies lie, and of each rule where it stands and what it allows
   uicc read IMAGE PATH [--from N] [--count N] [--record N] [--output FILE]
             [--force] [state]
         reads a file's body, or part of it, and prints it in hex and
@@ -24,11 +21,6 @@ uicc: a test UICC's files, on the proved card
   uicc write IMAGE PATH FILE [--from N] [--record N] [state]
         writes the bytes of FILE, or of standard input (-), into a file's body,
         all of them or none; IMAGE is saved afterwards
-  uicc pack IMAGE
-        moves all bodies down, so that no gap lies below any (PACK), and says
-        how many bytes it moved. What files hold stays, no rule is asked, and a
-        terminated card is packed too; IMAGE is saved afterwards. A second pack
-        moves nothing, nor does one of a card without bodies
   uicc export IMAGE
         prints a script that makes the same files again, with what they hold,
         on a fresh card; its first lines say on which. Files that keep rules
@@ -42,11 +34,7 @@ A SCRIPT has one command a line, in hex; blanks do not matter, and # begins a
 comment. The whole script is read before its first command is played.
 An IMAGE is locked while it is used: who comes second waits and says for whom.
 It is saved as a whole or not at all, with its owner, group and mode. That of a
-card of version 3 has the pool behind it, in the same file, exactly as long as
-the root's total. Only where bodies were ever moved, 16 bytes follow: the bytes
-4D4F564544000001, which are MOVED and a version, and how many bytes were moved
-since the card was made, in 64 bits, high byte first. What an earlier uicc moved
-is not counted in it.
+card of version 3 has the pool behind it, in the same file.
 A PATH has the identifiers of the directories down to a file, as 7F10/6F07; 3F00
 may stand first. Neither read nor write changes what is current on the card.
 Without --from, --count and --record a whole body is read; one with records is

@@ -75,7 +75,6 @@ card
   22  READ RECORD                      6B00  wrong parameters P1 P2: P2 must be 04
   23  READ BINARY from 0               6981  wrong structure: the file has records: READ RECORD is for it
 current directory: total 256, room 96, 2 files in it, 2 beneath it
-bytes moved: 0 by this script, 0 since the card was made
 card saved
 ";
 

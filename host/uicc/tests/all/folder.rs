@@ -16,12 +16,6 @@ pub struct Ran {
     pub err: String,
 }
 
-/// What a run of a script tells of its commands: the lines between the card and the
-/// current directory.
-pub fn of_commands(out: &str) -> Vec<&str> {
-    out.lines().skip(1).take_while(|line| !line.starts_with("current directory: ")).collect()
-}
-
 impl Ran {
     fn of(run: Output) -> Ran {
         let text = |bytes: Vec<u8>| String::from_utf8(bytes).expect("it prints text");

@@ -1,11 +1,10 @@
-//! The file of a card: the image, on version 3 the pool behind it, and behind that
-//! what was moved, if anything was. Anything else is refused with the reason, and
-//! the file left alone.
+//! The file of a card: the image, and on version 3 the pool behind it. Any other
+//! length is refused with the reason, and the file left alone.
 
 use crate::folder::Folder;
 
 /// Tries everything that opens a card.
-pub fn refused(folder: &Folder, name: &str, bytes: &[u8], told: &str) {
+fn refused(folder: &Folder, name: &str, bytes: &[u8], told: &str) {
     folder.write(name, bytes);
     for arguments in [
         &["show", name][..],
@@ -13,7 +12,6 @@ pub fn refused(folder: &Folder, name: &str, bytes: &[u8], told: &str) {
         &["read", name, "6F07"],
         &["write", name, "6F07", "script"],
         &["run", "script", "--image", name],
-        &["pack", name],
     ] {
         let err = folder.refused(1, arguments);
         assert!(err.contains(name) && err.contains(told), "{arguments:?}: {told}: {err}");
@@ -21,8 +19,7 @@ pub fn refused(folder: &Folder, name: &str, bytes: &[u8], told: &str) {
     assert_eq!(folder.read(name), bytes, "{name} is left as it is");
 }
 
-/// A folder with the script for that.
-pub fn folder(name: &str) -> Folder {
+fn folder(name: &str) -> Folder {
     let folder = Folder::new(name);
     folder.write("script", "00040000\n");
     folder
@@ -49,7 +46,7 @@ fn a_damaged_image_is_refused_and_left_alone() {
         refused(&folder, "text", b"hello", "no card image: it does not begin with UFT");
         refused(&folder, "mark", &good[..3], "the file is cut: it has 3 bytes");
         let long = [&good[..], &[0; 131_000]].concat();
-        refused(&folder, "long", &long, "it has more than 130912 bytes");
+        refused(&folder, "long", &long, "it has more than 130896 bytes");
     }
     assert!(folder.refused(1, &["show", "missing"]).contains("uicc new makes one"));
 }

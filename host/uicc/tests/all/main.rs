@@ -14,8 +14,6 @@ mod images;
 mod killed;
 mod lengths;
 mod making_again;
-mod moved;
-mod packing;
 mod reading;
 mod referred;
 mod referred_again;

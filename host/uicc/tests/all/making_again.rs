@@ -14,7 +14,7 @@ use model::rule::Form;
 use model::{bodies, Card};
 
 use crate::cards::{current, foretold, found, refers, tree, Kept};
-use crate::folder::{of_commands, Folder, Ran};
+use crate::folder::{Folder, Ran};
 
 const CARDS: u64 = 250;
 const HISTORIES: u64 = 250;
@@ -33,7 +33,8 @@ pub fn again(folder: &Folder) -> (Ran, Kept) {
     assert_eq!(lines.len(), 2, "{}", export.out);
     folder.done(&[&lines[0][..], &["--force"]].concat());
     let out = folder.done(&lines[1]);
-    for line in of_commands(&out) {
+    let all = out.lines().count();
+    for line in out.lines().skip(1).take(all - 3) {
         let word = line.split("  ").map(str::trim).filter(|part| !part.is_empty()).nth(2);
         let word = word.unwrap_or_default();
         assert!(["9000", "6283", "6285"].contains(&word), "{line}\n{}", export.out);

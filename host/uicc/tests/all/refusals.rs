@@ -1,7 +1,7 @@
 //! What is told where a rule refuses (6982): whether anything opens it, whose
 //! rule it is, what it asks for and what of that is missing.
 
-use crate::folder::{of_commands, Folder};
+use crate::folder::Folder;
 
 pub const LACKING: &str =
     "6982  security status not satisfied: lacking, more authentication opens the rule";
@@ -37,11 +37,12 @@ fn folder(name: &str, files: &[(&str, &str)]) -> Folder {
     folder
 }
 
-/// What is told of the commands.
+/// What is printed below the image's name, but for the last two lines.
 fn played(folder: &Folder, script: &str, state: &[&str]) -> Vec<String> {
     let ran = folder.fed(&[&["run", "-", "--image", "card"], state].concat(), script);
     assert_eq!((ran.status, ran.err.as_str()), (0, ""), "{script}");
-    of_commands(&ran.out).into_iter().map(str::to_string).collect()
+    let lines: Vec<_> = ran.out.lines().map(str::to_string).collect();
+    lines[1..lines.len() - 2].to_vec()
 }
 
 /// Nothing is done.

@@ -1,7 +1,7 @@
 //! Cards of version 2 and expanded rules, from the command line to the script
 //! that makes them again.
 
-use crate::folder::{of_commands, Folder};
+use crate::folder::Folder;
 
 /// Create: user 1, or both external 2 and messaging 2. Delete itself: always.
 const BANK: &str = "AB138001069E0111AF069E01229E01428001409000";
@@ -168,8 +168,8 @@ fn a_rule_that_is_not_found_is_told_below_its_line() {
         folder.write("wrong", create("6F07", rule));
         for version in ["1", "2", "3"] {
             let out = folder.done(&["run", "wrong", "--version", version]);
-            let lines = of_commands(&out);
-            assert_eq!(lines.len(), 2, "{out}");
+            let lines: Vec<_> = out.lines().skip(1).collect();
+            assert_eq!(lines.len(), 3, "{out}");
             assert!(lines[0].contains("CREATE FILE") && lines[0].contains("  6A80  "), "{out}");
             assert_eq!(lines[1], format!("        rule        {told}"), "{out}");
         }

@@ -116,8 +116,7 @@ fn what_is_no_regular_file_is_refused() {
     let names = folder.names();
     for (name, told) in refused {
         let kind = folder.path(name).symlink_metadata().expect("it is there").file_type();
-        let run = ["run", "script", "--image", name];
-        for arguments in [&run[..], &["pack", name], &["new", name, "--force"]] {
+        for arguments in [&["run", "script", "--image", name][..], &["new", name, "--force"]] {
             let err = folder.refused(1, arguments);
             assert!(err.contains(told), "{arguments:?}: {err}");
         }
@@ -127,7 +126,6 @@ fn what_is_no_regular_file_is_refused() {
     assert_eq!(folder.names(), names);
     for name in ["card/", "card/.", "."] {
         folder.refused(1, &["run", "script", "--image", name]);
-        folder.refused(1, &["pack", name]);
     }
 }
 

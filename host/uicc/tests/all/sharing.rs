@@ -63,7 +63,6 @@ fn who_waits_says_for_whom_and_gets_the_card_then() {
         &["run", "script", "--image", "card"][..],
         &["show", "card"],
         &["export", "card"],
-        &["pack", "card"],
         &["new", "card", "--force"],
     ] {
         let held = hold(&folder, Use::Write);

@@ -1,6 +1,6 @@
 //! `uicc run`: a template that SELECT answers is told in words.
 
-use crate::folder::{of_commands, Folder};
+use crate::folder::Folder;
 
 /// A named directory that is deactivated, with an internal cyclic file in it.
 const SCRIPT: &str = "\
@@ -69,6 +69,7 @@ fn a_template_is_told_below_its_line() {
     let folder = Folder::new("templates");
     folder.write("script", SCRIPT);
     let out = folder.done(&["run", "script"]);
-    assert_eq!(of_commands(&out), TOLD.lines().collect::<Vec<_>>(), "{out}");
-    assert!(out.contains("\ncurrent directory: total 128"), "{out}");
+    let lines: Vec<_> = out.lines().skip(1).collect();
+    assert_eq!(lines[..lines.len() - 1], TOLD.lines().collect::<Vec<_>>(), "{out}");
+    assert!(lines[lines.len() - 1].starts_with("current directory: total 128"), "{out}");
 }

@@ -8,17 +8,11 @@ use Rattle.effect.proofs.apply.apply.Tie as tie
 enum-known-verdict : tie.Need-enum-known-verdict
 enum-known-verdict c = search rules
 
-unmoved-requires : tie.Need-unmoved-requires
-unmoved-requires c κs = search rules
-
 enum-known-verdict-2 : tie.Need-enum-known-verdict-2
 enum-known-verdict-2 c = search rules
 
 select-requires : tie.Need-select-requires
 select-requires c κs = search rules
-
-unmoved-requires-2 : tie.Need-unmoved-requires-2
-unmoved-requires-2 c κs = search rules
 
 enum-known-verdict-3 : tie.Need-enum-known-verdict-3
 enum-known-verdict-3 c = search rules
@@ -49,9 +43,6 @@ delete-requires c κs =
     let p = c.before.before.before.before.before.before.before.before.requires in
     delete-fits _ _ _ _ _ p _ c.before.before.before.verdict4.given.1
 
-unmoved-requires-3 : tie.Need-unmoved-requires-3
-unmoved-requires-3 c κs = search rules
-
 enum-known-verdict-5 : tie.Need-enum-known-verdict-5
 enum-known-verdict-5 c = search rules
 
@@ -59,14 +50,8 @@ set-life-requires : tie.Need-set-life-requires
 set-life-requires c κs =
     set-life-fits _ _ _ _ _ c.before.before.before.before.before.before.before.requires _ _ c.before.before.verdict5.given.1
 
-unmoved-requires-4 : tie.Need-unmoved-requires-4
-unmoved-requires-4 c κs = search rules
-
 enum-known-verdict-6 : tie.Need-enum-known-verdict-6
 enum-known-verdict-6 c = search rules
-
-unmoved-requires-5 : tie.Need-unmoved-requires-5
-unmoved-requires-5 c κs = search rules
 
 enum-known-verdict-7 : tie.Need-enum-known-verdict-7
 enum-known-verdict-7 c = search rules
@@ -75,19 +60,16 @@ update-requires : tie.Need-update-requires
 update-requires c κs =
     update-fits _ _ _ _ _ c.before.before.before.before.before.before.before.requires _ c.before.before.verdict7.given.1
 
-unmoved-requires-6 : tie.Need-unmoved-requires-6
-unmoved-requires-6 c κs = search rules
-
 returns : tie.Need-returns
-returns c = applied _ _ _ _ _ _ _ _ _ c.before.before.verdict.given.1 refl c.unmoved.ensures (refl, refl, refl)
+returns c = applied _ _ _ _ _ _ _ _ c.before.verdict.given.1 (refl, refl, refl)
 
 same_length : tie.Need-same-length
 same_length c = search rules
 
 returns-2 : tie.Need-returns-2
 returns-2 c =
-    applied _ _ _ _ _ _ _ _ _ c.before.before.before.before.before.before.verdict2.given.1 refl c.unmoved2.ensures
-    (c.before.before.before.select.ensures.0, c.before.before.before.select.ensures.1, refl)
+    applied _ _ _ _ _ _ _ _ c.before.before.before.before.before.verdict2.given.1
+    (c.before.before.select.ensures.0, c.before.before.select.ensures.1, refl)
 
 same-length-2 : tie.Need-same-length-2
 same-length-2 c = search rules
@@ -97,9 +79,10 @@ same-length-3 c = search rules
 
 returns-3 : tie.Need-returns-3
 returns-3 c =
-    let s = c.before.before.before.before.before.before.before.before in
-    applied_create _ _ _ _ _ _ _ _ _ _ s.before.before.before.verdict3.given.1 s.before.sent.ensures s.sent2.ensures
-    c.before.before.before.before.create.ensures
+    applied_create _ _ _ _ _ _ _ _ _ _
+    c.before.before.before.before.before.before.before.before.before.before.before.verdict3.given.1
+    c.before.before.before.before.before.before.before.before.before.sent.ensures
+    c.before.before.before.before.before.before.before.before.sent2.ensures c.before.before.before.before.create.ensures
 
 same-length-4 : tie.Need-same-length-4
 same-length-4 c = search rules
@@ -109,52 +92,46 @@ same-length-5 c = search rules
 
 returns-4 : tie.Need-returns-4
 returns-4 c =
-    applied _ _ _ _ _ _ _ _ _ c.before.before.before.before.before.before.before.before.before.verdict4.given.1 refl c.unmoved3.ensures
-    c.before.before.before.before.before.delete.ensures
+    applied _ _ _ _ _ _ _ _ c.before.before.before.before.before.before.before.before.verdict4.given.1
+    c.before.before.before.before.delete.ensures
 
 same-length-6 : tie.Need-same-length-6
 same-length-6 c = search rules
 
 returns-5 : tie.Need-returns-5
 returns-5 c =
-    applied _ _ _ _ _ _ _ _ _ c.before.before.before.before.before.before.verdict5.given.1 refl c.unmoved4.ensures
-    (c.before.before.before.set-life.ensures.0, c.before.before.before.set-life.ensures.1, refl)
+    applied _ _ _ _ _ _ _ _ c.before.before.before.before.before.verdict5.given.1
+    (c.before.before.set-life.ensures.0, c.before.before.set-life.ensures.1, refl)
 
 returns-6 : tie.Need-returns-6
-returns-6 c = applied _ _ _ _ _ _ _ _ _ c.before.before.verdict6.given.1 refl c.unmoved5.ensures (refl, refl, refl)
+returns-6 c = applied _ _ _ _ _ _ _ _ c.before.verdict6.given.1 (refl, refl, refl)
 
 same-length-7 : tie.Need-same-length-7
 same-length-7 c = search rules
 
 returns-7 : tie.Need-returns-7
 returns-7 c =
-    applied _ _ _ _ _ _ _ _ _ c.before.before.before.before.before.before.verdict7.given.1 refl c.unmoved6.ensures
-    (c.before.before.before.update.ensures.0, refl, c.before.before.before.update.ensures.1)
+    applied _ _ _ _ _ _ _ _ c.before.before.before.before.before.verdict7.given.1
+    (c.before.before.update.ensures.0, refl, c.before.before.update.ensures.1)
 
 pub apply-spec : {M : Type 1} → statement M
 apply-spec =
     tie.close
     (tie.spec
     enum-known-verdict
-    unmoved-requires
     enum-known-verdict-2
     select-requires
-    unmoved-requires-2
     enum-known-verdict-3
     sent-requires
     sent-requires-2
     create-requires
     enum-known-verdict-4
     delete-requires
-    unmoved-requires-3
     enum-known-verdict-5
     set-life-requires
-    unmoved-requires-4
     enum-known-verdict-6
-    unmoved-requires-5
     enum-known-verdict-7
     update-requires
-    unmoved-requires-6
     returns
     same_length
     returns-2

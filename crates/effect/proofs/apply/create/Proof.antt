@@ -1,6 +1,6 @@
 -- `apply::create`: without a body, or room for it, the record and where its body starts.
-use Rattle.effect.proofs.Bodies.{made_bodiless, filled_bodiless, moved_bodiless, make-fits, enter_fits, start-low}
-use Rattle.effect.proofs.Bodies.{made_bodied, filled_bodied, moved_bodied}
+use mathlib.Core.Path.{refl}
+use Rattle.effect.proofs.Bodies.{made_bodiless, filled_bodiless, make-fits, enter_fits, start-low, made_bodied, filled_bodied}
 use borrow.Author.Rules.{rules}
 use Rattle.effect.proofs.apply.create.Statement.{statement}
 use Rattle.effect.proofs.apply.create.Tie as tie
@@ -18,7 +18,7 @@ same_length : tie.Need-same-length
 same_length c = search rules
 
 returns : tie.Need-returns
-returns c = (search moved_bodiless, search made_bodiless, search filled_bodiless)
+returns c = (refl, search made_bodiless, search filled_bodiless)
 
 make-requires : tie.Need-make-requires
 make-requires c κs =
@@ -45,7 +45,7 @@ same-length-3 : tie.Need-same-length-3
 same-length-3 c = search rules
 
 returns-2 : tie.Need-returns-2
-returns-2 c = (search moved_bodied, search made_bodied, search filled_bodied)
+returns-2 c = (refl, search made_bodied, search filled_bodied)
 
 pub create-spec : {M : Type 1} → statement M
 create-spec =

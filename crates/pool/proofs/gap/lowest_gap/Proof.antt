@@ -1,12 +1,11 @@
 -- `gap::lowest_gap`: an index is filled, then asked.
 use Rattle.pool.proofs.Indexes.{chained_none}
-use Rattle.pool.proofs.Cursors.{laid-differ}
 use borrow.Author.Rules.{rules}
 use Rattle.pool.proofs.gap.lowest_gap.Statement.{statement}
 use Rattle.pool.proofs.gap.lowest_gap.Tie as tie
 
 fill-requires : tie.Need-fill-requires
-fill-requires c κs = (search rules, (search laid-differ, chained_none _ _ _))
+fill-requires c κs = (search rules, chained_none _ _)
 
 by-index-requires : tie.Need-by-index-requires
 by-index-requires c κs = search rules

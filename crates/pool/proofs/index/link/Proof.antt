@@ -4,11 +4,11 @@ use borrow.Author.Rules.{rules}
 use Rattle.pool.proofs.index.link.Statement.{statement}
 use Rattle.pool.proofs.index.link.Tie as tie
 
-mul_next : tie.Need-overflow-mul-next
-mul_next c = search rules
+mul-first : tie.Need-overflow-mul-first
+mul-first c = search rules
 
-element-copy-out-next : tie.Need-element-copy-out-next
-element-copy-out-next c = search rules
+element-copy-out-first : tie.Need-element-copy-out-first
+element-copy-out-first c = search rules
 
 cast-index : tie.Need-overflow-cast-index
 cast-index c = search rules
@@ -51,8 +51,8 @@ pub link-spec : {M : Type 1} → statement M
 link-spec =
     tie.close
     (tie.spec
-    mul_next
-    element-copy-out-next
+    mul-first
+    element-copy-out-first
     cast-index
     add-index
     mul-index
