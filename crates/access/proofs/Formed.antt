@@ -1,6 +1,6 @@
 -- A rule that is well formed by its form: what the tests of it find, in the order of the code.
 use mathlib.Core.Path.{◌≡◌, refl, sym, ◌∙◌}
-use mathlib.Core.Bool.{Bool, true, false, cond, ◌&&◌, and-true, and_false}
+use mathlib.Core.Bool.{Bool, true, false, cond, ◌&&◌, and-true, and-false}
 use mathlib.Core.List.{List}
 use Prim.Native.Nat.{ℕ}
 use native.Mathlib.Omega.{arith}
@@ -14,7 +14,7 @@ use Rattle.access.specs.Access.{compact, expanded, referred, referred_formed, we
 
 module _ (form : ℕ) (rule : List ℕ) where
   pub not_three : (length rule ≡ 3 → ⊥) → false ≡ (eqb form referred && referred_formed rule)
-  not_three z = sym (rw (ne_eqb (length rule) 3 z) (and_false (eqb form referred)))
+  not_three z = sym (rw (ne_eqb (length rule) 3 z) (and-false (eqb form referred)))
 
   pub three : length rule ≡ 3 → eqb form referred ≡ (eqb form referred && referred_formed rule)
   three e = sym (rw (eq-eqb (length rule) 3 e) (and-true (eqb form referred)))

@@ -1,5 +1,6 @@
 // Access rules of every form (01 "Descriptor and rules", 02 Tickets 3, 6 and 7): the one place where a rule is asked, what a refusal
 // lacks, and whether a rule may stand in a record. A rule comes with the number of its form; whoever asks never looks inside.
+#![tactic(auto)]
 ghost use Rattle.std.specs.Prelude.{◌≡◌, ◌&&◌, ◌≤◌, eqb, length};
 ghost use Rattle.rules.specs.Group.{Lengths};
 ghost use Rattle.access.specs.Access.{referred, tag_of, asked_as, referred_formed, well_formed, fits_record, granted_of};
@@ -8,7 +9,7 @@ ghost use Rattle.access.specs.Decision.{full, decision_of, Decides, either};
 use rules::{Right, Sets};
 
 // What a rule decides on a right (02 Ticket 6): it grants it; or some security state would open it, and this one does not; or none would.
-#[derive(Drop)]
+#[derive(Clone, Copy)]
 pub enum Decision {
     Granted,
     Lacking,

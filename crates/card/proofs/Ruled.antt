@@ -1,6 +1,6 @@
 -- `standing::ruling`, way out by way out: damaged, a pool of a wrong length, no file, a file.
 use mathlib.Core.Path.{◌≡◌, refl, sym, ap, subst, ◌∙◌}
-use mathlib.Core.Bool.{Bool, true, false, not, cond, ◌&&◌, and_false}
+use mathlib.Core.Bool.{Bool, true, false, not, cond, ◌&&◌, and-false}
 use mathlib.Core.List.{List}
 use Prim.Native.Nat.{ℕ, ◌<◌, ◌≤◌}
 use native.Mathlib.Omega.{arith}
@@ -55,7 +55,7 @@ module _ (img pool : List ℕ) (s : ℕ) {r : Bool} (e : r ≡ soundb img) where
             pub ruling_free : z ≡ 0 → At Nowhere ≡ ruling_of img pool s
             unfolding ruling_of
             ruling_free u =
-                rw (sym e ∙ not-false r t, sym i ∙ not-false w j, eq-eqb (kind_of (rec_at img s)) 0 (sym k ∙ u), and_false (ltb s (count_of img)))
+                rw (sym e ∙ not-false r t, sym i ∙ not-false w j, eq-eqb (kind_of (rec_at img s)) 0 (sym k ∙ u), and-false (ltb s (count_of img)))
 
             module _ (u : z ≡ 0 → ⊥) where
               pub ruling_stands : Rooted img n × Stands img n s

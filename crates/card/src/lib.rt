@@ -3,6 +3,7 @@
 // due. It answers demands 1 and 2: specs/Command says what a call gives, specs/Demands and specs/Obeyed what the demands ask for.
 // specs/Lives says who writes which life-cycle byte (02 Ticket 1), specs/Bodies what becomes of contents, specs/Security what a security
 // refusal lacks (02 Ticket 6).
+#![tactic(auto)]
 ghost use Rattle.std.specs.Prelude.{◌≡◌};
 ghost use Rattle.sound.specs.Sound.{Sound};
 ghost use Rattle.card.specs.Command.{pool_fits, CommandPromises};
@@ -17,7 +18,7 @@ pub mod standing;
 // What a call answers: the word of a command on a sound image, how many bytes it told, and what it lacks where it was refused for security
 // (with any other word, where no rule was asked too, nothing: Granted); or that the image is damaged; or that the response is too short
 // for what the command would tell; or that the pool does not have the length of this card's.
-#[derive(Drop)]
+#[derive(Clone, Copy)]
 pub enum Reply {
     Word {
         word: u16,
@@ -31,7 +32,7 @@ pub enum Reply {
 
 // Where the rule of a slot stands, nowhere if there is no file; or that the image is damaged, or that the pool does not have the length of
 // this card's.
-#[derive(Drop)]
+#[derive(Clone, Copy)]
 pub enum Ruling {
     At(Place),
     Damaged,

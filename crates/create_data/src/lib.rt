@@ -3,6 +3,7 @@
 //
 // `judge` judges which objects were gathered and the bytes that they point at. Every value is handed on as a part of
 // the data, from the middle of it, and nothing is copied.
+#![tactic(auto)]
 ghost use Rattle.std.specs.Prelude.{◌≡◌};
 ghost use Rattle.create_data.specs.Data.{data_of};
 ghost use Rattle.create_data.specs.Good.{Good};
@@ -14,7 +15,7 @@ pub mod judge;
 
 // A new file as CREATE's data describe it: its numbers, the form of its rule, and where its name (an empty stretch for none)
 // and its rule stand in the data. The size of a DF is its total; a file without records has record length 0.
-#[derive(Drop)]
+#[derive(Clone, Copy)]
 pub struct NewFile {
     pub descriptor: u8,
     pub identifier: u16,
@@ -26,7 +27,7 @@ pub struct NewFile {
     pub rule: Span,
 }
 
-#[derive(Drop)]
+#[derive(Clone, Copy)]
 pub enum Data {
     Df(NewFile),
     Ef(NewFile),

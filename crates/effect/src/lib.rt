@@ -4,6 +4,7 @@
 // life-cycle byte of ACTIVATE, DEACTIVATE and TERMINATE; and of 02 Ticket 4: a new body, wiped bodies, UPDATE. Which of them is due, and
 // on which slot, is decided before. What is told of it (02 Tickets 2 and 4) is written first, by `tell`, which fails where the response
 // is too short.
+#![tactic(auto)]
 pub mod apply;
 pub mod erase;
 pub mod tell;

@@ -1,7 +1,7 @@
 -- A row of data objects: how it is read at a place, and how a loop over it starts, goes on and is left; once
 -- for `every` and once for `some`.
 use mathlib.Core.Path.{◌≡◌, refl, sym, ◌∙◌, ap}
-use mathlib.Core.Bool.{Bool, true, false, not, cond, ◌&&◌, and_false}
+use mathlib.Core.Bool.{Bool, true, false, not, cond, ◌&&◌, and-false}
 use mathlib.Core.List.{List, [], ◌∷◌}
 use Prim.Native.Nat.{ℕ, zero, suc, ◌+◌, ◌-◌, ◌<◌, ◌≤◌}
 use native.Mathlib.Numerals.{add-one}
@@ -48,7 +48,7 @@ module _ (tag n : ℕ) (s : List ℕ) where
 
   pub objects_past : length s < n → objects_of (tag ∷ (n ∷ s)) ≡ cut ∷ []
   unfolding objects_of objects_from
-  objects_past a = rw (lt-leb n (length s) a, and_false (leb n 127))
+  objects_past a = rw (lt-leb n (length s) a, and-false (leb n 127))
 
 -- tag and length byte at a place, and what stands after them
 row_at : (s : List ℕ) (at : ℕ) → at + 2 ≤ length s → drop at s ≡ get_or s at 0 ∷ (get_or s (at + 1) 0 ∷ drop (at + 2) s)

@@ -2,6 +2,7 @@
 // "Image", the two tables, and what 02 Tickets 3 and 4 lay down by version: where each field stands, and what a write leaves of the
 // other bytes. What makes an image
 // sound is the matter of the crates above.
+#![tactic(auto)]
 pub mod fields;
 pub mod kin;
 pub mod version;
@@ -15,7 +16,7 @@ pub const NONE: u16 = 0xFFFF;
 pub const NO_SLOT: usize = 0xFFFF;
 
 // The numbers of a record, in the order of its bytes.
-#[derive(Drop)]
+#[derive(Clone, Copy)]
 pub struct Head {
     pub kind: u8,
     pub descriptor: u8,

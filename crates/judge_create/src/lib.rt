@@ -1,5 +1,6 @@
 // CREATE FILE by its own steps H to L (01 "CREATE"): its data, the rights of the current DF, its life cycle,
 // then identifier, name and memory.
+#![tactic(auto)]
 ghost use Rattle.std.specs.Prelude.{◌≡◌, ◌<◌, ◌≤◌, length};
 ghost use Rattle.template.specs.Objects.{bytes_at};
 ghost use Rattle.image.specs.Layout.{Sized};
@@ -30,7 +31,7 @@ fn takes_files(image: &[u8], n: usize, d: usize) -> bool
 }
 
 // What a new file is: the right to create it, its identifier and its size.
-#[derive(Drop)]
+#[derive(Clone, Copy)]
 pub struct Asked {
     pub right: Right,
     pub identifier: u16,

@@ -2,6 +2,7 @@
 // no other crate. It answers no sentence of 01: it makes those quick that speak of every pair of records
 // ("Image": siblings, directories above, names). A record whose key is new can have no earlier one like it, and
 // need not look at those before it.
+#![tactic(auto)]
 ghost use Rattle.std.specs.Prelude.{◌≡◌};
 ghost use Rattle.keys.specs.Marks.{marked, marking};
 

@@ -1,7 +1,7 @@
 -- Foreign records: what a search asks first of a record, w, its identifier and parent in one word, tells that it is no child of d with
 -- identifier x; where it does not, whether the record holds a file is all that is left to ask.
 use mathlib.Core.Path.{◌≡◌, sym, ap, ◌∙◌}
-use mathlib.Core.Bool.{Bool, true, false, not, ◌&&◌, and-true, and_false, false≢true}
+use mathlib.Core.Bool.{Bool, true, false, not, ◌&&◌, and-true, and-false, false≢true}
 use mathlib.Core.List.{List}
 use mathlib.Core.Logic.{⊎_elim}
 use Prim.Native.Nat.{ℕ, ◌+◌, ◌<◌, ◌≤◌}
@@ -24,7 +24,7 @@ use Rattle.kinship.specs.Search.{Foreign, PassedOver, is_df_named}
 module _ (v : ℕ → View) (d s : ℕ) (r : Bool) (e : r ≡ eqb (v s).parent d) where
   pub other-parent : not r ≡ true → false ≡ is_child v d s
   unfolding is_child
-  other-parent t = rw (sym e ∙ not-true r t) (sym (and_false (is_file v s)))
+  other-parent t = rw (sym e ∙ not-true r t) (sym (and-false (is_file v s)))
 
   pub same-parent : not r ≡ false → (f : Bool) → f ≡ is_file v s → f ≡ is_child v d s
   unfolding is_child
@@ -36,10 +36,10 @@ module _ (v : ℕ → View) (d s : ℕ) where
   unnamed x n = ⊎_elim same other (same_or (v s).parent d)
     where
       same : (v s).parent ≡ d → false ≡ ((is_file v s && eqb (v s).parent d) && eqb (v s).identifier x)
-      same q = rw (ne_eqb (v s).identifier x (n q)) (sym (and_false (is_file v s && eqb (v s).parent d)))
+      same q = rw (ne_eqb (v s).identifier x (n q)) (sym (and-false (is_file v s && eqb (v s).parent d)))
 
       other : ((v s).parent ≡ d → ⊥) → false ≡ ((is_file v s && eqb (v s).parent d) && eqb (v s).identifier x)
-      other q = rw (ne_eqb (v s).parent d q, and_false (is_file v s))
+      other q = rw (ne_eqb (v s).parent d q, and-false (is_file v s))
 
 -- w is the word of record s, k that of identifier x and parent d
 module _ (img : List ℕ) (d s x w : ℕ) (h : KinAt img s w) where
@@ -62,7 +62,7 @@ module _ (img : List ℕ) (d s x w : ℕ) (h : KinAt img s w) where
 module _ (v : ℕ → View) (d x s : ℕ) (r : Bool) (e : r ≡ is_child_named v d x s) where
   pub not_named : not r ≡ true → false ≡ is_df_named v d x s
   unfolding is_df_named
-  not_named t = rw (sym e ∙ not-true r t) (sym (and_false (eqb (v s).kind df)))
+  not_named t = rw (sym e ∙ not-true r t) (sym (and-false (eqb (v s).kind df)))
 
   pub named-df : (k : ℕ) → not r ≡ false → k ≡ (v s).kind → eqb k df ≡ is_df_named v d x s
   unfolding is_df_named
@@ -112,11 +112,11 @@ module _ (p : ℕ → Bool) where
 module _ (img : List ℕ) (n d x : ℕ) where
   root_unnamed : (k : ℕ) → k < 1 → is_child_named (view_at img) d x k ≡ false
   unfolding is_child_named is_child
-  root_unnamed k l = rw (eq-eqb k 0 (omega arith), and_false (not (eqb (view_at img k).kind 0)))
+  root_unnamed k l = rw (eq-eqb k 0 (omega arith), and-false (not (eqb (view_at img k).kind 0)))
 
   df_unnamed : (k : ℕ) → is_child_named (view_at img) d x k ≡ false → is_df_named (view_at img) d x k ≡ false
   unfolding is_df_named
-  df_unnamed k e = ap (λ (b : Bool). eqb (view_at img k).kind df && b) e ∙ and_false (eqb (view_at img k).kind df)
+  df_unnamed k e = ap (λ (b : Bool). eqb (view_at img k).kind df && b) e ∙ and-false (eqb (view_at img k).kind df)
 
   pub child-start : first_below 1 (is_child_named (view_at img) d x) ≡ Nothing
   child-start = nothing-below (is_child_named (view_at img) d x) 1 root_unnamed

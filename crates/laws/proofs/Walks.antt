@@ -1,7 +1,7 @@
 -- The walks `all_below` and `any_below`: where they start, how a loop's turn goes on, how it is left, and
 -- what the whole says of each index.
 use mathlib.Core.Path.{◌≡◌, refl, sym, ◌∙◌}
-use mathlib.Core.Bool.{Bool, true, false, not, ◌&&◌, ◌||◌, and_false, or-true, false≢true}
+use mathlib.Core.Bool.{Bool, true, false, not, ◌&&◌, ◌||◌, and-false, or-true, false≢true}
 use mathlib.Core.Logic.{◌⊎◌, ⊎_elim}
 use Prim.Native.Nat.{ℕ, zero, suc, ◌+◌, ◌<◌, ◌≤◌}
 use native.Mathlib.Nat.{eq-or-lt_of_le, le_of_suc-le-suc, not-suc-le-zero}
@@ -38,7 +38,7 @@ module _ (p : ℕ → Bool) where
   all_fails (suc n) i l e = ⊎_elim (λ q. here q) (λ m. rw (all_fails n i m e)) (split_lt l)
     where
       here : i ≡ n → (all_below n p && p n) ≡ false
-      here q = rw (← q, e) (and_false (all_below i p))
+      here q = rw (← q, e) (and-false (all_below i p))
 
   -- what all have, each has
   pub all_each : (n i : ℕ) → i < n → all_below n p ≡ true → p i ≡ true

@@ -4,8 +4,10 @@
 // (walks over the indices below a number, parts of lists and writes into them, tests over a table), proofs/ the laws
 // about them, each stated once. It answers no sentence of 01 by itself.
 
+#![tactic(auto)]
+
 // What a search finds: the lowest index, or nothing.
-#[derive(Drop)]
+#[derive(Clone, Copy)]
 pub enum Found {
     At(usize),
     Nothing,

@@ -1,17 +1,18 @@
 // The maker of fresh images and the report (01 "Making and reporting").
 //
 // Both calls take any bytes. An answer is an enum; specs/ gives 01's number and values for each of its cases.
+#![tactic(auto)]
 pub mod fresh;
 pub mod report;
 
 // Which card is made: the version of its image.
-#[derive(Drop)]
+#[derive(Clone, Copy)]
 pub struct Edition {
     pub version: u32,
 }
 
 // What the maker answers; a version that is not known is answered like a length that no image has.
-#[derive(Drop)]
+#[derive(Clone, Copy)]
 pub enum Made {
     Done,
     BadLength,
@@ -20,7 +21,7 @@ pub enum Made {
 }
 
 // The numbers of the report: the current DF's total, its room, its direct children, all files beneath it.
-#[derive(Drop)]
+#[derive(Clone, Copy)]
 pub struct Figures {
     pub total: u32,
     pub room: u32,
@@ -29,7 +30,7 @@ pub struct Figures {
 }
 
 // What the report answers.
-#[derive(Drop)]
+#[derive(Clone, Copy)]
 pub enum Reported {
     Numbers(Figures),
     Unsound,

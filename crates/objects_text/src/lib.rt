@@ -8,6 +8,7 @@
 // a card of version 2 takes and one of version 1 does not, for its rule (02 Ticket 3; up to 28 bytes of rule, one of version 3 takes it
 // too), `DF 3` and `EF 3` what only one of version 3 takes, for its rule stands in 8B (02 Ticket 7): the data do not say which card they
 // are for.
+#![tactic(auto)]
 ghost use Rattle.std.specs.Prelude.{◌≡◌, ◌+◌, ◌<◌, ◌≤◌, length};
 ghost use Rattle.create_data.specs.Data.{data_of};
 ghost use Rattle.text.specs.Written.{WroteAt, Wrote, Counted};

@@ -3,6 +3,7 @@
 // says of them, and which command reads or writes a body, is the matter of the crates above.
 //
 // All is over two numbers for each slot, where its body starts and how many bytes it has; both stand in the record.
+#![tactic(auto)]
 pub mod body;
 pub mod gap;
 pub mod index;
@@ -14,7 +15,7 @@ pub mod stretch;
 pub mod wipe;
 
 // Where a new body starts, and how many bytes were moved for it.
-#[derive(Drop)]
+#[derive(Clone, Copy)]
 pub struct Room {
     pub start: usize,
     pub moved: usize,
@@ -22,7 +23,7 @@ pub struct Room {
 
 // What lies ahead of a byte of the pool: no body starts before `end`; there starts that of slot `mark` - 1, or, where the mark is 0,
 // the cell or the pool ends.
-#[derive(Drop)]
+#[derive(Clone, Copy)]
 pub struct Ahead {
     pub end: usize,
     pub mark: usize,

@@ -4,6 +4,7 @@
 // Thin: each function over the struct takes it apart and calls a function on slice and place, or puts one together.
 // The borrow checker covers none of them, so each is proved by hand; the work stands in functions on a plain slice,
 // which it covers. Callers use `object` and `after`, whose parameters are plain.
+#![tactic(auto)]
 ghost use Rattle.std.specs.Prelude.{◌≡◌};
 ghost use Rattle.template.specs.Objects.{object_at};
 ghost use Rattle.reader.specs.Places.{place_after};

@@ -1,6 +1,6 @@
 -- 02 Ticket 7, sentence by sentence (specs/Ticket).
 use mathlib.Core.Path.{◌≡◌, refl, sym, ◌∙◌, ap}
-use mathlib.Core.Bool.{Bool, true, false, cond, ◌&&◌, and_false, false≢true}
+use mathlib.Core.Bool.{Bool, true, false, cond, ◌&&◌, and-false, false≢true}
 use mathlib.Core.List.{List, [], ◌∷◌}
 use mathlib.Core.Logic.{⊎_elim}
 use Prim.Native.Nat.{ℕ, zero, suc, ◌+◌, ◌*◌, ◌-◌, ◌/◌, ◌<◌, ◌≤◌}
@@ -150,7 +150,7 @@ module _ (n : ℕ) (img pool : List ℕ) (s t : ℕ) (names : Names n img s t) w
 
   number_off : has_record img t k ≡ false → held_place img pool t k ≡ Nowhere
   unfolding held_place
-  number_off e = rw (e, and_false (is_linear (rec_at img t)))
+  number_off e = rw (e, and-false (is_linear (rec_at img t)))
 
   -- no other file than a linear fixed EF
   other_off : is_linear (rec_at img t) ≡ false → held_place img pool t k ≡ Nowhere
@@ -165,7 +165,7 @@ module _ (n : ℕ) (img pool : List ℕ) (s t : ℕ) (names : Names n img s t) w
     past_off : size_of (rec_at img t) / record_length_of (rec_at img t) < k → has_record img t k ≡ false
     unfolding has_record
     past_off h =
-        rw (lt-leb (k * record_length_of (rec_at img t)) (size_of (rec_at img t)) ((div-lt_iff_lt-mul long).0 h), and_false (ltb 0 k))
+        rw (lt-leb (k * record_length_of (rec_at img t)) (size_of (rec_at img t)) ((div-lt_iff_lt-mul long).0 h), and-false (ltb 0 k))
 
     there-on : 1 ≤ k → k ≤ size_of (rec_at img t) / record_length_of (rec_at img t) → has_record img t k ≡ true
     unfolding has_record

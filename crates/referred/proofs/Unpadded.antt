@@ -1,6 +1,6 @@
 -- The rule of a padded record: there is at most one, and `unpadded` gives it.
 use mathlib.Core.Path.{◌≡◌, refl, sym, ◌∙◌, ap}
-use mathlib.Core.Bool.{Bool, true, false, not, false≢true, and_false}
+use mathlib.Core.Bool.{Bool, true, false, not, false≢true, and-false}
 use mathlib.Core.List.{List, [], ◌++◌}
 use Prim.Native.Nat.{ℕ, suc, ◌+◌, ◌-◌, ◌≤◌}
 use native.Mathlib.Omega.{arith}
@@ -51,7 +51,7 @@ module _ {s : List ℕ} {k : ℕ} (o : OnlyEnd s k) where
 
       pub end-unpadded : not q ≡ true → 0 ≡ unpadded_end s
       unfolding ends_at
-      end-unpadded t = end-no (rw (← rest, not-true q t) (and_false (expanded_formed (take k s))))
+      end-unpadded t = end-no (rw (← rest, not-true q t) (and-false (expanded_formed (take k s))))
 
       pub end-there : not r ≡ false → not q ≡ false → k ≡ unpadded_end s
       unfolding ends_at

@@ -3,6 +3,7 @@
 // decides is `replay_text::replay`.
 //
 // What cannot be read or written is said on standard error: a program has no exit status to say it with.
+#![tactic(auto)]
 fn main() {
     let mut buf = [0u8; 32769];
     let n = io::read_full(libc::STDIN_FILENO, &mut buf);

@@ -81,11 +81,11 @@ too_many : (n : ℕ) → 1023 < n → fits_length (16 + 64 * n) ≡ false
 unfolding fits_length slots_in
 too_many n h =
     let e : (16 + 64 * n - 16) / 64 ≡ n = omega arith in
-    rw (e, lt-leb n 1023 h) (and_false (leb 2 n))
+    rw (e, lt-leb n 1023 h) (and-false (leb 2 n))
   where
-    and_false : (b : Bool) → (b && false) ≡ false
-    and_false true = refl
-    and_false false = refl
+    and-false : (b : Bool) → (b && false) ≡ false
+    and-false true = refl
+    and-false false = refl
 
 refuses : (s : List ℕ) (n : ℕ) → 1023 < n → bad ≡ perform_of s (replicate (16 + 64 * n) 0)
 unfolding by_made made_of fits_buffer

@@ -4,6 +4,7 @@
 // must obey wherever they stand.
 //
 // Nobody compares a life-cycle byte or takes a descriptor apart but through this crate; rules of every form are asked through `access`.
+#![tactic(auto)]
 pub mod condition;
 pub mod descriptor;
 pub mod group;
@@ -13,7 +14,7 @@ pub mod value;
 
 // What the caller has authenticated: a set of environments for each kind of condition, bit n of a set
 // standing for environment n, bit 0 the lowest.
-#[derive(Drop)]
+#[derive(Clone, Copy)]
 pub struct Sets {
     pub messaging: u16,
     pub external: u16,
@@ -22,7 +23,7 @@ pub struct Sets {
 
 // What a rule is asked for: the bits b7 to b1 of its AM bytes, in that order; then the bits that mean another thing in an EF, b2 and b1
 // (02 Ticket 4).
-#[derive(Drop)]
+#[derive(Clone, Copy)]
 pub enum Right {
     DeleteSelf,
     Terminate,

@@ -1,7 +1,7 @@
 -- What a record's own bytes tell: the numbers that were read, name and rule with the zeros after them, each as
 -- a law for one way out of a function.
 use mathlib.Core.Path.{◌≡◌, refl, sym, ◌∙◌, ap}
-use mathlib.Core.Bool.{Bool, true, false, not, ◌&&◌, and-true, and_false, false≢true}
+use mathlib.Core.Bool.{Bool, true, false, not, ◌&&◌, and-true, and-false, false≢true}
 use mathlib.Core.List.{List}
 use mathlib.Core.Logic.{◌↔◌}
 use Prim.Native.Nat.{ℕ, zero, suc, ◌+◌, ◌*◌, ◌-◌, ◌<◌, ◌≤◌}
@@ -60,7 +60,7 @@ module _ (r : List ℕ) (h : Bool) (f : h ≡ has_records (get_or r 1 0)) where
   module _ (t : h ≡ false) (l : ℕ) (e : l ≡ u16_at r 10) where
     pub measured_length : (l ≡ 0 → ⊥) → false ≡ measuredb r
     unfolding measuredb good_length descriptor_of either record_length_of
-    measured_length n = rw (← f, t, ← e, ne_eqb l 0 n) (sym (and_false (leb 1 (size_of r))))
+    measured_length n = rw (← f, t, ← e, ne_eqb l 0 n) (sym (and-false (leb 1 (size_of r))))
 
     pub measured_size : l ≡ 0 → (z : ℕ) → z ≡ u32_at r 12 → not (eqb z 0) ≡ measuredb r
     unfolding measuredb good_length descriptor_of either record_length_of size_of

@@ -3,6 +3,7 @@
 // A walk over all records has a set of the keys seen: a file whose key is new can have no sibling like it before it,
 // and only one whose key was seen looks at them. Any key would be right; this one is spread so that few files share
 // one.
+#![tactic(auto)]
 ghost use Rattle.std.specs.Prelude.{◌≡◌, ◌+◌, ◌*◌, ◌%◌, ◌<◌};
 ghost use Rattle.keys.specs.Marks.{Keyed};
 ghost use Rattle.image.specs.Layout.{Sized};

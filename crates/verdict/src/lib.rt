@@ -2,11 +2,12 @@
 // a refusal with its word or one effect with its numbers. No code but the words' names. specs/ has the status words of
 // 01 and 02, and what each verdict gives: its word, and every byte of image and pool afterwards.
 
+#![tactic(auto)]
 pub mod words;
 
 // What the caller hands over beside the command: the sets of what has been authenticated, and the byte of
 // open channels, of which only bits 1 to 3 count.
-#[derive(Drop)]
+#[derive(Clone, Copy)]
 pub struct State {
     pub sets: rules::Sets,
     pub channels: u8,
@@ -14,7 +15,7 @@ pub struct State {
 
 // A record to be made: its slot, its numbers, and where its name and its rule stand in CREATE's data, which follow the
 // five bytes up to Lc.
-#[derive(Drop)]
+#[derive(Clone, Copy)]
 pub struct NewRecord {
     pub slot: usize,
     pub head: image::Head,
@@ -23,7 +24,7 @@ pub struct NewRecord {
 }
 
 // What is due: a refusal with its word, or one effect with the numbers that it needs.
-#[derive(Drop)]
+#[derive(Clone, Copy)]
 pub enum Verdict {
     Refuse(u16),
     // The current DF and EF slots afterwards, and the word.
