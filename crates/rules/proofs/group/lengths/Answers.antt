@@ -1,0 +1,9 @@
+-- `group::lengths`: the table is right at each of its entries, by one test that is computed.
+use mathlib.Core.Path.{refl}
+use Rattle.rules.specs.Group.{group_length}
+use Rattle.rules.proofs.Bits.{lengths_by}
+use Rattle.rules.proofs.group.lengths.Goals as goal
+
+pub returns : goal.returns
+unfolding group_length
+returns c = lengths_by _ refl tt

@@ -1,0 +1,6 @@
+-- `rule::formed_by`: one look for a rule of one group.
+use Rattle.rules.proofs.Groups.{one-formed}
+use Rattle.rules.proofs.rule.formed_by.Goals as goal
+
+pub returns-then-wide-rule : goal.returns-then-wide-rule
+returns-then-wide-rule c = search one-formed
