@@ -1,3 +1,5 @@
+use mathlib.Core.Path.{ap}
+use mathlib.Core.Bool.{not}
 use Prim.Native.Nat.{◌-◌}
 use Rattle.expanded.proofs.Rows.{goings, going_next}
 use Rattle.expanded.proofs.Standing.{going_plain, going_am}
@@ -34,7 +36,7 @@ loop-at-preserved c =
     c.end-to.ensures
     c.if-to-at-lt2.false
     c.is_in_place.ensures
-    c.if-not-is_in_place.false
+    (ap not c.if-not-is_in_place.false)
     c.is_am-due.ensures
 
 pub returns : goal.returns
