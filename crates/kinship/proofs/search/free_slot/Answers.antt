@@ -1,0 +1,28 @@
+use Prim.Native.Nat.{◌-◌}
+use mathlib.Core.Path.{sym, ◌∙◌}
+use borrow.Author.Tests.{eq-eqb, ne_eqb}
+use Rattle.laws.proofs.Firsts.{first-zero, first_more, first-at, first-end}
+use Rattle.sound.specs.Kinship.{free_slot}
+use borrow.Author.Rules.{rules}
+use Rattle.kinship.proofs.search.free_slot.Goals as goal
+
+pub loop-s-init : goal.loop-s-init
+loop-s-init c = (search rules, first-zero _)
+
+pub loop-s-preserved : goal.loop-s-preserved
+loop-s-preserved c = (
+  search rules,
+  first_more _ _ c.loop-s.invariant.1
+      (ne_eqb _ _ (λ e. c.if-kind-eq-FREE.false (c.kind.ensures ∙ e))),
+)
+
+pub returns-then-n-s : goal.returns-then-n-s
+unfolding free_slot
+returns-then-n-s c = search (first-end, rules)
+
+pub returns-then-kind-eq-FREE : goal.returns-then-kind-eq-FREE
+unfolding free_slot
+returns-then-kind-eq-FREE c =
+    sym
+    (first-at _ _ _ (search rules) c.loop-s.invariant.1
+    (eq-eqb _ _ (sym c.kind.ensures ∙ c.if-kind-eq-FREE.true)))
