@@ -1,0 +1,12 @@
+-- `search_child_plainly`: the slot of the child, by the plain walk.
+use Rattle.searches.proofs.Told.{is_sized, told_none, told_child}
+use Rattle.searches.proofs.search_child_plainly.Goals as goal
+
+pub returns-then-n-eq0 : goal.returns-then-n-eq0
+returns-then-n-eq0 c = search told_none
+
+pub child_named-requires : goal.child_named-requires
+child_named-requires c = search is_sized
+
+pub returns : goal.returns
+returns c = search told_child

@@ -1,0 +1,13 @@
+-- `first_at`: sets and sums first, then siblings, then the place.
+use Rattle.sound_links.specs.Linked.{first_at}
+use Rattle.sound_links.proofs.Linking.{first-no, first-yes}
+use borrow.Author.Rules.{rules}
+use Rattle.sound_links.proofs.first_at.Goals as goal
+
+pub returns-then-not-alone : goal.returns-then-not-alone
+unfolding first_at
+returns-then-not-alone c = record { value = search first-no; keyed_2 = search rules; seen_2 = search rules; summed_2 = search rules }
+
+pub returns : goal.returns
+unfolding first_at
+returns c = record { value = search first-yes; keyed_2 = search rules; seen_2 = search rules; summed_2 = search rules }
