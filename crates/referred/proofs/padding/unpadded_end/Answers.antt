@@ -1,4 +1,6 @@
 -- `padding::unpadded_end`: the only place where the rule can end, tested.
+use mathlib.Core.Path.{ap}
+use mathlib.Core.Bool.{not}
 use borrow.Author.Rules.{rules}
 use Rattle.referred.proofs.Unpadded.{placed, end-there, part-long}
 use Rattle.referred.proofs.Unpadded.{placed, part-long}
@@ -19,7 +21,7 @@ returns c = (
       c.last_place-at.ensures
       c.well_formed-2.ensures
       c.is_padding.ensures
-      c.if-not-well_formed.false
-      c.if-not-is_padding.false,
+      (ap not c.if-not-well_formed.false)
+      (ap not c.if-not-is_padding.false),
   search rules,
 )
