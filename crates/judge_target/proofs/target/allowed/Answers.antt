@@ -1,0 +1,16 @@
+-- `target::allowed`: the rule that decides is asked, in the form that it has.
+use Rattle.access.specs.Access.{granted_of}
+use Rattle.judge_target.specs.Target.{allowed_at}
+use Rattle.judge_target.proofs.Ruling.{rule-of}
+use borrow.Author.Rules.{rules}
+use Rattle.judge_target.proofs.target.allowed.Goals as goal
+
+pub deciding-requires : goal.deciding-requires
+deciding-requires c = record { rooted = search rules; stands = (search rules, c.requires.judgeable.ruled _ c.requires.stands.low) }
+
+pub returns : goal.returns
+unfolding allowed_at
+returns c =
+    rule-of (λ g l. granted_of g l c.args.right c.args.sets) _ _ _ _
+    c.requires.judgeable.count c.form.ensures c.asked_as-form.ensures
+    c.deciding.ensures c.granted.ensures

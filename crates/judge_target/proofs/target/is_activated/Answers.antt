@@ -1,0 +1,5 @@
+-- `target::is_activated`: the class of the byte that stands there.
+use Rattle.judge_target.proofs.target.is_activated.Goals as goal
+
+pub returns : goal.returns
+returns c = cc
