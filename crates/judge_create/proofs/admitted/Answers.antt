@@ -16,7 +16,7 @@ pub returns-then-not-name_free : goal.returns-then-not-name_free
 returns-then-not-name_free c = search (answers, refl) depth 40
 
 pub returns-then-not-fits_room : goal.returns-then-not-fits_room
-returns-then-not-fits_room c = search (answers, refl) depth 40
+returns-then-not-fits_room c = search (answers, refl) depth 40 fits 20000
 
 pub returns : goal.returns
-returns c = search (answers, refl) depth 40
+returns c = search (answers, refl) depth 40 fits 20000
