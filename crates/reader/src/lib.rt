@@ -2,9 +2,9 @@
 // object reader is also wanted as a struct that holds the template and its place").
 //
 // Thin: each function over the struct takes it apart and calls a function on slice and place, or puts one together.
-// The borrow checker covers none of them, so each is proved by hand; the work stands in functions on a plain slice,
-// which it covers. Callers use `object` and `after`, whose parameters are plain.
+// Callers use `object` and `after`, whose parameters are plain.
 #![tactic(auto)]
+
 ghost use Rattle.std.specs.Prelude.{◌≡◌};
 ghost use Rattle.template.specs.Objects.{object_at};
 ghost use Rattle.reader.specs.Places.{place_after};
@@ -12,13 +12,14 @@ ghost use Rattle.reader.specs.Places.{place_after};
 use template::{Object, gather};
 
 // A template and a place in it, where the next object stands.
-#[derive(Drop)]
+#[derive(Clone, Copy)]
 pub struct Reader<'a> {
     pub template: &'a [u8],
     pub place: usize,
 }
 
 // The work: where the object at a place ends; the place itself where no whole object stands there.
+#[tactic(auto, unfolding(crate::specs::Places::place_after))]
 pub fn end_at(s: &[u8], at: usize) -> usize
     ensures { result ≡ place_after s.now at }
 {
