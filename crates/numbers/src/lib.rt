@@ -4,6 +4,7 @@
 // Every put is a splice of the list of bytes, so that one law carries all that is known of an image past any write
 // (laws, proofs/Splices).
 #![tactic(auto)]
+
 ghost use Rattle.std.specs.Prelude.{◌≡◌, [], ◌∷◌, ◌+◌, ◌≤◌, ◌<◌, length, replicate};
 ghost use Rattle.laws.specs.Lists.{splice};
 ghost use Rattle.numbers.specs.Numbers.{u16_at, u32_at, be16, be32};

@@ -5,6 +5,7 @@
 //
 // Nobody compares a life-cycle byte or takes a descriptor apart but through this crate; rules of every form are asked through `access`.
 #![tactic(auto)]
+
 pub mod condition;
 pub mod descriptor;
 pub mod group;

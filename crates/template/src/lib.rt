@@ -3,6 +3,7 @@
 // `gather` notes which objects of 01's list stand in the template and where, as one value that judges nothing; `value`
 // reads a value. What the whole must obey is judged above, in `create_data`.
 #![tactic(auto)]
+
 pub mod gather;
 pub mod value;
 
