@@ -2,33 +2,28 @@
 // them (01 "CREATE", data: why data is refused with 6A80). It reads one byte more than the longest data, which is enough
 // to see that it is too long. All that it decides is `objects_text::list`.
 //
-// What cannot be read or written is said on standard error: a program has no exit status to say it with.
+// Where reading fails, or memory for what was read, nothing is written; where writing fails, part of the text may be. Either
+// is said on standard error, and the program ends with status 1.
 #![tactic(auto)]
-fn main() {
-    let mut buf = [0u8; 256];
-    let n = io::read_full(libc::STDIN_FILENO, &mut buf);
-    if n < 256 {
-        if !ended() {
-            io::write_all(
-                libc::STDERR_FILENO,
-                b"objects: standard input cannot be read\n",
-            );
-            return;
-        }
+
+use std::io::Read;
+use std::process::ExitCode;
+
+fn main(rt: HostRuntime) -> ExitCode {
+    let mut data = Vec::new(rt.alloc());
+    if rt.stdin().take(256).read_to_end(&mut data).is_err() {
+        return failure(&rt, "objects: standard input cannot be read");
     }
     let mut out = [0u8; 2312];
-    let long = objects_text::list(&buf[..n], &mut out);
-    if !io::write_all(libc::STDOUT_FILENO, &out[..long]) {
-        io::write_all(
-            libc::STDERR_FILENO,
-            b"objects: standard output cannot be written\n",
-        );
+    let long = objects_text::list(&data, &mut out);
+    if rt.write_all(&out[..long]).is_err() {
+        return failure(&rt, "objects: standard output cannot be written");
     }
+    ExitCode::SUCCESS
 }
 
-// Whether standard input has ended, where reading stopped before the buffer was full: it stops at a read that fails too,
-// and only another read tells the two apart.
-fn ended() -> bool {
-    let mut more = [0u8; 1];
-    libc::read(libc::STDIN_FILENO, &mut more) == 0
+// Says on standard error what failed, as far as that can be written; gives the status to end with.
+fn failure(rt: &impl Eprint, what: &str) -> ExitCode {
+    let _ = rt.eprintln(what);
+    ExitCode::FAILURE
 }

@@ -2,33 +2,28 @@
 // "Replay"). It reads one byte more than the longest stream, which is enough to see that one is too long. All that it
 // decides is `replay_text::replay`.
 //
-// What cannot be read or written is said on standard error: a program has no exit status to say it with.
+// Where reading fails, or memory for what was read, nothing is written; where writing fails, part of the text may be. Either
+// is said on standard error, and the program ends with status 1.
 #![tactic(auto)]
-fn main() {
-    let mut buf = [0u8; 32769];
-    let n = io::read_full(libc::STDIN_FILENO, &mut buf);
-    if n < 32769 {
-        if !ended() {
-            io::write_all(
-                libc::STDERR_FILENO,
-                b"replay: standard input cannot be read\n",
-            );
-            return;
-        }
+
+use std::io::Read;
+use std::process::ExitCode;
+
+fn main(rt: HostRuntime) -> ExitCode {
+    let mut data = Vec::new(rt.alloc());
+    if rt.stdin().take(32769).read_to_end(&mut data).is_err() {
+        return failure(&rt, "replay: standard input cannot be read");
     }
     let mut out = [0u8; 98308];
-    let long = replay_text::replay(&buf[..n], &mut out);
-    if !io::write_all(libc::STDOUT_FILENO, &out[..long]) {
-        io::write_all(
-            libc::STDERR_FILENO,
-            b"replay: standard output cannot be written\n",
-        );
+    let long = replay_text::replay(&data, &mut out);
+    if rt.write_all(&out[..long]).is_err() {
+        return failure(&rt, "replay: standard output cannot be written");
     }
+    ExitCode::SUCCESS
 }
 
-// Whether standard input has ended, where reading stopped before the buffer was full: it stops at a read that fails too,
-// and only another read tells the two apart.
-fn ended() -> bool {
-    let mut more = [0u8; 1];
-    libc::read(libc::STDIN_FILENO, &mut more) == 0
+// Says on standard error what failed, as far as that can be written; gives the status to end with.
+fn failure(rt: &impl Eprint, what: &str) -> ExitCode {
+    let _ = rt.eprintln(what);
+    ExitCode::FAILURE
 }
