@@ -1,9 +1,6 @@
 -- `order::judge_later`: its early returns are the steps E to G.
-use mathlib.Core.Path.{ap}
-use mathlib.Core.Bool.{not}
 use Rattle.laws.proofs.Branches.{answers, unlesses}
 use mathlib.Core.Path.{sym, ◌∙◌}
-use borrow.Author.Tests.{not-false}
 use borrow.Author.Rules.{rules}
 use Rattle.judge.proofs.order.judge_later.Goals as goal
 
@@ -17,7 +14,7 @@ pub returns-then-not-fit_length : goal.returns-then-not-fit_length
 returns-then-not-fit_length c = search (unlesses, answers) depth 30
 
 pub by_instruction-requires : goal.by_instruction-requires
-by_instruction-requires c = record { judgeable = search rules; d_value = search rules; in_bounds = (search rules, sym c.before.Fit-length.ensures ∙ not-false _ (ap not c.if-not-fit_length.false)) }
+by_instruction-requires c = record { judgeable = search rules; d_value = search rules; in_bounds = (search rules, sym c.fit_length.ensures ∙ c.if-not-fit_length.false) }
 
 pub returns : goal.returns
 returns c = search (unlesses, answers) depth 30
