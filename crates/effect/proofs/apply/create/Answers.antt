@@ -9,18 +9,18 @@ returns-then-m-eq0 c = (refl, search made_bodiless, search filled_bodiless)
 
 pub make-room-requires : goal.make-room-requires
 make-room-requires c =
-    let p = c.requires in
-    make-fits _ _ _ _ _ _ p.0.1 c.version.ensures
-    c.new_body-m.ensures
-    p.0.0.1 p.1.1.0 p.1.1.1 c.if-m-eq0.false
+    let q =
+    make-fits _ _ _ _ _ _ c.requires.within.1 c.version.ensures c.new_body-m.ensures
+    c.requires.within.0.1 c.requires.laid.0 c.requires.laid.1 c.if-m-eq0.false in
+    record { sized = q.0; laid = q.1.0; m_in_bounds = q.1.1 }
 
 pub enter-requires-2 : goal.enter-requires-2
 enter-requires-2 c =
-    let k = c in
-    let p = k.before.before.before.before.before.before.before.before.requires in
-    enter_fits _ _ _ _ _ _ p.0.1 k.before.before.version.ensures k.before.new-body.ensures
-    p.0.0.1 p.1.1.0 p.1.1.1 k.if1.false
-    _ _ _ c.make-room.ensures _ _ _ p.0.0.0 p.1.0
+    let q =
+    enter_fits _ _ _ _ _ _ c.requires.within.1 c.version.ensures c.new_body-m.ensures
+    c.requires.within.0.1 c.requires.laid.0 c.requires.laid.1 c.if-m-eq0.false
+    _ _ _ c.make-room.ensures _ _ _ c.requires.within.0.0 c.requires.name_len_bound in
+    record { within = q.0; name_len_bound = q.1 }
 
 pub set_start-requires : goal.set_start-requires
 set_start-requires c = (search rules, search start-low)
