@@ -1,6 +1,7 @@
 // The calls as C sees them (include/hullplaiter.h): each wraps one public call and gives 01's numbers, and 02's, for its answer.
 // No call asks anything of its caller, and none keeps anything from call to call.
 #![tactic(auto)]
+
 ghost use Rattle.std.specs.Prelude.{◌≡◌, ◌<◌};
 ghost use Rattle.access.specs.Decision.{decision_number};
 ghost use Rattle.card.specs.Command.{answer_told};

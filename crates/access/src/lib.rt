@@ -1,6 +1,7 @@
 // Access rules of every form (01 "Descriptor and rules", 02 Tickets 3, 6 and 7): the one place where a rule is asked, what a refusal
 // lacks, and whether a rule may stand in a record. A rule comes with the number of its form; whoever asks never looks inside.
 #![tactic(auto)]
+
 ghost use Rattle.std.specs.Prelude.{◌≡◌, ◌&&◌, ◌≤◌, eqb, length};
 ghost use Rattle.rules.specs.Group.{Lengths};
 ghost use Rattle.access.specs.Access.{referred, tag_of, asked_as, referred_formed, well_formed, fits_record, granted_of};

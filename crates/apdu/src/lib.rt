@@ -1,6 +1,7 @@
 // The bytes of a command and the tests of the steps A to G, which all commands share (01 "The order in which a command
 // is judged"), and the parts of a command.
 #![tactic(auto)]
+
 ghost use Rattle.std.specs.Prelude.{◌≡◌, cond, ◌≤◌, length};
 ghost use Rattle.verdict.specs.Applied.{sent_data};
 ghost use Rattle.apdu.specs.Apdu.{is_terminate, is_old, is_known, wants_alone, other_channel, crowded, wants_template, good_parameters};

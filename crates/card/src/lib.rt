@@ -4,6 +4,7 @@
 // specs/Lives says who writes which life-cycle byte (02 Ticket 1), specs/Bodies what becomes of contents, specs/Security what a security
 // refusal lacks (02 Ticket 6).
 #![tactic(auto)]
+
 ghost use Rattle.std.specs.Prelude.{◌≡◌};
 ghost use Rattle.sound.specs.Sound.{Sound};
 ghost use Rattle.card.specs.Command.{pool_fits, CommandPromises};

@@ -4,6 +4,7 @@
 // `judge` judges which objects were gathered and the bytes that they point at. Every value is handed on as a part of
 // the data, from the middle of it, and nothing is copied.
 #![tactic(auto)]
+
 ghost use Rattle.std.specs.Prelude.{◌≡◌};
 ghost use Rattle.create_data.specs.Data.{data_of};
 ghost use Rattle.create_data.specs.Good.{Good};

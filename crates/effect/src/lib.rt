@@ -5,6 +5,7 @@
 // on which slot, is decided before. What is told of it (02 Tickets 2 and 4) is written first, by `tell`, which fails where the response
 // is too short.
 #![tactic(auto)]
+
 pub mod apply;
 pub mod erase;
 pub mod tell;

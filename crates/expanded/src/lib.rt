@@ -5,6 +5,7 @@
 // A rule is a row of data objects. Templates hold rows of conditions in turn: `condition::is_formed` and `condition::does_hold`
 // go down into them, with the depth that is left as the falling number.
 #![tactic(auto)]
+
 pub mod condition;
 pub mod object;
 pub mod rule;

@@ -2,6 +2,7 @@
 // that the caller lends. The template stands in specs/Template, in the words of CREATE's own grammar; `objects` writes each of its
 // objects, `answer` measures it, and writes it where it fits.
 #![tactic(auto)]
+
 pub mod answer;
 pub mod objects;
 

@@ -3,6 +3,7 @@
 // other bytes. What makes an image
 // sound is the matter of the crates above.
 #![tactic(auto)]
+
 pub mod fields;
 pub mod kin;
 pub mod version;

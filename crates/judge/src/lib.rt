@@ -2,4 +2,5 @@
 // the command's own steps, which `judge_create`, `judge_commands` and `judge_bodies` have. It reads and decides, and
 // changes nothing.
 #![tactic(auto)]
+
 pub mod order;

@@ -1,6 +1,7 @@
 // READ BINARY, UPDATE BINARY, READ RECORD and UPDATE RECORD, each by its own steps I to L (02 Ticket 4): the word of the first that fails,
 // or from where on bytes of the pool are told or overwritten.
 #![tactic(auto)]
+
 ghost use Rattle.std.specs.Prelude.{◌≡◌, ◌*◌, ◌-◌, ◌<◌, ◌≤◌};
 ghost use Rattle.rules.specs.Descriptor.{has_records};
 ghost use Rattle.image.specs.Layout.{Within, none, rec_at, descriptor_of, record_length_of};

@@ -1,6 +1,7 @@
 // The commands but CREATE and those on bodies, each by its own steps H to L (01, from "SELECT" on): the word of the first that
 // fails, or the effect that is due.
 #![tactic(auto)]
+
 ghost use Rattle.std.specs.Prelude.{◌≡◌, ◌<◌, ◌≤◌};
 ghost use Rattle.image.specs.Layout.{Within, none};
 ghost use Rattle.kinship.specs.Climb.{Stands};

@@ -1,6 +1,7 @@
 // CREATE FILE by its own steps H to L (01 "CREATE"): its data, the rights of the current DF, its life cycle,
 // then identifier, name and memory.
 #![tactic(auto)]
+
 ghost use Rattle.std.specs.Prelude.{◌≡◌, ◌<◌, ◌≤◌, length};
 ghost use Rattle.template.specs.Objects.{bytes_at};
 ghost use Rattle.image.specs.Layout.{Sized};

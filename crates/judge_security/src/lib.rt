@@ -1,6 +1,7 @@
 // What a security refusal lacks (02 Ticket 6): the rules that step J of the refused command asked are asked once more, for a decision of
 // three. Judging itself needs only whether they grant; so a command that is not refused for security takes no longer.
 #![tactic(auto)]
+
 ghost use Rattle.std.specs.Prelude.{◌≡◌, true, ◌<◌, ◌≤◌, length};
 ghost use Rattle.image.specs.Layout.{current_df_of};
 ghost use Rattle.sound.specs.Sound.{Sound};

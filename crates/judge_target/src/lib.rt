@@ -2,4 +2,5 @@
 // which a command is judged"). It reads and changes nothing. The commands themselves stand above, in `judge_create`,
 // `judge_commands` and `judge_bodies`, the steps that all share in `judge`.
 #![tactic(auto)]
+
 pub mod target;

@@ -3,6 +3,7 @@
 // ("Image": siblings, directories above, names). A record whose key is new can have no earlier one like it, and
 // need not look at those before it.
 #![tactic(auto)]
+
 ghost use Rattle.std.specs.Prelude.{◌≡◌};
 ghost use Rattle.keys.specs.Marks.{marked, marking};
 

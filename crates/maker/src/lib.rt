@@ -2,6 +2,7 @@
 //
 // Both calls take any bytes. An answer is an enum; specs/ gives 01's number and values for each of its cases.
 #![tactic(auto)]
+
 pub mod fresh;
 pub mod report;
 

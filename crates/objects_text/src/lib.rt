@@ -9,6 +9,7 @@
 // too), `DF 3` and `EF 3` what only one of version 3 takes, for its rule stands in 8B (02 Ticket 7): the data do not say which card they
 // are for.
 #![tactic(auto)]
+
 ghost use Rattle.std.specs.Prelude.{◌≡◌, ◌+◌, ◌<◌, ◌≤◌, length};
 ghost use Rattle.create_data.specs.Data.{data_of};
 ghost use Rattle.text.specs.Written.{WroteAt, Wrote, Counted};

@@ -4,6 +4,7 @@
 //
 // All is over two numbers for each slot, where its body starts and how many bytes it has; both stand in the record.
 #![tactic(auto)]
+
 pub mod body;
 pub mod gap;
 pub mod index;

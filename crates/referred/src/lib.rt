@@ -2,6 +2,7 @@
 // names, looked for from its directory upwards. It is handed back as a part of one of the two lent slices, image or pool, without padding;
 // the part is empty where the search denies. What the rule decides is asked of it elsewhere, by `access`.
 #![tactic(auto)]
+
 pub mod deciding;
 pub mod nearest;
 pub mod padding;

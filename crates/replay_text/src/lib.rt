@@ -1,6 +1,7 @@
 // A stream of commands, carried out on a fresh card, and the text that is written about it (01 "Replay"). The program
 // `replay` only reads a stream and writes that text.
 #![tactic(auto)]
+
 ghost use Rattle.std.specs.Prelude.{◌≡◌, false, [], ◌+◌, ◌*◌, ◌<◌, ◌≤◌, length};
 ghost use Rattle.laws.specs.Lists.{splice};
 ghost use Rattle.card.specs.Command.{reply_of, image_of, answer_word};

@@ -1,6 +1,7 @@
 // Only the searches by identifier, for whoever measures them (02 Ticket 5): as `kinship` has them, and as the plain walk that they were
 // before. Both are promised the same answers, so that what is measured is time and nothing else. No card calls this.
 #![tactic(auto)]
+
 ghost use Rattle.std.specs.Prelude.{◌≡◌};
 ghost use Rattle.image.specs.Layout.{count_of};
 ghost use Rattle.sound.specs.Table.{view_at};

@@ -3,6 +3,7 @@
 // The identifiers of all directories are noted first, in one set, and those that two directories have in another. Only
 // a file that may share its identifier with another directory walks up.
 #![tactic(auto)]
+
 ghost use Rattle.std.specs.Prelude.{◌≡◌, true, ◌+◌, ◌<◌};
 ghost use Rattle.image.specs.Layout.{Sized, Within};
 ghost use Rattle.sound.specs.Table.{view_at};

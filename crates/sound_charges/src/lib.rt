@@ -3,6 +3,7 @@
 // A walk over the records adds what each file costs to its directory's sum; when it is over, sums and totals are
 // compared. The sums are the caller's array: one that is returned would be copied.
 #![tactic(auto)]
+
 ghost use Rattle.std.specs.Prelude.{◌≡◌, ◌+◌, ◌<◌};
 ghost use Rattle.image.specs.Layout.{Sized, Within};
 ghost use Rattle.sound.specs.Table.{view_at, charged};

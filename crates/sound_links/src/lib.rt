@@ -4,6 +4,7 @@
 // The first walk asks what needs nothing known, and gathers the identifiers of directories and what each directory's
 // children cost; the second asks what needs these. Each record is asked twice.
 #![tactic(auto)]
+
 ghost use Rattle.std.specs.Prelude.{◌≡◌, true, ◌+◌, ◌<◌};
 ghost use Rattle.laws.specs.Walks.{all_below};
 ghost use Rattle.keys.specs.Marks.{Keyed};

@@ -3,6 +3,7 @@
 // The walk over the pairs has a set of the keys of names seen: a record with no name, or with one whose key is new,
 // has no pair to look at. Any key would be right; this one is spread so that few names share one.
 #![tactic(auto)]
+
 ghost use Rattle.std.specs.Prelude.{◌≡◌, true, ◌+◌, ◌<◌, length};
 ghost use Rattle.keys.specs.Marks.{Keyed};
 ghost use Rattle.image.specs.Layout.{Sized};

@@ -6,6 +6,7 @@
 // It is the larger part of the test that every command makes of the whole image, so each test is in the shape that
 // runs fast.
 #![tactic(auto)]
+
 pub mod blank;
 pub mod header;
 pub mod own;

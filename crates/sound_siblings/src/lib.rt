@@ -4,6 +4,7 @@
 // and only one whose key was seen looks at them. Any key would be right; this one is spread so that few files share
 // one.
 #![tactic(auto)]
+
 ghost use Rattle.std.specs.Prelude.{◌≡◌, ◌+◌, ◌*◌, ◌%◌, ◌<◌};
 ghost use Rattle.keys.specs.Marks.{Keyed};
 ghost use Rattle.image.specs.Layout.{Sized};

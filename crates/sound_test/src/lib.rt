@@ -5,6 +5,7 @@
 // what is current, where bodies lie (`pool`). Walking up is safe only once parents and levels are known good, names
 // are short only once each record is, and the pool only once the root is.
 #![tactic(auto)]
+
 ghost use Rattle.std.specs.Prelude.{◌≡◌, true};
 ghost use Rattle.image.specs.Layout.{Sized, count_of};
 ghost use Rattle.sound.specs.Table.{view_at};

@@ -4,6 +4,7 @@
 // A walk over the slots: each climbs to a record that is known, or that stands no deeper than the directory; then all
 // that it passed are known too. So no record is passed by two climbs, and one whose parent is known climbs nowhere.
 #![tactic(auto)]
+
 ghost use Rattle.std.specs.Prelude.{◌≡◌, ◌+◌, ◌<◌};
 ghost use Rattle.image.specs.Layout.{Within};
 ghost use Rattle.sound.specs.Table.{view_at};

@@ -1,6 +1,7 @@
 // Text in a buffer that the caller lends: capital hex digits, and a text written from a place on (01 "Replay": "One
 // line of four capital hex digits a command").
 #![tactic(auto)]
+
 ghost use Rattle.std.specs.Prelude.{◌≡◌, ◌+◌, ◌<◌, ◌≤◌, length};
 ghost use Rattle.text.specs.Digits.{digit_of};
 ghost use Rattle.text.specs.Written.{WroteAt};

@@ -3,6 +3,7 @@
 // 01 and 02, and what each verdict gives: its word, and every byte of image and pool afterwards.
 
 #![tactic(auto)]
+
 pub mod words;
 
 // What the caller hands over beside the command: the sets of what has been authenticated, and the byte of

@@ -8,8 +8,11 @@ use borrow.Author.Rules.{rules}
 use Rattle.judge_commands.proofs.select_file.Goals as goal
 
 pub selecting_it-requires : goal.selecting_it-requires
-selecting_it-requires c = record { judgeable = search rules; s_lt_n = (selected_stands _ _ _ _ _ c.requires
-      (sym c.select.ensures ∙ c.in-At.is)).low }
+selecting_it-requires c = record {
+  judgeable = search rules;
+  s_lt_n = (selected_stands _ _ _ _ _ c.requires
+      (sym c.select.ensures ∙ c.in-At.is)).low;
+}
 
 pub returns-in-At : goal.returns-in-At
 unfolding followed

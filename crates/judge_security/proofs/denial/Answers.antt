@@ -9,8 +9,12 @@ pub returns-then-not-is_denied : goal.returns-then-not-is_denied
 returns-then-not-is_denied c = not-denied _ _ _ _ _ c.is_denied.ensures (ap not c.if-not-is_denied.true)
 
 pub decided-requires : goal.decided-requires
-decided-requires c = record { judgeable = rw (c.count-n.ensures.0, c.current_df-d.ensures.0) (judgeable _ c.requires.sound); d_value = c.current_df-d.ensures.0; in_bounds = denied_needs _ _ _ _ _ c.is_denied.ensures (ap not c.if-not-is_denied.false)
-        c.requires.due_value }
+decided-requires c = record {
+  judgeable = rw (c.count-n.ensures.0, c.current_df-d.ensures.0) (judgeable _ c.requires.sound);
+  d_value = c.current_df-d.ensures.0;
+  in_bounds = denied_needs _ _ _ _ _ c.is_denied.ensures (ap not c.if-not-is_denied.false)
+      c.requires.due_value;
+}
 
 pub returns : goal.returns
 returns c =

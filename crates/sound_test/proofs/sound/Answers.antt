@@ -23,8 +23,11 @@ returns-then-not-records c =
     c.count-n.ensures.0 _ c.records.ensures (ap not c.if-not-records.true)
 
 pub kin-requires : goal.kin-requires
-kin-requires c = record { sized = header-sized _ _ c.agrees.ensures (ap not c.if-not-agrees.false) _
-      c.count-n.ensures.0; n_value = passed _ _ c.records.ensures (ap not c.if-not-records.false) }
+kin-requires c = record {
+  sized = header-sized _ _ c.agrees.ensures (ap not c.if-not-agrees.false) _
+      c.count-n.ensures.0;
+  n_value = passed _ _ c.records.ensures (ap not c.if-not-records.false);
+}
 
 pub returns-then-not-kin : goal.returns-then-not-kin
 returns-then-not-kin c =

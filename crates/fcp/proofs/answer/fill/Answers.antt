@@ -29,7 +29,7 @@ pub put_size-requires : goal.put_size-requires
 put_size-requires c = (c.requires.tellable, omega (arith, long-sum (rec_at c.args.image.now c.args.s), c.put-a.ensures.long, c.put_descriptor-b.ensures.long, c.put_identifier-c.ensures.long, c.put_name-d.ensures.long, c.put_life-e.ensures.long, c.put_rule-f.ensures.long))
 
 pub returns : goal.returns
-returns c = 
+returns c =
     filled (rec_at c.args.image.now c.args.s) c.requires.n_value.0
     c.put-a.ensures
     c.put_descriptor-b.ensures

@@ -29,8 +29,11 @@ unfolding plan_for
 returns-then-i-3 c = search (plan-ne, plan-eq, deletes) depth 30
 
 pub on_body-requires : goal.on_body-requires
-on_body-requires c = record { judgeable = search rules; in_bounds = body-long _ c.requires.in_bounds.1 refl c.is_body.ensures
-      c.if-is_body.true }
+on_body-requires c = record {
+  judgeable = search rules;
+  in_bounds = body-long _ c.requires.in_bounds.1 refl c.is_body.ensures
+      c.if-is_body.true;
+}
 
 pub returns-then-is_body : goal.returns-then-is_body
 unfolding plan_for

@@ -5,16 +5,22 @@ use borrow.Author.Rules.{rules}
 use Rattle.judge.proofs.order.on_current.Goals as goal
 
 pub activate_file-requires : goal.activate_file-requires
-activate_file-requires c = record { judgeable = search rules; stands = current_stands _ _ _ _ c.requires.judgeable c.requires.d_value
-      c.current_file.ensures }
+activate_file-requires c = record {
+  judgeable = search rules;
+  stands = current_stands _ _ _ _ c.requires.judgeable c.requires.d_value
+      c.current_file.ensures;
+}
 
 pub returns-then-i-eq-ACTIVATE_FILE : goal.returns-then-i-eq-ACTIVATE_FILE
 unfolding life_plan
 returns-then-i-eq-ACTIVATE_FILE c = search plans depth 30
 
 pub deactivate_file-requires : goal.deactivate_file-requires
-deactivate_file-requires c = record { judgeable = search rules; stands = current_stands _ _ _ _ c.requires.judgeable c.requires.d_value
-      c.current_file-then-i-eq-DEACTIVATE_FILE.ensures }
+deactivate_file-requires c = record {
+  judgeable = search rules;
+  stands = current_stands _ _ _ _ c.requires.judgeable c.requires.d_value
+      c.current_file-then-i-eq-DEACTIVATE_FILE.ensures;
+}
 
 pub returns-then-i-eq-DEACTIVATE_FILE : goal.returns-then-i-eq-DEACTIVATE_FILE
 unfolding life_plan
