@@ -1,21 +1,19 @@
 -- What bodies hold after a call (specs/Bodies, 02 Ticket 4): by the verdict that stands, from what it tells of the image.
 use mathlib.Core.Path.{◌≡◌, refl, sym, ap, ◌∙◌}
-use mathlib.Core.Bool.{Bool, true, false, cond, ◌&&◌, ◌||◌, false≢true}
-use mathlib.Core.List.{List, [], ◌∷◌}
+use mathlib.Core.Bool.{Bool, true, false, cond}
+use mathlib.Core.List.{List}
 use mathlib.Core.Logic.{◌⊎◌, inl, inr, ⊎_elim}
-use Prim.Native.Nat.{ℕ, ◌+◌, ◌-◌, ◌<◌, ◌≤◌}
+use Prim.Native.Nat.{ℕ, ◌+◌, ◌<◌, ◌≤◌}
 use native.Mathlib.Omega.{arith}
 use lib.Dec.{eqb}
-use lib.ListN.{length, get_or, replicate}
-use borrow.Author.Tests.{eq-eqb, ne_eqb, eqb-true, eqb-false}
+use lib.ListN.{length, replicate}
+use borrow.Author.Tests.{eq-eqb, ne_eqb}
 use Rattle.laws.specs.declared.Found.{Found}
 use Rattle.laws.specs.declared.Found.TheVariants.{At, Nothing}
 use Rattle.laws.specs.Lists.{part, splice}
-use Rattle.laws.proofs.Says.{same_or, lt-or, or-says, and-says}
-use Rattle.laws.proofs.Splices.{part-part}
-use Rattle.rules.specs.Descriptor.{ef}
+use Rattle.laws.proofs.Says.{same_or, lt-or}
 use Rattle.image.specs.declared.Head.{Head}
-use Rattle.image.specs.Layout.{Sized, has_bodies, version_of, count_of, current_ef_of, none, rec_at, free_bytes, with_life, kind_of, size_of, start_of}
+use Rattle.image.specs.Layout.{version_of, count_of, current_ef_of, rec_at, free_bytes, with_life, kind_of, start_of}
 use Rattle.image.specs.Layout.{record_bytes, with_start}
 use Rattle.image.proofs.Made.{length-made, kind-made, size-made}
 use Rattle.image.proofs.Starts.{start-set}
@@ -26,41 +24,29 @@ use Rattle.image.proofs.Lives.{kind-kept, size-kept, start-kept}
 use Rattle.image.proofs.Places.{length_record}
 use Rattle.pool.specs.Bodies.{body_of, start_at, body_at, body_bytes}
 use Rattle.pool.specs.Laid.{Laid}
-use Rattle.pool.specs.Gaps.{fits}
 use Rattle.pool.specs.Packed.{packed_image, packed_pool}
 use Rattle.pool.specs.Places.{place_at, place_image, place_pool}
 use Rattle.pool.proofs.After.{after-size, after-reads, length-pool}
 use Rattle.pool.proofs.Making.{place-laid}
 use Rattle.pool.proofs.Wiping.{wiped-reads}
-use Rattle.pool.proofs.Updates.{body_updated, other_updated, new_reads, other_new}
+use Rattle.pool.proofs.Updates.{other_updated, new_reads, other_new}
 use Rattle.sound.specs.Table.{view_at}
-use Rattle.sound.specs.Kinship.{at_or_beneath, free_slot}
-use Rattle.template.specs.Objects.{bytes_at}
-use Rattle.judge_target.specs.Target.{slot_in}
-use Rattle.sound.specs.Sound.{Sound, soundb, pool_length}
+use Rattle.sound.specs.Kinship.{at_or_beneath}
+use Rattle.sound.specs.Sound.{Sound, pool_length}
 use Rattle.sound.specs.Effects.{Creates, new_body, new_gap, made, filled, new_bytes, other_record, wiped}
-use Rattle.sound.proofs.Says.{sound-says}
 use Rattle.sound.proofs.Front.{sound-sized, sound-within}
-use Rattle.sound.proofs.Created.{slot-free, slot-low}
+use Rattle.sound.proofs.Created.{slot-free}
 use Rattle.sound.proofs.MovedDown.{kept_record_lem}
 use Rattle.sound.proofs.Fitting.{body-fits}
 use Rattle.sound.proofs.Made.{front_made, record_made, other-made, place_inside, place-clear, version_ready}
-use Rattle.verdict.specs.declared.State.{State}
 use Rattle.verdict.specs.declared.Verdict.{Verdict}
 use Rattle.verdict.specs.declared.Verdict.TheVariants.{Refuse, Select, Create, Delete, SetLife, Read, Update}
-use Rattle.verdict.specs.Applied.{sent_data, word_of, applied_of, pooled_of}
-use Rattle.apdu.specs.Apdu.{instruction, is_body, is_binary, is_record, is_read, asked}
+use Rattle.verdict.specs.Applied.{sent_data, applied_of, pooled_of}
 use Rattle.card.specs.Touching.{place_of}
-use Rattle.card.specs.Command.{answer_word, pool_fits, PoolFits, due_of, reply_of, image_of, pool_of}
+use Rattle.card.specs.Command.{PoolFits}
 use Rattle.card.specs.After.{record_after}
-use Rattle.card.specs.Obeyed.{is_one_of}
-use Rattle.card.specs.Bodies.{InBody, NeverMeet, InThePool, Updating, ReadsSame, UpdatedThere, NewBodyFF, ReadsBody}
-use Rattle.card.proofs.Steps.{cond_by}
+use Rattle.card.specs.Bodies.{NeverMeet, InThePool}
 use Rattle.card.proofs.Tells.{Tells, new_bodies, lies}
-use Rattle.card.proofs.Ordered.{Ordered}
-use Rattle.card.proofs.Speaks.{Spoken}
-use Rattle.card.proofs.Due.{pool-says, due_tells, due_speaks, due_ordered, due_wrong}
-use Rattle.card.proofs.Answered.{image_is, pool_is, word_is, response_is, damaged-left, damaged-kept, damaged-refused}
 use Rattle.card.proofs.After.{records-after, front_after}
 
 pub never_meet : NeverMeet

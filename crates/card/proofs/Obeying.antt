@@ -11,7 +11,7 @@ use lib.ListN.{length}
 use borrow.Author.Tests.{le-leb}
 use Rattle.laws.proofs.Says.{eq-says, le-says}
 use Rattle.laws.specs.Lists.{splice}
-use Rattle.image.specs.Layout.{version_of, count_of, current_df_of, none}
+use Rattle.image.specs.Layout.{version_of, count_of, current_df_of}
 use Rattle.sound.specs.Sound.{Sound}
 use Rattle.verdict.specs.declared.State.{State}
 use Rattle.verdict.specs.Applied.{word_of, applied_of, pooled_of}

@@ -2,7 +2,7 @@
 use mathlib.Core.Path.{◌≡◌, refl, sym, ap, ◌∙◌}
 use mathlib.Core.Bool.{Bool, true, false, cond, false≢true}
 use mathlib.Core.List.{List}
-use mathlib.Core.Logic.{◌⊎◌, inl, inr, ⊎_elim}
+use mathlib.Core.Logic.{◌⊎◌, inl, inr}
 use Prim.Native.Nat.{ℕ, ◌+◌, ◌<◌, ◌≤◌}
 use native.Mathlib.Omega.{arith}
 use lib.ListN.{length, get_or, replicate, length-replicate}
@@ -13,11 +13,11 @@ use Rattle.laws.specs.Lists.{splice}
 use Rattle.laws.proofs.Says.{same_or, lt-or, untrue}
 use Rattle.laws.proofs.Splices.{get_or-splice_below, get_or-splice_above}
 use Rattle.image.specs.declared.Head.{Head}
-use Rattle.image.specs.Layout.{has_bodies, version_of, count_of, current_ef_of, rec_at, kind_of, start_of}
-use Rattle.image.proofs.Headers.{same_version, same_count}
+use Rattle.image.specs.Layout.{version_of, count_of, current_ef_of, rec_at, start_of}
+use Rattle.image.proofs.Headers.{same_version}
 use Rattle.pool.specs.Bodies.{body_of, start_at, body_at}
 use Rattle.pool.specs.Laid.{Laid}
-use Rattle.pool.specs.Packed.{holds, packed_start, packed_image, packed_pool}
+use Rattle.pool.specs.Packed.{holds, packed_start}
 use Rattle.pool.specs.Wiped.{wipe_below}
 use Rattle.pool.specs.Places.{place_at, place_image, place_pool}
 use Rattle.pool.proofs.After.{after-start, after-size}
@@ -30,17 +30,14 @@ use Rattle.sound.proofs.Front.{sound-sized}
 use Rattle.sound.proofs.Created.{slot-free, slot-low}
 use Rattle.sound.proofs.Made.{other-made}
 use Rattle.sound.proofs.Bodied.{body-none}
-use Rattle.verdict.specs.declared.Verdict.{Verdict}
-use Rattle.verdict.specs.declared.Verdict.TheVariants.{Refuse, Select, Create, Delete, SetLife, Read, Update}
-use Rattle.verdict.specs.Applied.{sent_data, applied_of, pooled_of}
-use Rattle.card.specs.Touching.{place_of}
+use Rattle.verdict.specs.declared.Verdict.TheVariants.{Delete, Update}
+use Rattle.verdict.specs.Applied.{sent_data, applied_of}
 use Rattle.card.specs.Command.{PoolFits}
-use Rattle.card.specs.After.{record_after}
 use Rattle.card.specs.Bodies.{in_some}
 use Rattle.card.proofs.Tells.{Tells, lies, touched}
 use Rattle.card.proofs.After.{records-after, front_after}
-use Rattle.card.proofs.Owners.{holds_so, holds_not, holds-within, by_owner, none_of, left-zero, left-same}
-use Rattle.card.proofs.Bodies.{Lies, by_record, lived, version_new, pool_new, room, ready_long, other_lies, new_lies}
+use Rattle.card.proofs.Owners.{holds_not, holds-within, by_owner, left-zero, left-same}
+use Rattle.card.proofs.Bodies.{by_record, version_new, pool_new, room, other_lies, new_lies}
 
 module _ (img pool c : List ℕ) (sound : Sound img) (fit : PoolFits img pool) (q : ℕ) (low : q < length pool) where
   laid : Laid (count_of img) (start_at img) (body_at img) (length pool)

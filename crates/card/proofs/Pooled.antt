@@ -1,19 +1,18 @@
 -- The pool after a call: how long it is, and the bytes that are in no body (specs/Demands, specs/Bodies).
 use mathlib.Core.Path.{◌≡◌, refl, sym, ap, ◌∙◌}
-use mathlib.Core.Bool.{Bool, true, false, cond}
+use mathlib.Core.Bool.{Bool, true, false}
 use mathlib.Core.List.{List}
 use mathlib.Core.Logic.{◌⊎◌, inl, inr, ⊎_elim}
-use Prim.Native.Nat.{ℕ, ◌+◌, ◌<◌, ◌≤◌}
+use Prim.Native.Nat.{ℕ, ◌<◌}
 use native.Mathlib.Omega.{arith}
 use lib.Dec.{eqb}
-use lib.ListN.{length, get_or, replicate, length-replicate}
+use lib.ListN.{length, get_or, length-replicate}
 use borrow.Author.Tests.{eq-eqb, ne_eqb}
-use Rattle.laws.specs.Lists.{splice}
 use Rattle.laws.proofs.Says.{same_or, lt-or, untrue}
 use Rattle.numbers.specs.Numbers.{u16_at, u32_at}
 use Rattle.laws.proofs.Splices.{length-splice}
 use Rattle.image.specs.declared.Head.{Head}
-use Rattle.image.specs.Layout.{has_bodies, version_of, count_of, rec_at, kind_of, size_of, start_of}
+use Rattle.image.specs.Layout.{version_of, count_of, rec_at, kind_of, size_of, start_of}
 use Rattle.image.proofs.Lives.{size-kept}
 use Rattle.image.proofs.Places.{length_record}
 use Rattle.image.proofs.Headers.{same_version, same_count}
@@ -27,7 +26,6 @@ use Rattle.sound.specs.Effects.{Creates, Deletes, new_body, new_gap, filled, oth
 use Rattle.sound.proofs.Says.{sound-says, beneath-says}
 use Rattle.sound.proofs.Front.{sound-within}
 use Rattle.sound.proofs.Created.{slot-free}
-use Rattle.verdict.specs.declared.State.{State}
 use Rattle.verdict.specs.declared.Verdict.{Verdict}
 use Rattle.verdict.specs.declared.Verdict.TheVariants.{Refuse, Select, Create, Delete, SetLife, Read, Update}
 use Rattle.verdict.specs.Applied.{sent_data, applied_of, pooled_of}

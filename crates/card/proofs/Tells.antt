@@ -7,8 +7,6 @@ use Prim.Native.Nat.{ℕ, ◌+◌, ◌*◌, ◌-◌, ◌<◌, ◌≤◌}
 use native.Mathlib.Omega.{arith}
 use lib.Dec.{eqb}
 use lib.ListN.{length, length-drop}
-use Rattle.laws.specs.Walks.{sum_below}
-use Rattle.laws.proofs.Says.{and-says}
 use Rattle.template.specs.Objects.{bytes_at}
 use Rattle.rules.specs.Life.{known_life}
 use Rattle.rules.specs.Descriptor.{ef}

@@ -1,33 +1,27 @@
 -- READ and UPDATE, command by command (specs/Obeyed, 02 Ticket 4): their steps are the asks of specs/Conditions, in their order and with
 -- their words, and the effect is the stated one.
-use mathlib.Core.Path.{◌≡◌, refl, sym, ap, ◌∙◌}
+use mathlib.Core.Path.{◌≡◌, refl, ◌∙◌}
 use mathlib.Core.Bool.{Bool, true, false, cond, not, ◌&&◌, ◌||◌, false≢true}
-use mathlib.Core.List.{List, [], ◌∷◌, ◌++◌}
+use mathlib.Core.List.{List}
 use mathlib.Core.Logic.{◌↔◌, ◌⊎◌, inl, inr, ⊎_elim}
-use Prim.Native.Nat.{ℕ, ◌+◌, ◌*◌, ◌-◌, ◌/◌, ◌%◌, ◌<◌, ◌≤◌}
+use Prim.Native.Nat.{ℕ, ◌+◌, ◌*◌, ◌/◌, ◌<◌, ◌≤◌}
 use native.Mathlib.Omega.{arith}
-use lib.Dec.{eqb, leb, ltb}
+use lib.Dec.{eqb, ltb}
 use lib.ListN.{length, get_or}
 use borrow.Author.Tests.{eqb-true, eq-eqb, ltb-true, lt-ltb}
-use Rattle.laws.proofs.Says.{eq-says, le-says, and-says, or-says, not-says, untrue}
+use Rattle.laws.proofs.Says.{eq-says, le-says, and-says, or-says, not-says}
 use Rattle.numbers.specs.Numbers.{u16_at}
-use Rattle.rules.specs.declared.Sets.{Sets}
 use Rattle.rules.specs.Descriptor.{type_of, structure_of, has_records, class_of, is_df, is_ef, df, ef, neither}
-use Rattle.rules.specs.Life.{life_of}
-use Rattle.image.specs.Layout.{has_bodies, version_of, count_of, current_df_of, current_ef_of, none, rec_at, descriptor_of, record_length_of, size_of}
-use Rattle.image.specs.Layout.{start_of}
+use Rattle.image.specs.Layout.{has_bodies, version_of, current_ef_of, none, rec_at, descriptor_of, record_length_of, size_of}
 use Rattle.pool.specs.Bodies.{start_at}
 use Rattle.sound.specs.Sound.{Sound}
 use Rattle.verdict.specs.declared.State.{State}
-use Rattle.verdict.specs.Applied.{sent_data, word_of, applied_of, pooled_of}
-use Rattle.judge_target.specs.Steps.{Step, Plan}
-use Rattle.apdu.specs.Apdu.{class_byte, instruction, lc, is_terminate, is_old, is_known, wants_alone, is_body, is_binary, is_record, is_read, is_update}
-use Rattle.apdu.specs.Apdu.{fit_parameters, good_parameters, parameters, has_data, is_five, fit_length, record_number, asked}
+use Rattle.apdu.specs.Apdu.{instruction, lc, is_terminate, is_old, is_known, wants_alone, is_body, is_binary, is_record, is_read, is_update}
+use Rattle.apdu.specs.Apdu.{fit_parameters, good_parameters, has_data, is_five, fit_length, asked}
 use Rattle.pool.specs.Records.{has_record}
 use Rattle.judge_bodies.specs.Bodies.{binary, recordwise}
 use Rattle.judge.specs.Judge.{body_plan, plan_for}
-use Rattle.effect.specs.Told.{told}
-use Rattle.card.specs.Conditions.{start_in, second_in, le, reading, record_at, read_binary_asks, update_binary_asks, read_record_asks, update_record_asks}
+use Rattle.card.specs.Conditions.{start_in, second_in, le, read_binary_asks, update_binary_asks, read_record_asks, update_record_asks}
 use Rattle.card.specs.Obeyed.{ReadBinaryObeys, UpdateBinaryObeys, ReadRecordObeys, UpdateRecordObeys}
 use Rattle.card.proofs.Matching.{reads_none, reads-ask, reads_then, reads_skip}
 use Rattle.card.proofs.Asked.{is_not-says, none-says, calm}

@@ -1,15 +1,15 @@
 -- READ and UPDATE: what their steps say where all hold, so that the bytes that they are about are bytes of the current EF's body.
 use mathlib.Core.Path.{◌≡◌, refl, sym, ap, ◌∙◌}
-use mathlib.Core.Bool.{Bool, true, false, cond, not, ◌&&◌, ◌||◌, false≢true}
+use mathlib.Core.Bool.{true, false, not, ◌&&◌, ◌||◌, false≢true}
 use mathlib.Core.List.{List}
-use mathlib.Core.Logic.{◌⊎◌, inl, inr, ⊎_elim}
+use mathlib.Core.Logic.{⊎_elim}
 use Prim.Native.Nat.{ℕ, zero, suc, ◌+◌, ◌*◌, ◌-◌, ◌<◌, ◌≤◌}
 use native.Mathlib.Nat.{suc-mul}
 use native.Mathlib.Omega.{arith}
-use lib.Dec.{eqb, ltb, leb}
+use lib.Dec.{eqb, leb}
 use lib.ListN.{length, length-drop}
 use borrow.Author.Tests.{eq-eqb, eqb-true, leb-true, ltb-true}
-use Rattle.laws.proofs.Says.{and-says, or-says, not-says, eq-says}
+use Rattle.laws.proofs.Says.{and-says, or-says, not-says}
 use Rattle.rules.specs.declared.Sets.{Sets}
 use Rattle.rules.specs.Descriptor.{ef}
 use Rattle.image.specs.Layout.{has_bodies, version_of, current_ef_of, none, rec_at, kind_of, size_of, record_length_of, start_of}
@@ -18,14 +18,14 @@ use Rattle.sound.specs.Sound.{Sound}
 use Rattle.verdict.specs.declared.Verdict.TheVariants.{Refuse}
 use Rattle.verdict.specs.Applied.{sent_data}
 use Rattle.judge_target.specs.Steps.{Plan, followed}
-use Rattle.apdu.specs.Apdu.{instruction, lc, is_old, is_terminate, is_known, is_body, is_binary, is_record, is_read, is_update, has_data, is_five}
+use Rattle.apdu.specs.Apdu.{instruction, lc, is_old, is_terminate, is_known, is_body, is_binary, is_record, is_read, is_update, has_data}
 use Rattle.apdu.specs.Apdu.{fit_length, parameters, record_number, asked}
 use Rattle.pool.specs.Records.{has_record}
 use Rattle.judge_bodies.specs.Bodies.{touching, binary, recordwise}
 use Rattle.judge.specs.Judge.{body_plan}
 use Rattle.card.specs.Touching.{place_of}
 use Rattle.card.proofs.Steps.{cond_by, followed_by, any_word}
-use Rattle.card.proofs.Tells.{binary-place, record_place, Touches, Tells}
+use Rattle.card.proofs.Tells.{binary-place, record_place, Tells}
 
 -- one of four
 one_of_four : (P : ℕ → Type 0) → P 0xB0 → P 0xD6 → P 0xB2 → P 0xDC → (i : ℕ) → is_body i ≡ true → P i

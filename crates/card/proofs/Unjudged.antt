@@ -1,11 +1,11 @@
 -- Where the pool says nothing: it stays on cards without bodies, and what it holds is not judged (specs/Bodies).
 use mathlib.Core.Path.{◌≡◌, refl, sym, ap, ◌∙◌}
-use mathlib.Core.Bool.{Bool, true, false, cond, true≢false}
+use mathlib.Core.Bool.{Bool, true, false, true≢false}
 use mathlib.Core.List.{List}
 use Prim.Native.Nat.{ℕ, zero, suc}
-use lib.Dec.{eqb, leb}
+use lib.Dec.{leb}
 use lib.ListN.{length, replicate, length-take, length-drop}
-use borrow.Author.Tests.{eq-eqb, ne_eqb}
+use borrow.Author.Tests.{ne_eqb}
 use Rattle.laws.specs.Lists.{part, splice}
 use Rattle.laws.proofs.Splices.{splice-nil}
 use Rattle.image.specs.declared.Head.{Head}
@@ -14,13 +14,13 @@ use Rattle.pool.specs.Bodies.{body_of, start_at, body_at}
 use Rattle.pool.specs.Wiped.{wipe_if, wipe_below}
 use Rattle.sound.specs.Table.{view_at}
 use Rattle.sound.specs.Kinship.{at_or_beneath}
-use Rattle.sound.specs.Sound.{Sound, soundb, pool_length}
+use Rattle.sound.specs.Sound.{Sound, soundb}
 use Rattle.sound.specs.Effects.{new_body, filled, wiped}
 use Rattle.sound.proofs.Says.{sound-says}
 use Rattle.verdict.specs.declared.State.{State}
 use Rattle.verdict.specs.declared.Verdict.{Verdict}
 use Rattle.verdict.specs.declared.Verdict.TheVariants.{Refuse, Select, Create, Delete, SetLife, Read, Update}
-use Rattle.verdict.specs.Applied.{pooled_of, applied_of, word_of}
+use Rattle.verdict.specs.Applied.{pooled_of}
 use Rattle.judge_target.specs.Target.{rule_at}
 use Rattle.judge.specs.Judge.{judge_of}
 use Rattle.judge.proofs.Alike.{judge_alike}

@@ -5,7 +5,7 @@ use Rattle.std.specs.Prelude.{◌≡◌, Bool, true, false, cond, List, [], ◌�
 use Rattle.laws.specs.Lists.{part, splice}
 use Rattle.laws.specs.Walks.{any_below}
 use Rattle.rules.specs.Descriptor.{ef}
-use Rattle.image.specs.Layout.{has_bodies, version_of, count_of, current_ef_of, none, rec_at, kind_of, form_of, size_of}
+use Rattle.image.specs.Layout.{has_bodies, version_of, count_of, current_ef_of, rec_at, kind_of, form_of, size_of}
 use Rattle.access.specs.Access.{referred}
 use Rattle.pool.specs.Bodies.{start_at, body_at, body_bytes}
 use Rattle.pool.specs.Packed.{holds}

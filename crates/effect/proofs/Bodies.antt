@@ -18,7 +18,7 @@ use Rattle.image.proofs.Headers.{SameHeader, same_front, same_version}
 use Rattle.pool.specs.declared.Room.{Room}
 use Rattle.pool.specs.Bodies.{start_at, body_at}
 use Rattle.pool.specs.Laid.{Laid}
-use Rattle.pool.specs.Places.{gap_for, place_at, place_image, Placed}
+use Rattle.pool.specs.Places.{gap_for, place_image, Placed}
 use Rattle.pool.proofs.Making.{place-room}
 use Rattle.pool.proofs.After.{after-head}
 use Rattle.sound.specs.Effects.{created, new_body, new_gap, made, filled}

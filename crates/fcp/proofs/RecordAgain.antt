@@ -9,7 +9,7 @@ use native.Mathlib.Numerals.{add-one}
 use native.Mathlib.Omega.{arith}
 use lib.ListN.{length, get_or, take, drop, replicate, length-replicate, get_or-replicate, length-drop, take-append-drop}
 use lib.Seq.{drop-cons, drop-drop, get_or-drop, ext_get_or}
-use Rattle.laws.specs.Lists.{Bytes, part, splice}
+use Rattle.laws.specs.Lists.{part, splice}
 use Rattle.laws.proofs.Branches.{same-cons}
 use Rattle.laws.proofs.Splices.{length_part, get_or-part, get_or-splice_in}
 use Rattle.numbers.specs.Numbers.{u16_at, u32_at, be16}

@@ -24,7 +24,7 @@ use Rattle.verdict.specs.Words.{done, not_enough_memory}
 use Rattle.card.specs.Demands.{Call, image_after}
 use Rattle.card.proofs.Answered.{stays_sound}
 use Rattle.card.proofs.Demands.{effect-and-no-other}
-use Rattle.history.specs.Ledger.{makes, sum_over, opened}
+use Rattle.history.specs.Ledger.{sum_over, opened}
 use Rattle.history.specs.Story.{Story, begun, hears, next, played, Ready, word_for, size_sent}
 use Rattle.history.specs.Demand3.{here, room, Lives, Strikes, Makes, Demand3, History, Demand3Holds}
 use Rattle.history.proofs.Agree.{Agrees, worth, sum_files, worth_free, worth_root}

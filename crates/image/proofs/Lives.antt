@@ -3,12 +3,12 @@
 use mathlib.Core.Path.{◌≡◌, sym, ap, ◌∙◌}
 use mathlib.Core.List.{List, [], ◌∷◌}
 use mathlib.Core.Logic.{◌⊎◌, inl, inr, ⊎_elim}
-use Prim.Native.Nat.{ℕ, ◌+◌, ◌*◌, ◌<◌, ◌≤◌}
+use Prim.Native.Nat.{ℕ, ◌+◌, ◌<◌, ◌≤◌}
 use native.Mathlib.Omega.{arith}
 use lib.ListN.{length, get_or}
 use lib.Seq.{ext_get_or}
-use Rattle.laws.specs.Lists.{part, splice}
-use Rattle.laws.proofs.Splices.{length_part, get_or-part, length-splice, get_or-splice_in, get_or-splice_below, get_or-splice_above}
+use Rattle.laws.specs.Lists.{part}
+use Rattle.laws.proofs.Splices.{get_or-part, length-splice, get_or-splice_in, get_or-splice_below, get_or-splice_above}
 use Rattle.laws.proofs.Splices.{part-splice-other}
 use Rattle.laws.proofs.Says.{same_or, apart}
 use Rattle.numbers.specs.Numbers.{u16_at, u32_at}

@@ -2,17 +2,17 @@
 use mathlib.Core.Path.{◌≡◌, sym, ap, ◌∙◌}
 use mathlib.Core.List.{List}
 use mathlib.Core.Logic.{◌⊎◌, inl, inr, ⊎_elim}
-use Prim.Native.Nat.{ℕ, ◌+◌, ◌*◌, ◌-◌, ◌/◌, ◌%◌, ◌<◌, ◌≤◌}
+use Prim.Native.Nat.{ℕ, ◌+◌, ◌-◌, ◌<◌, ◌≤◌}
 use native.Mathlib.Omega.{arith}
 use lib.ListN.{length, get_or}
 use lib.Seq.{ext_get_or}
-use Rattle.laws.specs.Lists.{part, splice}
-use Rattle.laws.proofs.Splices.{length_part, get_or-part, length-splice, get_or-splice_in, get_or-splice_below}
+use Rattle.laws.specs.Lists.{part}
+use Rattle.laws.proofs.Splices.{get_or-part, length-splice, get_or-splice_in, get_or-splice_below}
 use Rattle.laws.proofs.Splices.{part-splice-other}
 use Rattle.laws.proofs.Says.{apart, lt-or}
 use Rattle.numbers.specs.Numbers.{u16_at, u32_at, be16}
 use Rattle.numbers.proofs.Reading.{u16_at-same}
-use Rattle.image.specs.Layout.{base, Within, Sized, rec_at, with_start, set_start, start_of, kind_of, descriptor_of, life_cycle_of}
+use Rattle.image.specs.Layout.{base, Within, rec_at, with_start, set_start, start_of, kind_of, descriptor_of, life_cycle_of}
 use Rattle.image.specs.Layout.{identifier_of, parent_of, form_of, level_of, record_length_of, size_of, name_of, rule_of, field_at}
 use Rattle.image.proofs.Places.{length_record}
 

@@ -10,7 +10,7 @@ use Rattle.sound.specs.Kinship.{free_slot, terminated_up, identifier_free, name_
 use Rattle.create_data.specs.declared.Data.{Data}
 use Rattle.create_data.specs.Data.{data_of}
 use Rattle.verdict.specs.Words.{security_not_satisfied, conditions_not_satisfied, wrong_data, not_enough_memory, identifier_exists, name_exists}
-use Rattle.judge_target.specs.Steps.{Step, step, judged, Plan, plan}
+use Rattle.judge_target.specs.Steps.{Step, step, Plan, plan}
 use Rattle.judge_target.specs.Target.{life_at, allowed_at, slot_in, describes, right_for, new_identifier, new_size, new_name, creating}
 
 -- directory d takes files: it isn't 04 or 0C, and none above is 0C

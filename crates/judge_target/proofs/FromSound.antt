@@ -1,29 +1,28 @@
 -- What judging needs, from soundness; and that what a search finds is a file.
-use mathlib.Core.Path.{◌≡◌, refl, sym, ap, subst, ◌∙◌}
+use mathlib.Core.Path.{◌≡◌, refl, sym, subst, ◌∙◌}
 use mathlib.Core.Bool.{Bool, true, false, cond}
-use mathlib.Core.List.{List, []}
-use mathlib.Core.Logic.{◌⊎◌, inl, inr, ⊎_elim}
-use Prim.Native.Nat.{ℕ, ◌+◌, ◌<◌, ◌≤◌}
+use mathlib.Core.List.{List}
+use mathlib.Core.Logic.{⊎_elim}
+use Prim.Native.Nat.{ℕ, ◌<◌, ◌≤◌}
 use native.Mathlib.Omega.{arith}
 use lib.Dec.{eqb}
 use lib.ListN.{get_or}
-use borrow.Author.Tests.{eq-eqb, ne_eqb}
 use Rattle.laws.specs.declared.Found.{Found}
 use Rattle.laws.specs.declared.Found.TheVariants.{At, Nothing}
 use Rattle.laws.specs.Walks.{or_else}
 use Rattle.laws.proofs.Says.{and-says, same_or}
 use Rattle.laws.proofs.Firsts.{first_is}
 use Rattle.rules.specs.Descriptor.{df, ef}
-use Rattle.image.specs.Layout.{version_of, rec_at, kind_of, count_of, current_df_of, current_ef_of, none}
+use Rattle.image.specs.Layout.{version_of, rec_at, kind_of, count_of, current_df_of, current_ef_of}
 use Rattle.image.proofs.Versions.{longest_within}
-use Rattle.sound.specs.Table.{View, view_at, File}
+use Rattle.sound.specs.Table.{View, view_at}
 use Rattle.sound.specs.Own.{Own}
 use Rattle.sound.specs.Sound.{Sound}
-use Rattle.sound.specs.Kinship.{is_child, is_child_named, child_named}
+use Rattle.sound.specs.Kinship.{is_child_named, child_named}
 use Rattle.sound.proofs.FullTable.{level-low}
 use Rattle.sound.proofs.Says.{child-says}
-use Rattle.kinship.specs.Climb.{Rooted, Stands, Paid}
-use Rattle.kinship.specs.Search.{NamesFit, is_df_named, df_named}
+use Rattle.kinship.specs.Climb.{Stands}
+use Rattle.kinship.specs.Search.{is_df_named, df_named}
 use Rattle.kinship.proofs.Sound.{sized, rooted, paid}
 use Rattle.judge_target.specs.Judgeable.{Judgeable}
 use Rattle.judge_target.specs.Target.{itself, selected}

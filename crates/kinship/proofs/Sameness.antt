@@ -3,7 +3,7 @@
 use mathlib.Core.Path.{◌≡◌, refl, sym, ◌∙◌, ap}
 use mathlib.Core.Bool.{Bool, true, false, not}
 use mathlib.Core.List.{List, [], ◌∷◌}
-use Prim.Native.Nat.{ℕ, suc, ◌+◌, ◌<◌, ◌≤◌, ◌-◌}
+use Prim.Native.Nat.{ℕ, ◌+◌, ◌<◌, ◌≤◌, ◌-◌}
 use native.Mathlib.Omega.{arith}
 use lib.Dec.{eqb}
 use lib.ListN.{length, get_or}
@@ -13,11 +13,11 @@ use Rattle.laws.specs.Lists.{same_list}
 use Rattle.laws.proofs.Walks.{all-zero, all_more, all_fails, all_end}
 use Rattle.laws.proofs.Chains.{eq-and, ne-and, and-on, and_off, implies-no, implies-yes}
 use Rattle.laws.proofs.Says.{same-says, not-says}
-use Rattle.sound.specs.Table.{View, up}
+use Rattle.sound.specs.Table.{View}
 use Rattle.laws.specs.declared.Found.{Found}
 use Rattle.laws.specs.declared.Found.TheVariants.{At, Nothing}
 use Rattle.laws.proofs.Firsts.{first_is, no-first}
-use Rattle.laws.proofs.Walks.{each_all, all-not}
+use Rattle.laws.proofs.Walks.{each_all}
 use Rattle.sound.specs.Kinship.{is_child_named, child_named, named_up, identifier_free, name_free}
 
 module _ (a b : List ℕ) where

@@ -1,11 +1,11 @@
 -- Numbers that are read: their bounds, the same bytes give the same number, a number in a part is the
 -- number in the whole, and what was put is read back.
-use mathlib.Core.Path.{◌≡◌, refl, sym, ap, ◌∙◌}
+use mathlib.Core.Path.{◌≡◌, sym, ap, ◌∙◌}
 use mathlib.Core.List.{List, ◌++◌}
-use Prim.Native.Nat.{ℕ, ◌+◌, ◌*◌, ◌/◌, ◌%◌, ◌<◌, ◌≤◌}
+use Prim.Native.Nat.{ℕ, ◌+◌, ◌<◌, ◌≤◌}
 use native.Mathlib.Nat.{add_assoc}
 use native.Mathlib.Omega.{arith}
-use lib.ListN.{length, get_or}
+use lib.ListN.{get_or}
 use Rattle.laws.specs.Lists.{Bytes, part}
 use Rattle.laws.proofs.Splices.{get_or-part}
 use Rattle.numbers.specs.Numbers.{u16_at, u32_at, be16, be32}

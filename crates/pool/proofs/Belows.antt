@@ -1,13 +1,11 @@
 -- The sum of the weights of the bodies that start below p: how it grows with p, and bounds of it.
 use mathlib.Core.Path.{◌≡◌, sym, ap, ◌∙◌}
-use mathlib.Core.Bool.{Bool, true, false}
 use mathlib.Core.Logic.{◌⊎◌, inl, inr, ⊎_elim}
 use Prim.Native.Nat.{ℕ, zero, suc, ◌+◌, ◌<◌, ◌≤◌}
 use native.Mathlib.Nat.{not-suc-le-zero}
 use native.Mathlib.Omega.{arith}
-use lib.Dec.{ltb}
 use borrow.Author.Tests.{lt-ltb, le-ltb}
-use Rattle.laws.specs.Walks.{sum_below, if_so}
+use Rattle.laws.specs.Walks.{sum_below}
 use Rattle.laws.proofs.Walks.{split_lt}
 use Rattle.laws.proofs.Says.{lt-or}
 use Rattle.laws.proofs.Sums.{sum_cong, sum_change, sum-none, sum-le}

@@ -8,7 +8,6 @@ use lib.ListN.{replicate}
 use native.Mathlib.Omega.{arith}
 use Rattle.image.specs.Layout.{has_bodies, version_of}
 use Rattle.image.proofs.Versions.{longest_within}
-use Rattle.sound.specs.Sound.{soundb}
 use Rattle.sound.proofs.Says.{sound-says}
 use Rattle.card.specs.Command.{answer_number, longest_answer}
 use Rattle.card.proofs.Answered.{only-these_words, wrong-pool-refused, stays_sound}

@@ -9,7 +9,7 @@ use Rattle.access.specs.Lines.{nobody, user1}
 use Rattle.create_data.specs.Grammar.{object}
 use Rattle.card.specs.Command.{answer_word, answer_security, reply_of}
 use Rattle.card.specs.Rules.{Ruled}
-use Rattle.rows.specs.Calls.{with, card, select_file, deactivate_file}
+use Rattle.rows.specs.Calls.{with, select_file, deactivate_file}
 use Rattle.rows.specs.Forms.{create_ruled}
 use Rattle.rows.specs.Bodies.{Card, fresh_card, after, said, update_record}
 

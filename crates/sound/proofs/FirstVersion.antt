@@ -1,13 +1,12 @@
 -- A used record of version 1 is what 01 says of it: `first-version`.
-use mathlib.Core.Path.{◌≡◌, refl, sym, ap, ◌∙◌}
-use mathlib.Core.List.{List}
-use Prim.Native.Nat.{ℕ, ◌+◌, ◌<◌, ◌≤◌}
+use mathlib.Core.Path.{◌≡◌, sym, ap, ◌∙◌}
+use Prim.Native.Nat.{ℕ}
 use native.Mathlib.Omega.{arith}
 use mathlib.Core.Bool.{false≢true}
 use Rattle.image.specs.Layout.{longest_rule, forms_of, has_bodies, form_of, rule_of}
 use Rattle.access.specs.Access.{well_formed}
 use Rattle.access.proofs.Fits.{Fits, fits-says}
-use Rattle.sound.specs.Own.{Used, has_start}
+use Rattle.sound.specs.Own.{has_start}
 use Rattle.sound.specs.Theorems.{FirstVersion}
 
 pub first-version : FirstVersion

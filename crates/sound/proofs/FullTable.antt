@@ -1,8 +1,7 @@
 -- A full table never refuses: with room for one more file, one more record is free. And how deep a file can lie.
 use mathlib.Core.Path.{◌≡◌, refl, sym, ◌∙◌}
 use mathlib.Core.Bool.{Bool, true, false, not, ◌&&◌}
-use mathlib.Core.List.{List}
-use mathlib.Core.Logic.{◌⊎◌, inl, inr, ⊎_elim}
+use mathlib.Core.Logic.{⊎_elim}
 use Prim.Native.Nat.{ℕ, zero, suc, ◌+◌, ◌*◌, ◌<◌, ◌≤◌}
 use native.Mathlib.Nat.{zero-add}
 use native.Mathlib.Omega.{arith}
@@ -17,7 +16,6 @@ use Rattle.sound.specs.Table.{View, up, File, charge_of, charged}
 use Rattle.sound.specs.Kin.{Kin}
 use Rattle.image.specs.Layout.{count_of}
 use Rattle.sound.specs.Table.{view_at}
-use Rattle.sound.specs.Sound.{Sound}
 use Rattle.sound.specs.Kinship.{free_slot, total_for, room_for}
 use Rattle.sound.proofs.Climbing.{Reached, reached, not_root}
 use Rattle.sound.proofs.Charges.{charge_child, charged-none}

@@ -3,7 +3,7 @@ use mathlib.Core.Path.{◌≡◌, refl, sym, ap, ◌∙◌}
 use mathlib.Core.List.{List}
 use mathlib.Core.Bool.{true}
 use mathlib.Core.Logic.{◌⊎◌, inl, inr}
-use Prim.Native.Nat.{ℕ, ◌+◌, ◌-◌, ◌<◌, ◌≤◌}
+use Prim.Native.Nat.{ℕ, ◌+◌, ◌<◌, ◌≤◌}
 use native.Mathlib.Omega.{arith}
 use lib.ListN.{length, get_or}
 use Rattle.laws.proofs.Says.{same_or}
@@ -11,7 +11,7 @@ use Rattle.rules.specs.Life.{known_life}
 use Rattle.image.specs.Layout.{longest_rule, version_of, with_life, Within, rec_at, kind_of, count_of, set_life}
 use Rattle.image.proofs.Versions.{longest_within}
 use Rattle.image.proofs.Places.{length_record}
-use Rattle.image.proofs.Headers.{SameHeader, header-life, same_front, same_version, same_count, same-df, same-ef}
+use Rattle.image.proofs.Headers.{header-life, same_front, same_version, same_count, same-df, same-ef}
 use Rattle.pool.specs.Bodies.{body_of, start_at, body_at}
 use Rattle.image.proofs.Lives.{byte_kept, life-set, kind-kept, descriptor-kept, form-kept, identifier-kept, parent-kept, level-kept}
 use Rattle.image.proofs.Lives.{record_length-kept, size-kept, start-kept, name-kept, rule-kept, life-same, life-other}

@@ -1,10 +1,9 @@
 -- Test and record say the same, of each part and of the whole: `sound-says`.
 use mathlib.Core.Path.{◌≡◌}
-use mathlib.Core.Bool.{Bool, true, false, not}
-use mathlib.Core.List.{List, []}
+use mathlib.Core.Bool.{true}
+use mathlib.Core.List.{List}
 use mathlib.Core.Logic.{◌↔◌}
-use Prim.Native.Nat.{ℕ, suc, ◌<◌, ◌≤◌, ◌+◌, ◌-◌}
-use borrow.Author.Tests.{not-false}
+use Prim.Native.Nat.{ℕ, ◌≤◌, ◌-◌}
 use Rattle.laws.proofs.Settling.{settled}
 use Rattle.laws.proofs.Says.{says, not-says}
 use Rattle.sound.specs.Table.{View, File, up}
@@ -12,7 +11,7 @@ use Rattle.pool.proofs.Clears.{laid-says}
 use Rattle.sound.specs.Own.{zerosb, Padded, paddedb, Used, usedb, classedb, measuredb, nameb, ruledb, Own, ownb}
 use Rattle.sound.specs.Kin.{Kin, kinb, rootb, placedb, placed_at, siblingsb, siblings_at, apart_at, aboveb, above_at, namesb, names_at}
 use Rattle.sound.specs.Kin.{same_name, chargesb, charges_at}
-use Rattle.sound.specs.Sound.{Header, headerb, Current, currentb, recordsb, bodiesb, Sound, soundb}
+use Rattle.sound.specs.Sound.{Header, headerb, Current, currentb, recordsb, bodiesb, soundb}
 use Rattle.sound.specs.Kinship.{at_or_beneath, is_child, is_child_named}
 use Rattle.sound.proofs.Climbing.{above-says}
 use Rattle.sound.specs.Theorems.{SoundSays, SoundOnce}

@@ -2,26 +2,24 @@
 use mathlib.Core.Path.{◌≡◌, refl, sym, ap, ◌∙◌, fun_ext}
 use mathlib.Core.List.{List, []}
 use mathlib.Core.Bool.{Bool, true, false, cond, ◌&&◌}
-use mathlib.Core.Logic.{◌⊎◌, inl, inr, ⊎_elim}
-use Prim.Native.Nat.{ℕ, ◌+◌, ◌-◌, ◌<◌, ◌≤◌}
+use mathlib.Core.Logic.{⊎_elim}
+use Prim.Native.Nat.{ℕ, ◌+◌, ◌<◌, ◌≤◌}
 use native.Mathlib.Omega.{arith}
 use lib.Dec.{eqb}
-use lib.ListN.{length, get_or, take, drop, drop_of_length-le}
+use lib.ListN.{length, get_or, take, drop_of_length-le}
 use borrow.Author.Tests.{eqb-true}
 use Rattle.laws.specs.Lists.{part}
-use Rattle.laws.proofs.Says.{same_or, lt-or, and-says}
+use Rattle.laws.proofs.Says.{lt-or, and-says}
 use Rattle.rules.specs.Descriptor.{ef}
-use Rattle.image.specs.Layout.{has_bodies, longest_rule, version_of, count_of, base, rec_at, kind_of, size_of, with_start, set_start, Within}
-use Rattle.image.proofs.Versions.{bodies-rule, bodies-third}
+use Rattle.image.specs.Layout.{has_bodies, longest_rule, version_of, count_of, base, rec_at, kind_of, size_of, with_start}
+use Rattle.image.proofs.Versions.{bodies-rule}
 use Rattle.image.proofs.Places.{length_record}
-use Rattle.image.proofs.Headers.{SameHeader, header-start, same_front, same_version, same_count, same-df, same-ef}
+use Rattle.image.proofs.Headers.{SameHeader, same_front, same-df, same-ef}
 use Rattle.image.proofs.Starts.{byte_kept, kind-kept, descriptor-kept, life-kept, form-kept, identifier-kept, parent-kept, level-kept}
-use Rattle.image.proofs.Starts.{record_length-kept, size-kept, name-kept, rule-kept, start-same, start-other}
-use Rattle.pool.specs.Bodies.{body_of, start_at, body_at}
-use Rattle.pool.specs.Laid.{Laid}
-use Rattle.sound.specs.Table.{View, view_at, view_of}
+use Rattle.image.proofs.Starts.{record_length-kept, size-kept, name-kept, rule-kept}
+use Rattle.pool.specs.Bodies.{body_of}
+use Rattle.sound.specs.Table.{view_at, view_of}
 use Rattle.sound.specs.Own.{Padded, has_start, Used, Own}
-use Rattle.sound.specs.Sound.{Sound, pool_length}
 use Rattle.sound.proofs.Kept.{kin-same}
 use Rattle.sound.proofs.Front.{Files, files_front, header-within, current-same}
 

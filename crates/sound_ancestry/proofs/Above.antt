@@ -1,6 +1,6 @@
 -- The walk up from a file: parents and levels that passed their tests make it safe, and what it asks of the
 -- parent and all above it is what a file's identifier must satisfy.
-use mathlib.Core.Path.{◌≡◌, sym, ◌∙◌, ap}
+use mathlib.Core.Path.{◌≡◌, ◌∙◌, ap}
 use mathlib.Core.Bool.{Bool, true, false, not}
 use mathlib.Core.List.{List}
 use Prim.Native.Nat.{ℕ, suc, ◌<◌}

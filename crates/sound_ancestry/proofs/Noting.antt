@@ -6,13 +6,11 @@ use mathlib.Core.List.{List}
 use mathlib.Core.Logic.{⊎_elim}
 use Prim.Native.Nat.{ℕ, suc, ◌+◌, ◌<◌, ◌≤◌}
 use native.Mathlib.Omega.{arith}
-use lib.Dec.{eqb}
 use lib.ListN.{length, replicate, length-replicate}
 use borrow.Author.Count.{below_none, below_more}
-use borrow.Author.Tests.{eq-eqb, ne_eqb, eqb-true, not-true}
+use borrow.Author.Tests.{eq-eqb, ne_eqb, not-true}
 use Rattle.laws.proofs.Chains.{implies-yes}
-use Rattle.laws.proofs.Says.{not-says, apart, says}
-use Rattle.laws.proofs.Walks.{each_all}
+use Rattle.laws.proofs.Says.{apart, says}
 use Rattle.keys.specs.Marks.{marked, marking}
 use Rattle.keys.proofs.Bits.{length-marking, marked_new, marked-kept}
 use Rattle.keys.proofs.Walking.{keyed_none, keyed_free, keyed_again, keyed_put}

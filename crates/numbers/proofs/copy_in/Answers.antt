@@ -1,5 +1,4 @@
 use borrow.Author.Rules.{rules}
-use Prim.Native.Nat.{◌-◌}
 use mathlib.Core.Path.{sym}
 use lib.ListN.{length-set}
 use Rattle.laws.proofs.Splices.{splice-nil, copy_turn, copy_end}

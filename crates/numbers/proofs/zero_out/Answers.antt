@@ -1,6 +1,5 @@
 use borrow.Author.Rules.{rules}
 use native.Mathlib.Omega.{arith}
-use Prim.Native.Nat.{◌-◌}
 use mathlib.Core.Path.{◌≡◌, sym}
 use lib.ListN.{length-set}
 use Rattle.laws.proofs.Splices.{splice-nil, fill_turn}

@@ -1,7 +1,6 @@
 use native.Mathlib.Omega.{arith}
 use borrow.Author.Rules.{rules}
 use mathlib.Core.Path.{sym, ◌∙◌}
-use Prim.Native.Nat.{◌-◌}
 use Rattle.replay_text.proofs.Lines.{two-left, whole}
 use Rattle.replay_text.proofs.Turns.{start, out_sized, room_cut, cut-sized, room-line, ended, cut_off, goes_on_lem}
 use Rattle.replay_text.proofs.run.Goals as goal

@@ -1,4 +1,3 @@
-use Prim.Native.Nat.{◌-◌}
 use Rattle.laws.proofs.Walks.{all-zero, all_turn}
 use Rattle.keys.proofs.Walking.{keyed_none}
 use Rattle.sound_ancestry.proofs.Noting.{seen_none, noted-end}

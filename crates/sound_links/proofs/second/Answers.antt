@@ -1,4 +1,3 @@
-use Prim.Native.Nat.{◌-◌}
 use Rattle.laws.proofs.Walks.{all-zero, all_turn, all_stop, all_end}
 use Rattle.sound_charges.proofs.Sums.{sum_is}
 use borrow.Author.Rules.{rules}

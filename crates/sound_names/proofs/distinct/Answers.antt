@@ -1,4 +1,3 @@
-use Prim.Native.Nat.{◌-◌}
 use Rattle.keys.proofs.Walking.{keyed_none}
 use Rattle.sound_names.proofs.Pairs.{apart-start, pair_start, pair_turn, apart_turn, apart_stop, apart-end}
 use borrow.Author.Rules.{rules}

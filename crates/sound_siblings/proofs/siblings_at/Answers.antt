@@ -1,4 +1,3 @@
-use Prim.Native.Nat.{◌-◌}
 use Rattle.laws.proofs.Walks.{all-zero}
 use Rattle.sound_siblings.proofs.Siblings.{siblings-free, siblings_turn, siblings_stop, siblings-end}
 use borrow.Author.Rules.{rules}

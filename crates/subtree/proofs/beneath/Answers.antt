@@ -1,4 +1,3 @@
-use Prim.Native.Nat.{◌-◌}
 use mathlib.Core.Path.{sym}
 use Rattle.laws.proofs.Sums.{count-start}
 use Rattle.sound.specs.Kinship.{files_beneath}

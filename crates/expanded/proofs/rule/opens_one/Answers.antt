@@ -1,4 +1,3 @@
-use Prim.Native.Nat.{◌-◌}
 use Rattle.expanded.proofs.Rows.{closeds, closed-next}
 use Rattle.expanded.proofs.rule.opens_one.Goals as goal
 

@@ -1,6 +1,5 @@
 use mathlib.Core.Path.{ap}
 use mathlib.Core.Bool.{not}
-use Prim.Native.Nat.{◌-◌}
 use Rattle.expanded.proofs.Rows.{goings, going_next}
 use Rattle.expanded.proofs.Standing.{going_plain, going_am}
 use Rattle.expanded.proofs.rule.well_formed.Goals as goal

@@ -1,5 +1,4 @@
 use borrow.Author.Rules.{rules}
-use Prim.Native.Nat.{◌-◌}
 use Rattle.kinship.proofs.Steps.{climb_start, climb_more, named_none, named_turn, named_stop, named_end}
 use Rattle.kinship.proofs.climb.named_up.Goals as goal
 

@@ -1,5 +1,4 @@
 use borrow.Author.Rules.{rules}
-use Prim.Native.Nat.{◌-◌}
 use Rattle.kinship.proofs.Steps.{climb_start, climb_more, terminated-none, terminated_turn, terminated_stop, terminated-end}
 use Rattle.kinship.proofs.climb.terminated_up.Goals as goal
 

@@ -1,4 +1,3 @@
-use Prim.Native.Nat.{◌-◌}
 use Rattle.kinship.proofs.Sameness.{sameness}
 use borrow.Author.Rules.{rules}
 use Rattle.kinship.proofs.names.alike.Goals as goal

@@ -1,5 +1,4 @@
 use borrow.Author.Rules.{rules}
-use Prim.Native.Nat.{◌-◌}
 use Rattle.kinship.proofs.Sameness.{free-start, free_turn, free-empty, free_stop, free-end}
 use Rattle.kinship.proofs.names.name_free.Goals as goal
 

@@ -1,4 +1,3 @@
-use Prim.Native.Nat.{◌-◌}
 use Rattle.kinship.proofs.Costs.{charged-start, charged_more, charged-end}
 use borrow.Author.Rules.{rules}
 use Rattle.kinship.proofs.room.charge.Goals as goal

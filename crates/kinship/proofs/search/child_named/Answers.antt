@@ -1,4 +1,3 @@
-use Prim.Native.Nat.{◌-◌}
 use Rattle.laws.proofs.Firsts.{first_stop, first-end}
 use Rattle.sound.specs.Kinship.{child_named}
 use Rattle.kinship.proofs.Foreign.{child-start, child_turn}

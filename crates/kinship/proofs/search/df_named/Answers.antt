@@ -1,4 +1,3 @@
-use Prim.Native.Nat.{◌-◌}
 use Rattle.laws.proofs.Firsts.{first_stop, first-end}
 use Rattle.kinship.specs.Search.{df_named}
 use Rattle.kinship.proofs.Foreign.{df-start, df_turn}

@@ -1,4 +1,3 @@
-use Prim.Native.Nat.{◌-◌}
 use Rattle.kinship.proofs.Foreign.{passed_none, passed_four}
 use Rattle.kinship.proofs.search.next_kin.Goals as goal
 

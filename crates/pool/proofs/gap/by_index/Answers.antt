@@ -1,4 +1,3 @@
-use Prim.Native.Nat.{◌-◌}
 use borrow.Author.Rules.{rules}
 use Rattle.pool.proofs.Indexes.{chained-linked}
 use Rattle.pool.proofs.Searching.{searched_start, searched_none}

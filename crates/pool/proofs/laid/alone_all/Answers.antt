@@ -1,6 +1,5 @@
 use mathlib.Core.Path.{ap}
 use mathlib.Core.Bool.{not}
-use Prim.Native.Nat.{◌-◌}
 use borrow.Author.Count.{below_none, below_more}
 use Rattle.pool.proofs.Entering.{when_yes, when_no, not-laid, alone-end}
 use borrow.Author.Rules.{rules}

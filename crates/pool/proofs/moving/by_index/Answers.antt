@@ -1,4 +1,3 @@
-use Prim.Native.Nat.{◌-◌}
 use borrow.Author.Rules.{rules}
 use Rattle.pool.proofs.Indexes.{chained-linked}
 use Rattle.pool.proofs.Walking.{going_start, going_none, going_within, going_room, going_less, going_body, going_count}

@@ -1,4 +1,3 @@
-use Prim.Native.Nat.{◌-◌}
 use lib.ListN.{length-set}
 use Rattle.pool.proofs.Downs.{down_stayed, down-begin, down-more, down-end}
 use borrow.Author.Rules.{rules}

@@ -1,4 +1,3 @@
-use Prim.Native.Nat.{◌-◌}
 use mathlib.Core.Path.{sym}
 use Rattle.laws.proofs.Sums.{sum-start}
 use Rattle.pool.proofs.Making.{total_more, total-end}

@@ -1,4 +1,3 @@
-use Prim.Native.Nat.{◌-◌}
 use mathlib.Core.Path.{refl}
 use Rattle.pool.specs.Entered.{yes, no}
 use Rattle.pool.proofs.Entering.{passed_start, passed_more, passed_fails, passed_end}

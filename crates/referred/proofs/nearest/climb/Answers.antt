@@ -1,5 +1,4 @@
 use borrow.Author.Rules.{rules}
-use Prim.Native.Nat.{◌-◌}
 use Rattle.kinship.proofs.Steps.{climb_start, climb_more}
 use Rattle.referred.proofs.Climbing.{found-zero, nearest_turn, nearest_stop, nearest-end}
 use Rattle.referred.proofs.nearest.climb.Goals as goal

@@ -1,5 +1,4 @@
 use borrow.Author.Rules.{rules}
-use Prim.Native.Nat.{◌-◌}
 use Rattle.referred.proofs.Marking.{marks_start, marks_end}
 use Rattle.referred.proofs.nearest.mark_all.Goals as goal
 

@@ -1,5 +1,4 @@
 use borrow.Author.Rules.{rules}
-use Prim.Native.Nat.{◌-◌}
 use Rattle.laws.proofs.Walks.{all-zero}
 use Rattle.referred.proofs.Ends.{pad_turn, pad_stop, pad_end}
 use Rattle.referred.proofs.padding.is_padding.Goals as goal

@@ -1,5 +1,4 @@
 use borrow.Author.Rules.{rules}
-use Prim.Native.Nat.{◌-◌}
 use Rattle.referred.proofs.Ends.{walks}
 use Rattle.referred.proofs.padding.last_place.Goals as goal
 

@@ -1,4 +1,3 @@
-use Prim.Native.Nat.{◌-◌}
 use Rattle.rules.proofs.Groups.{allowing, less_next}
 use Rattle.rules.proofs.rule.allows.Goals as goal
 

@@ -1,4 +1,3 @@
-use Prim.Native.Nat.{◌-◌}
 use Rattle.rules.proofs.Groups.{tabled}
 use Rattle.rules.proofs.rule.groups_by.Goals as goal
 

@@ -1,4 +1,3 @@
-use Prim.Native.Nat.{◌-◌}
 use Rattle.rules.proofs.Groups.{formed, less_next}
 use Rattle.rules.proofs.rule.well_formed.Goals as goal
 

@@ -1,4 +1,3 @@
-use Prim.Native.Nat.{◌-◌}
 use Rattle.laws.proofs.Firsts.{first-zero, first_turn, first_stop, first-end}
 use Rattle.kinship.specs.Search.{df_named}
 use borrow.Author.Rules.{rules}

@@ -1,4 +1,3 @@
-use Prim.Native.Nat.{◌-◌}
 use borrow.Author.Rules.{rules}
 use Rattle.sound_records.proofs.Zeros.{gather_start, gather_more, gather_end}
 use Rattle.sound_records.proofs.blank.record.Goals as goal

@@ -1,4 +1,3 @@
-use Prim.Native.Nat.{◌-◌}
 use Rattle.sound_records.proofs.Zeros.{zeros-start, zeros_more, zeros_stop, zeros-end}
 use borrow.Author.Rules.{rules}
 use Rattle.sound_records.proofs.blank.zeros.Goals as goal

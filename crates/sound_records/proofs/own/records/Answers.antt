@@ -1,7 +1,5 @@
 use mathlib.Core.Path.{ap}
 use mathlib.Core.Bool.{not}
-use Prim.Native.Nat.{◌-◌}
-use mathlib.Core.Bool.{true}
 use Rattle.laws.proofs.Walks.{all-zero, all_turn, all_stop, all_end}
 use Rattle.image.specs.Layout.{rec_at}
 use Rattle.sound.specs.Own.{ownb}

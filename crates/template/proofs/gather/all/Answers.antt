@@ -1,5 +1,4 @@
 use Rattle.template.proofs.Gathering.{taken_first, taken_turn, taken_all}
-use Prim.Native.Nat.{◌-◌}
 use borrow.Author.Rules.{rules}
 use Rattle.template.proofs.gather.all.Goals as goal
 
