@@ -1,0 +1,6 @@
+-- `list`: what `write` writes, in an array.
+use Rattle.text.proofs.Written.{counted}
+use Rattle.objects_text.proofs.list.Goals as goal
+
+pub returns : goal.returns
+returns c = record { wrote = c.write.ensures; counted = counted _ c.write.ensures }
