@@ -1,5 +1,6 @@
 # shellcheck shell=bash disable=SC2034,SC2154
-# Steps that build and test share: what they need, installed as Debian packages where it is missing, and the library.
+# Steps that build and test share: what they need, installed as Debian packages where it is missing, the library and
+# the programs.
 # To be sourced in the repository's root; `me` is the name under which messages are given.
 
 # MESSAGE: says it and ends.
@@ -69,10 +70,24 @@ need_cargo() {
     give_up "no package has cargo $rust_wanted or newer: install Rust by hand, so that its cargo is on PATH"
 }
 
+# CRATE: the archive of a static library, made of its proved code, in target/staticlib.
+make_archive() {
+    (cd "crates/$1" && rt lib) && mkdir -p target/staticlib && cp "crates/$1/out/lib$1.a" target/staticlib/
+}
+
 # The library of the proved code, as an archive and as a shared object; and the searches alone, which bench measures.
 make_library() {
-    rt staticlib abi && rt staticlib searches &&
+    make_archive abi && make_archive searches &&
         "$HULL_GCC" -shared -o target/libhullplaiter.so -Wl,--whole-archive target/staticlib/libabi.a -Wl,--no-whole-archive
+}
+
+# The proved programs, in target/bin. `rt` makes a program where it runs it: here on the input that it is kept with.
+make_proved_programs() {
+    local program
+    mkdir -p target/bin || return
+    for program in objects replay; do
+        (cd "crates/$program" && rt run <stdin >/dev/null) && cp "crates/$program/out/$program" target/bin/ || return
+    done
 }
 
 # The host's programs, in host/target/release. Cargo puts those of another machine elsewhere; there they are links.
