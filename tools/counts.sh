@@ -23,6 +23,15 @@ count() {
     failed=$((failed + wrong))
 }
 
+# LOG: whether rt ci says there that all is well, and of the must-fail edits how many are refused and none that is bad. A
+# bad edit, which cannot be applied or read, shows nothing of a contract; rt ci says how many there are and passes.
+no_bad_edits() {
+    local line
+    line=$(grep '^rt: ok;' "$1" | tail -n 1)
+    [[ $line =~ '; must-fail edits: '[0-9]+' refused'([^;]*) ]] || return
+    [[ ! ${BASH_REMATCH[1]} =~ [1-9][0-9]*' bad' ]]
+}
+
 # NAME COMMAND...: one test, which passes where the command succeeds.
 check() {
     local name=$1
