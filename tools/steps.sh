@@ -70,9 +70,10 @@ need_cargo() {
     give_up "no package has cargo $rust_wanted or newer: install Rust by hand, so that its cargo is on PATH"
 }
 
-# CRATE: the archive of a static library, made of its proved code, in target/staticlib.
+# CRATE: the archive of a static library, made of its proved code, in target/staticlib. The code is for every x86-64
+# processor: without --cpu it would need one with SSE4.2, and an archive cannot look.
 make_archive() {
-    (cd "crates/$1" && rt lib) && mkdir -p target/staticlib && cp "crates/$1/out/lib$1.a" target/staticlib/
+    (cd "crates/$1" && rt lib --cpu=x86-64) && mkdir -p target/staticlib && cp "crates/$1/out/lib$1.a" target/staticlib/
 }
 
 # The library of the proved code, as an archive and as a shared object; and the searches alone, which bench measures.
@@ -81,12 +82,13 @@ make_library() {
         "$HULL_GCC" -shared -o target/libhullplaiter.so -Wl,--whole-archive target/staticlib/libabi.a -Wl,--no-whole-archive
 }
 
-# The proved programs, in target/bin. `rt` makes a program where it runs it: here on the input that it is kept with.
+# The proved programs, for every x86-64 processor too, in target/bin. `rt` makes a program where it runs it: here on the
+# input that is kept with it.
 make_proved_programs() {
     local program
     mkdir -p target/bin || return
     for program in objects replay; do
-        (cd "crates/$program" && rt run <stdin >/dev/null) && cp "crates/$program/out/$program" target/bin/ || return
+        (cd "crates/$program" && rt run --cpu=x86-64 <stdin >/dev/null) && cp "crates/$program/out/$program" target/bin/ || return
     done
 }
 
