@@ -1,5 +1,5 @@
 -- What each C function promises: its number, and what it leaves of a buffer that is lent to be written. Each settles its
--- result (proofs/Settled, `each_Settles`).
+-- result (proofs/Settled, `each_settles`).
 use Rattle.std.specs.Prelude.{◌≡◌, true, false, cond, List, [], ◌∷◌, ◌⊎◌, ◌↔◌, ℕ, length, get_or}
 use Rattle.laws.specs.Settled.{Settles}
 use Rattle.maker.specs.declared.Edition.{Edition}

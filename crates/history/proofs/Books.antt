@@ -44,7 +44,7 @@ use Rattle.card.proofs.Contents.{reads_same, updated_there, new_body_ff}
 use Rattle.card.proofs.Pooled.{pool_stays_fit}
 use Rattle.history.specs.Ledger.{Announced, makes, deletes, neither}
 use Rattle.history.specs.Story.{announced, heard}
-use Rattle.history.specs.Book.{News, begins, writes, quiet, written, news_by, noted, Tale, Turn, call_on, word_on, turned, turnedBy}
+use Rattle.history.specs.Book.{News, begins, writes, quiet, written, news_by, noted, Tale, Turn, call_on, word_on, turned, turned_by}
 use Rattle.history.specs.Book.{opening, Chronicle, BookHolds}
 use Rattle.history.proofs.Did.{Did}
 use Rattle.history.proofs.Announced.{Announces, judge_announces}
@@ -195,7 +195,7 @@ module _ (t : Tale) (r : Right t) (x : Turn) where
             (rw count at l);
       }
 
-right-played : (turns : List Turn) (t : Tale) → Right t → Right (turnedBy t turns)
+right-played : (turns : List Turn) (t : Tale) → Right t → Right (turned_by t turns)
 right-played [] t r = r
 right-played (x ∷ rest) t r = right-played rest (turned t x) (right-next t r x)
 

@@ -29,7 +29,7 @@ kept-elsewhere : (st : Story) → Kept st → (d : ℕ) → Lives st d → (call
 kept-elsewhere st k d lives [] a = (lives, refl)
 kept-elsewhere st k d lives (x ∷ rest) a =
     let m = kept_demand st k in
-    let r = kept-elsewhere (next st x) (kept_next st k x) d (m.goes_on_lem x d lives a.1.0) rest a.1.1 in
+    let r = kept-elsewhere (next st x) (kept_next st k x) d (m.goes_on x d lives a.1.0) rest a.1.1 in
     (r.0, r.1 ∙ m.elsewhere x d lives a.1.0 a.0)
 
 pub nothing-elsewhere : NothingElsewhere

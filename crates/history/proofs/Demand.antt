@@ -149,8 +149,8 @@ module _ (st : Story) (k : Kept st) where
         spared st.ledger (slots st) (table st) _ k.agrees k.sound.kin (omega (arith, k.sound.header.least)) d (dir d lives)
         (hears st x) (here st) (current_df_of (image_after st.image x)) (did st k x) (untrue _ z)
 
-    goes_on_lem : (Strikes st x d → ⊥) → Lives (next st x) d
-    goes_on_lem z = dir-lives (next st x).ledger (slots st) _ (agrees_after st k x) d (stays z).dir
+    goes_on : (Strikes st x d → ⊥) → Lives (next st x) d
+    goes_on z = dir-lives (next st x).ledger (slots st) _ (agrees_after st k x) d (stays z).dir
 
     elsewhere : (Strikes st x d → ⊥) → (d ≡ here st → ⊥) → room (next st x) d ≡ room st d
     elsewhere z o =
@@ -197,7 +197,7 @@ module _ (st : Story) (k : Kept st) where
     begins = λ x d dead lives. begins_by st x d dead lives;
     newborn = newborn;
     ends = λ x d l. ends x d l;
-    goes_on_lem = λ x d l. goes_on_lem x d l;
+    goes_on = λ x d l. goes_on x d l;
     elsewhere = λ x d l. elsewhere x d l;
   }
 

@@ -90,9 +90,9 @@ turned t x = record {
 }
 
 -- any list of calls
-abbrev pub turnedBy : Tale → List Turn → Tale
-turnedBy t [] = t
-turnedBy t (x ∷ rest) = turnedBy (turned t x) rest
+abbrev pub turned_by : Tale → List Turn → Tale
+turned_by t [] = t
+turned_by t (x ∷ rest) = turned_by (turned t x) rest
 
 -- it begins with what the maker left, any pool, and an empty book
 abbrev pub opening : ℕ → List ℕ → List ℕ → Tale
@@ -110,7 +110,7 @@ pub record Chronicle (t : Tale) : Type 0 where
   pub third : edition.version ≡ 3
   pub made : made_of buffer edition total form rule ≡ Done
   pub whole : length bodies ≡ total
-  pub tale : turnedBy (opening edition.version (left_by Done buffer edition total form rule) bodies) turns ≡ t
+  pub tale : turned_by (opening edition.version (left_by Done buffer edition total form rule) bodies) turns ≡ t
 
 -- THE BOOK HOLDS: the body of every EF of the card is what the book has for its slot, byte for byte
 abbrev pub BookHolds : Type 0

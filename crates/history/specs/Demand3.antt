@@ -56,7 +56,7 @@ pub record Demand3 (st : Story) : Type 0 where
   pub newborn : (x : Call) (d : ℕ) (m : Makes st x d) → (Lives st d → ⊥) × (Lives (next st x) d × (room (next st x) d ≡ m.total))
   -- until it or one above it is deleted
   pub ends : (x : Call) (d : ℕ) → Lives st d → Strikes st x d → Lives (next st x) d → ⊥
-  pub goes_on_lem : (x : Call) (d : ℕ) → Lives st d → (Strikes st x d → ⊥) → Lives (next st x) d
+  pub goes_on : (x : Call) (d : ℕ) → Lives st d → (Strikes st x d → ⊥) → Lives (next st x) d
   -- nothing done while another is current takes a byte from it, or gives it one
   pub elsewhere : (x : Call) (d : ℕ) → Lives st d → (Strikes st x d → ⊥) → (d ≡ here st → ⊥) → room (next st x) d ≡ room st d
 

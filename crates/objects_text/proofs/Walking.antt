@@ -60,9 +60,9 @@ module _ {s out₀ : List ℕ} {from : ℕ} {out : List ℕ} {at put : ℕ} (g :
   pub stop_fits : put + 9 ≤ length out
   stop_fits = omega (arith, same-room g.written g.so_far, g.room, g.little, g.low)
 
-  pub goes_on_lem : (m to : ℕ) (y : List ℕ) → whole_at s at ≡ true → to ≡ place_after s at → WroteAt put m out y (line_at s at)
+  pub goes_on : (m to : ℕ) (y : List ℕ) → whole_at s at ≡ true → to ≡ place_after s at → WroteAt put m out y (line_at s at)
       → Going s out₀ from y to m
-  goes_on_lem m to y h e w = record {
+  goes_on m to y h e w = record {
     written = g.written ++ line_at s at;
     turns = g.turns - 1;
     enough = omega (arith, e, (on s at h).0, g.enough);

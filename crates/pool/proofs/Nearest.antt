@@ -10,21 +10,21 @@ use lib.ListN.{get_or}
 use borrow.Author.Tests.{lt-ltb, le-ltb, le-leb, lt-leb}
 use Rattle.laws.proofs.Says.{lt-or}
 use Rattle.pool.specs.declared.Ahead.{Ahead}
-use Rattle.pool.specs.Index.{first_in, place_of, cell_end, On, here, there, Linked, Chained, StartsAt, nearerOf, Marked, marked, Seen}
+use Rattle.pool.specs.Index.{first_in, place_of, cell_end, On, here, there, Linked, Chained, StartsAt, nearer_of, Marked, marked, Seen}
 use Rattle.pool.proofs.Apart.{NoneFrom}
 
 -- the nearer of two, a law for each way out: f is the start that was read
 module _ (index : List ℕ) (p x : ℕ) (best : Ahead) (f : ℕ) (read : f ≡ get_or index (2047 + x) 0) where
-  pub nearer-below : f < p → best ≡ nearerOf index p best x
-  unfolding nearerOf
+  pub nearer-below : f < p → best ≡ nearer_of index p best x
+  unfolding nearer_of
   nearer-below h = rw (lt-ltb (get_or index (2047 + x) 0) p (omega arith))
 
-  pub nearer-past : p ≤ f → best.end ≤ f → best ≡ nearerOf index p best x
-  unfolding nearerOf
+  pub nearer-past : p ≤ f → best.end ≤ f → best ≡ nearer_of index p best x
+  unfolding nearer_of
   nearer-past h k = rw (le-ltb (get_or index (2047 + x) 0) p (omega arith), le-leb best.end (get_or index (2047 + x) 0) (omega arith))
 
-  pub nearer-is : p ≤ f → f < best.end → record { end = f; mark = x } ≡ nearerOf index p best x
-  unfolding nearerOf
+  pub nearer-is : p ≤ f → f < best.end → record { end = f; mark = x } ≡ nearer_of index p best x
+  unfolding nearer_of
   nearer-is h k =
       rw (le-ltb (get_or index (2047 + x) 0) p (omega arith), lt-leb best.end (get_or index (2047 + x) 0) (omega arith))
       (ap (λ (u : ℕ). record { end = u; mark = x }) read)
@@ -152,8 +152,8 @@ module _ (index : List ℕ) (len p : ℕ) (i : Linked index) where
           it : (s : ℕ) → s ≡ x - 1 → place ≤ place_of index s
           it s q = omega (arith, ap (λ (u : ℕ). place_of index u) q, own)
 
-      pub near-more : (r : Ahead) → r ≡ nearerOf index p best x → Nearest index len p r y
-      unfolding nearerOf
+      pub near-more : (r : Ahead) → r ≡ nearer_of index p best x → Nearest index len p r y
+      unfolding nearer_of
       near-more r e = rw e (go (lt-or place p) (lt-or place best.end))
         where
           go : (place < p) ⊎ (p ≤ place) → (place < best.end) ⊎ (best.end ≤ place)

@@ -49,8 +49,8 @@ abbrev pub cell_end : ℕ → ℕ
 cell_end p = (p / 64 + 1) * 64
 
 -- the nearer one to p: that of mark x, where it starts at p or above and before the other
-unfoldable pub nearerOf : List ℕ → ℕ → Ahead → ℕ → Ahead
-nearerOf index p best x =
+unfoldable pub nearer_of : List ℕ → ℕ → Ahead → ℕ → Ahead
+nearer_of index p best x =
     cond (ltb (get_or index (2047 + x) 0) p) best
     (cond (leb best.end (get_or index (2047 + x) 0)) best
     (record { end = get_or index (2047 + x) 0; mark = x }))

@@ -3,7 +3,7 @@
 ghost use Rattle.std.specs.Prelude.{◌≡◌, ◌+◌, ◌<◌, get_or};
 ghost use Rattle.image.specs.Layout.{Within, Sized};
 ghost use Rattle.pool.specs.Bodies.{start_at, body_at};
-ghost use Rattle.pool.specs.Index.{Linked, Chained, linking, nearerOf, Seen};
+ghost use Rattle.pool.specs.Index.{Linked, Chained, linking, nearer_of, Seen};
 
 use crate::{Ahead, body, stretch};
 
@@ -60,7 +60,7 @@ pub fn fill(index: &mut [u16; 3072], image: &[u8], n: usize)
 // The nearer one to p: the body of mark x, where it starts at p or above and before the other.
 fn nearer(index: &[u16; 3072], p: usize, best: Ahead, x: usize) -> Ahead
     requires { x < 1024 }
-    ensures { result ≡ nearerOf index.now p best x }
+    ensures { result ≡ nearer_of index.now p best x }
 {
     let at = number(index, 2047 + x);
     if at < p {

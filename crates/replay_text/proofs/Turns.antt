@@ -96,10 +96,10 @@ module _ {s image₀ out₀ image out : List ℕ} {at put : ℕ} (g : Going s im
       (splice-step out₀ 0 g.written out put cut y g.bytes fits (omega (arith, g.long)) w))
       (sym e)
 
-  pub goes_on_lem : (to : ℕ) (img y : List ℕ) → at < length s → cut_short s at ≡ false → to ≡ end_of s at → img ≡ image_at s at image
+  pub goes_on : (to : ℕ) (img y : List ℕ) → at < length s → cut_short s at ≡ false → to ≡ end_of s at → img ≡ image_at s at image
       → length img ≡ length image → y ≡ splice out put (line_of (word_at s at image)) → Going s image₀ out₀ img y to (put + 5)
   unfolding line_of
-  goes_on_lem to img y h t e ei l w = record {
+  goes_on to img y h t e ei l w = record {
     written = g.written ++ line_of (word_at s at image);
     turns = g.turns - 1;
     enough = omega (arith, e, g.enough);

@@ -68,12 +68,12 @@ impl Ledger {
         self.files.iter().copied().find(|entry| has(entry)).unwrap_or_default()
     }
 
-    /// `livesIn`: the directory in slot d lives.
+    /// `lives_in`: the directory in slot d lives.
     pub fn lives_in(&self, d: u64) -> bool {
         d == 0 || self.files.iter().any(|entry| entry.own == d)
     }
 
-    /// `totalIn`: the total announced for it.
+    /// `total_in`: the total announced for it.
     pub fn total_in(&self, d: u64) -> u64 {
         if d == 0 {
             self.total
@@ -82,12 +82,12 @@ impl Ledger {
         }
     }
 
-    /// `chargedIn`: size plus 64 of each file created directly in it.
+    /// `charged_in`: size plus 64 of each file created directly in it.
     pub fn charged_in(&self, d: u64) -> u64 {
         self.files.iter().filter(|entry| entry.dir == d).map(|entry| entry.size + 64).sum()
     }
 
-    /// `roomIn`: its room.
+    /// `room_in`: its room.
     pub fn room_in(&self, d: u64) -> u64 {
         self.total_in(d).saturating_sub(self.charged_in(d))
     }
@@ -100,7 +100,7 @@ impl Ledger {
         }
     }
 
-    /// `beneathIn`: d is c, or c stands some steps up from it, at most as many
+    /// `beneath_in`: d is c, or c stands some steps up from it, at most as many
     /// as there are entries.
     pub fn beneath_in(&self, c: u64, d: u64) -> bool {
         let mut at = d;
@@ -113,7 +113,7 @@ impl Ledger {
         false
     }
 
-    /// `fileIn`: the file x of directory d.
+    /// `file_in`: the file x of directory d.
     pub fn file_in(&self, d: u64, x: u64) -> Entry {
         self.first_entry(|entry| entry.dir == d && entry.identifier == x)
     }

@@ -1,5 +1,5 @@
 use mathlib.Core.Path.{sym, ◌∙◌}
-use Rattle.objects_text.proofs.Walking.{start, object-fits, stop_fits, goes_on_lem, less, ended, stop_room}
+use Rattle.objects_text.proofs.Walking.{start, object-fits, stop_fits, goes_on, less, ended, stop_room}
 use Rattle.objects_text.proofs.walk.Goals as goal
 
 pub loop-out-init : goal.loop-out-init
@@ -19,7 +19,7 @@ loop-out-smaller c =
 
 pub loop-out-preserved : goal.loop-out-preserved
 loop-out-preserved c =
-    goes_on_lem c.loop-out.invariant _ _ _
+    goes_on c.loop-out.invariant _ _ _
     (sym c.is_whole.ensures ∙ c.loop-out-test.true)
     c.after-at.ensures c.put_object-put.ensures
 

@@ -2,7 +2,7 @@ use native.Mathlib.Omega.{arith}
 use borrow.Author.Rules.{rules}
 use mathlib.Core.Path.{sym, ◌∙◌}
 use Rattle.replay_text.proofs.Lines.{two-left, whole}
-use Rattle.replay_text.proofs.Turns.{start, out_sized, room_cut, cut-sized, room-line, ended, cut_off, goes_on_lem}
+use Rattle.replay_text.proofs.Turns.{start, out_sized, room_cut, cut-sized, room-line, ended, cut_off, goes_on}
 use Rattle.replay_text.proofs.run.Goals as goal
 
 pub loop-at-init : goal.loop-at-init
@@ -63,7 +63,7 @@ loop-at-smaller c =
 
 pub loop-at-preserved : goal.loop-at-preserved
 loop-at-preserved c =
-    goes_on_lem c.loop-at.invariant _ _ _
+    goes_on c.loop-at.invariant _ _ _
     c.loop-at-test.true
     (sym c.cut_short.ensures
     ∙ c.if-cut_short.false)
