@@ -1,26 +1,23 @@
 // The calls as C sees them (include/hullplaiter.h): each wraps one public call and gives 01's numbers, and 02's, for its answer.
 // No call asks anything of its caller, and none keeps anything from call to call.
-ghost use mathlib.Core.Path.{_≡_};
-ghost use Prim.Native.Nat.{_<_};
-ghost use Rattle·access.specs.Decision.{decisionNumber};
-ghost use Rattle·card.specs.Command.{answerTold};
-ghost use Rattle·referred.specs.Deciding.{Bounded};
-ghost use Rattle·abi·specs.specs.Numbers.{editionOf, stateOf, packed, toldNumbers, placeNumbers};
-ghost use Rattle·abi·specs.specs.Promises.{HullMake, HullCommand, HullReport, HullSound, HullRule};
+ghost use Rattle.std.specs.Prelude.{◌≡◌, ◌<◌};
+ghost use Rattle.access.specs.Decision.{decision_number};
+ghost use Rattle.card.specs.Command.{answer_told};
+ghost use Rattle.referred.specs.Deciding.{Bounded};
+ghost use Rattle.abi.specs.Numbers.{edition_of, state_of, packed, told_numbers, place_numbers};
+ghost use Rattle.abi.specs.Promises.{HullMake, HullCommand, HullReport, HullSound, HullRule};
+
 use access::Decision;
-use card::Reply;
-use card::Ruling;
-use maker::Edition;
-use maker::Made;
-use maker::Reported;
+use card::{Reply, Ruling};
+use maker::{Edition, Made, Reported};
 use referred::Place;
 use rules::Sets;
 use verdict::State;
 
 // Makes a fresh image of a buffer, a card of that kind: 0, or 2, 3, 4 with the buffer as it came.
-#[no_mangle]
+#[unsafe(no_mangle)]
 pub extern "C" fn hull_make(image: &mut [u8], kind: u32, total: u32, form: u32, rule: &[u8]) -> u32
-    ensures { λ r. ⌜ HullMake (now (image .entry)) (editionOf kind) total form (now (rule .entry)) r (now (image .exit)) ⌝ }
+    ensures { HullMake image.old (edition_of kind) total form rule.now result image.new }
 {
     let made = maker::fresh::make(image, Edition { version: kind }, total, form, rule);
     match made {
@@ -33,7 +30,7 @@ pub extern "C" fn hull_make(image: &mut [u8], kind: u32, total: u32, form: u32, 
 
 // 02's number of a decision on security: 0 no refusal, 1 lacking, 2 closed.
 fn number_of(security: Decision) -> u32
-    ensures { λ r. ⌜ r ≡ decisionNumber security ⌝ }
+    ensures { result ≡ decision_number security }
 {
     match security {
         Decision::Granted => 0,
@@ -44,7 +41,7 @@ fn number_of(security: Decision) -> u32
 
 // The answer of a reply above the sixteen bits of its word.
 fn packed(reply: Reply) -> u32
-    ensures { λ r. ⌜ r ≡ packed reply ⌝ }
+    ensures { result ≡ packed reply }
 {
     match reply {
         Reply::Word {
@@ -60,8 +57,8 @@ fn packed(reply: Reply) -> u32
 
 // What a reply tells beside its word: how many bytes of data, what a security refusal lacks, and 0.
 fn told_numbers(reply: Reply) -> [u32; 3]
-    requires { ⌜ answerTold reply < 65536 ⌝ }
-    ensures { λ r. ⌜ r ≡ toldNumbers reply ⌝ }
+    requires { answer_told reply < 65536 }
+    ensures { result ≡ told_numbers reply }
 {
     match reply {
         Reply::Word {
@@ -77,7 +74,7 @@ fn told_numbers(reply: Reply) -> [u32; 3]
 
 // One command on an image and its pool: 65536 times the answer, plus the word; what it tells at the start of the response, and three
 // numbers.
-#[no_mangle]
+#[unsafe(no_mangle)]
 pub extern "C" fn hull_command(
     image: &mut [u8],
     pool: &mut [u8],
@@ -89,8 +86,8 @@ pub extern "C" fn hull_command(
     channels: u8,
     numbers: &mut [u32; 3],
 ) -> u32
-    ensures { λ r. ⌜ HullCommand (now (image .entry)) (now (pool .entry)) (now (command .entry)) (stateOf messaging external user channels)
-        (now (response .entry)) r (now (image .exit)) (now (pool .exit)) (now (response .exit)) (now (numbers .exit)) ⌝ }
+    ensures { HullCommand image.old pool.old command.now (state_of messaging external user channels)
+        response.old result image.new pool.new response.new numbers.new }
 {
     let sets = Sets {
         messaging: messaging,
@@ -107,9 +104,9 @@ pub extern "C" fn hull_command(
 }
 
 // The report: its answer, and its four numbers in the lent array.
-#[no_mangle]
+#[unsafe(no_mangle)]
 pub extern "C" fn hull_report(image: &[u8], numbers: &mut [u32; 4]) -> u32
-    ensures { λ r. ⌜ HullReport (now (image .entry)) r (now (numbers .exit)) ⌝ }
+    ensures { HullReport image.now result numbers.new }
 {
     let reported = maker::report::report(image);
     match reported {
@@ -125,9 +122,9 @@ pub extern "C" fn hull_report(image: &[u8], numbers: &mut [u32; 4]) -> u32
 }
 
 // Whether an image is sound: 1 or 0.
-#[no_mangle]
+#[unsafe(no_mangle)]
 pub extern "C" fn hull_sound(image: &[u8]) -> u32
-    ensures { λ r. ⌜ HullSound (now (image .entry)) r ⌝ }
+    ensures { HullSound image.now result }
 {
     if sound_test::sound(image) {
         return 1;
@@ -137,8 +134,8 @@ pub extern "C" fn hull_sound(image: &[u8]) -> u32
 
 // A place as three numbers: 0 nowhere, 1 in the image, 2 in the pool; the first byte; how many there are.
 fn place_numbers(place: Place) -> [u32; 3]
-    requires { ⌜ Bounded place ⌝ }
-    ensures { λ r. ⌜ r ≡ placeNumbers place ⌝ }
+    requires { Bounded place }
+    ensures { result ≡ place_numbers place }
 {
     match place {
         Place::Nowhere => [0, 0, 0],
@@ -148,9 +145,9 @@ fn place_numbers(place: Place) -> [u32; 3]
 }
 
 // Where the rule that decides on the file in a slot stands: the answer, and three numbers in the lent array.
-#[no_mangle]
+#[unsafe(no_mangle)]
 pub extern "C" fn hull_rule(image: &[u8], pool: &[u8], slot: u32, numbers: &mut [u32; 3]) -> u32
-    ensures { λ r. ⌜ HullRule (now (image .entry)) (now (pool .entry)) slot r (now (numbers .exit)) ⌝ }
+    ensures { HullRule image.now pool.now slot result numbers.new }
 {
     let found = card::standing::ruling(image, pool, slot as usize);
     match found {

@@ -1,7 +1,7 @@
 -- A compact rule and its expanded writing decide alike, asked by their forms.
-use Rattle·expanded.proofs.Alike.{writing-decides}
-use Rattle·access·specs.specs.Access.{grantedOf, WritingsAlike}
+use Rattle.expanded.proofs.Alike.{writing_decides}
+use Rattle.access.specs.Access.{granted_of, WritingsAlike}
 
-pub writings-alike : WritingsAlike
-unfolding grantedOf
-writings-alike rule right x = writing-decides rule right x
+pub writings_alike : WritingsAlike
+unfolding granted_of
+writings_alike rule right x = writing_decides rule right x

@@ -1,21 +1,21 @@
 -- The lines on both sides of what a rule decides compute.
 use mathlib.Core.Path.{refl}
-use Rattle·rules.specs.Condition.{met, fulfilled, oneOf, allOf, holdsOf}
-use Rattle·rules.specs.Group.{scAt, slotsOf, nextOf, someGroup}
-use Rattle·rules.specs.Rule.{holdsAt, allowsOf, compactGrants}
-use Rattle·expanded.specs.Object.{objectsFrom, objectsOf, every, some, several}
-use Rattle·expanded.specs.Condition.{formedPlain, isTemplate, formed, scOf, holdsPlain, holds}
-use Rattle·expanded.specs.Expanded.{isAm, amAfter, inPlace, goesOn, expandedFormed, opens, opensOne, expandedGrants}
-use Rattle·access·specs.specs.Access.{wellFormed, grantedOf}
-use Rattle·access·specs.specs.Decision.{decisionOf}
-use Rattle·access·specs.specs.Lines.{DecisionsTold, ReferencesTold}
+use Rattle.rules.specs.Condition.{met, fulfilled, one_of, all_of, holds_of}
+use Rattle.rules.specs.Group.{sc_at, slots_of, next_of, some_group}
+use Rattle.rules.specs.Rule.{holds_at, allows_of, compact_grants}
+use Rattle.expanded.specs.Object.{objects_from, objects_of, every, some, several}
+use Rattle.expanded.specs.Condition.{formed_plain, is_template, formed, sc_of, holds_plain, holds}
+use Rattle.expanded.specs.Expanded.{is_am, am_after, in_place, goes_on, expanded_formed, opens, opens_one, expanded_grants}
+use Rattle.access.specs.Access.{well_formed, granted_of}
+use Rattle.access.specs.Decision.{decision_of}
+use Rattle.access.specs.Lines.{DecisionsTold, ReferencesTold}
 
-pub decisions-told : DecisionsTold
-unfolding decisionOf grantedOf compactGrants allowsOf someGroup holdsAt slotsOf scAt nextOf holdsOf allOf oneOf fulfilled met expandedGrants
-    expandedFormed goesOn inPlace isAm amAfter opensOne opens formed formedPlain isTemplate holds holdsPlain scOf objectsOf objectsFrom
+pub decisions_told : DecisionsTold
+unfolding decision_of granted_of compact_grants allows_of some_group holds_at slots_of sc_at next_of holds_of all_of one_of fulfilled met expanded_grants
+    expanded_formed goes_on in_place is_am am_after opens_one opens formed formed_plain is_template holds holds_plain sc_of objects_of objects_from
     every some several
-decisions-told = (refl, refl, refl, refl, refl)
+decisions_told = (refl, refl, refl, refl, refl)
 
-pub references-told : ReferencesTold
-unfolding wellFormed decisionOf grantedOf
-references-told = (refl, refl)
+pub references_told : ReferencesTold
+unfolding well_formed decision_of granted_of
+references_told = (refl, refl)

@@ -1,17 +1,14 @@
 // Access rules of every form (01 "Descriptor and rules", 02 Tickets 3, 6 and 7): the one place where a rule is asked, what a refusal
 // lacks, and whether a rule may stand in a record. A rule comes with the number of its form; whoever asks never looks inside.
-ghost use mathlib.Core.Path.{_≡_};
-ghost use mathlib.Core.Bool.{_&&_};
-ghost use Prim.Native.Nat.{_≤_};
-ghost use lib.Dec.{eqb};
-ghost use lib.ListN.{length};
-ghost use Rattle·rules.specs.Group.{Lengths};
-ghost use Rattle·access·specs.specs.Access.{referred, tagOf, askedAs, referredFormed, wellFormed, fitsRecord, grantedOf};
-ghost use Rattle·access·specs.specs.Decision.{full, decisionOf, Decides, either};
-use rules::Right;
-use rules::Sets;
+ghost use Rattle.std.specs.Prelude.{◌≡◌, ◌&&◌, ◌≤◌, eqb, length};
+ghost use Rattle.rules.specs.Group.{Lengths};
+ghost use Rattle.access.specs.Access.{referred, tag_of, asked_as, referred_formed, well_formed, fits_record, granted_of};
+ghost use Rattle.access.specs.Decision.{full, decision_of, Decides, either};
+
+use rules::{Right, Sets};
 
 // What a rule decides on a right (02 Ticket 6): it grants it; or some security state would open it, and this one does not; or none would.
+#[derive(Drop)]
 pub enum Decision {
     Granted,
     Lacking,
@@ -27,7 +24,7 @@ pub const REFERRED: u8 = 2;
 
 // The tag of the object that a rule stands in.
 pub fn tag_of(form: u8) -> u8
-    ensures { λ r. ⌜ r ≡ tagOf form ⌝ }
+    ensures { result ≡ tag_of form }
 {
     if form == COMPACT {
         return 0x8C;
@@ -40,7 +37,7 @@ pub fn tag_of(form: u8) -> u8
 
 // The form in which the rule that decides is asked: the rule that a referred one names is expanded.
 pub fn asked_as(form: u8) -> u8
-    ensures { λ r. ⌜ r ≡ askedAs form ⌝ }
+    ensures { result ≡ asked_as form }
 {
     if form == REFERRED {
         return EXPANDED;
@@ -50,7 +47,7 @@ pub fn asked_as(form: u8) -> u8
 
 // Whether a rule is a referred one and well formed: an identifier and a record number.
 fn is_reference(form: u8, rule: &[u8]) -> bool
-    ensures { λ r. ⌜ r ≡ (eqb form referred && referredFormed (now (rule .entry))) ⌝ }
+    ensures { result ≡ (eqb form referred && referred_formed rule.now) }
 {
     if rule.len() != 3 {
         return false;
@@ -60,7 +57,7 @@ fn is_reference(form: u8, rule: &[u8]) -> bool
 
 // Whether a rule is well formed.
 fn well_formed(form: u8, rule: &[u8]) -> bool
-    ensures { λ r. ⌜ r ≡ wellFormed form (now (rule .entry)) ⌝ }
+    ensures { result ≡ well_formed form rule.now }
 {
     if form == COMPACT {
         return rules::rule::well_formed(rule);
@@ -76,7 +73,7 @@ fn well_formed(form: u8, rule: &[u8]) -> bool
 
 // Whether a rule may stand in a record of a version.
 pub fn fits_record(v: u32, form: u8, rule: &[u8]) -> bool
-    ensures { λ r. ⌜ r ≡ fitsRecord v form (now (rule .entry)) ⌝ }
+    ensures { result ≡ fits_record v form rule.now }
 {
     if rule.len() < 1 {
         return false;
@@ -93,8 +90,8 @@ pub fn fits_record(v: u32, form: u8, rule: &[u8]) -> bool
 // Whether a rule is well formed, with the table of a compact group's lengths, for a caller that asks often: a compact rule, which most
 // are, is told by one comparison, since the next test is not about the form alone.
 pub fn formed_by(form: u8, rule: &[u8], lengths: &[u8; 256]) -> bool
-    requires { ⌜ (1 ≤ length (now rule)) × Lengths (now lengths) ⌝ }
-    ensures { λ r. ⌜ r ≡ wellFormed form (now (rule .entry)) ⌝ }
+    requires { (1 ≤ length rule.now) × Lengths lengths.now }
+    ensures { result ≡ well_formed form rule.now }
 {
     if form == COMPACT {
         return rules::rule::formed_by(rule, lengths);
@@ -111,7 +108,7 @@ pub fn formed_by(form: u8, rule: &[u8], lengths: &[u8; 256]) -> bool
 // Whether the rule grants a right, under what has been authenticated. The only way anyone asks a rule; a referred one is never asked
 // itself, but the rule that it names.
 pub fn granted(form: u8, rule: &[u8], right: Right, sets: Sets) -> bool
-    ensures { λ r. ⌜ r ≡ grantedOf form (now (rule .entry)) right sets ⌝ }
+    ensures { result ≡ granted_of form rule.now right sets }
 {
     if form == COMPACT {
         return rules::rule::granted(rule, right, sets);
@@ -124,7 +121,7 @@ pub fn granted(form: u8, rule: &[u8], right: Right, sets: Sets) -> bool
 
 // All that could be authenticated.
 fn everything() -> Sets
-    ensures { λ r. ⌜ r ≡ full ⌝ }
+    ensures { result ≡ full }
 {
     Sets {
         messaging: 0xFFFF,
@@ -135,7 +132,7 @@ fn everything() -> Sets
 
 // What the rule decides on a right: more authentication never closes it, so where nothing is lacking and it is denied, no state opens it.
 pub fn decide(form: u8, rule: &[u8], right: Right, sets: Sets) -> Decision
-    ensures { λ r. ⌜ (r ≡ decisionOf form (now (rule .entry)) right sets) × Decides form (now (rule .entry)) right sets r ⌝ }
+    ensures { (result ≡ decision_of form rule.now right sets) × Decides form rule.now right sets result }
 {
     if granted(form, rule, right, sets) {
         return Decision::Granted;
@@ -148,7 +145,7 @@ pub fn decide(form: u8, rule: &[u8], right: Right, sets: Sets) -> Decision
 
 // What two rules decide of which one suffices: lacking wins over closed.
 pub fn either(one: Decision, other: Decision) -> Decision
-    ensures { λ r. ⌜ r ≡ either one other ⌝ }
+    ensures { result ≡ either one other }
 {
     match one {
         Decision::Granted => Decision::Granted,

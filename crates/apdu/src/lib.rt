@@ -1,12 +1,10 @@
 // The bytes of a command and the tests of the steps A to G, which all commands share (01 "The order in which a command
 // is judged"), and the parts of a command.
-ghost use mathlib.Core.Path.{_≡_};
-ghost use mathlib.Core.Bool.{cond};
-ghost use Prim.Native.Nat.{_≤_};
-ghost use lib.ListN.{length};
-ghost use Rattle·verdict.specs.Applied.{sentData};
-ghost use Rattle·apdu·specs.specs.Apdu.{isTerminate, isOld, isKnown, wantsAlone, otherChannel, crowded, wantsTemplate, goodParameters};
-ghost use Rattle·apdu·specs.specs.Apdu.{fitParameters, isSeven, isEight, isFive, hasData, fitLength, onOtherChannel, sentIdentifier};
+ghost use Rattle.std.specs.Prelude.{◌≡◌, cond, ◌≤◌, length};
+ghost use Rattle.verdict.specs.Applied.{sent_data};
+ghost use Rattle.apdu.specs.Apdu.{is_terminate, is_old, is_known, wants_alone, other_channel, crowded, wants_template, good_parameters};
+ghost use Rattle.apdu.specs.Apdu.{fit_parameters, is_seven, is_eight, is_five, has_data, fit_length, on_other_channel, sent_identifier};
+
 use verdict::State;
 
 pub mod bodies;
@@ -29,7 +27,7 @@ pub const TERMINATE_DF: u8 = 0xE6;
 pub const TERMINATE_CARD: u8 = 0xFE;
 
 fn is_terminate(i: u8) -> bool
-    ensures { λ r. ⌜ r ≡ isTerminate i ⌝ }
+    ensures { result ≡ is_terminate i }
 {
     if i == TERMINATE_EF {
         return true;
@@ -42,7 +40,7 @@ fn is_terminate(i: u8) -> bool
 
 // An instruction of 01.
 fn is_old(i: u8) -> bool
-    ensures { λ r. ⌜ r ≡ isOld i ⌝ }
+    ensures { result ≡ is_old i }
 {
     if i == SELECT_FILE {
         return true;
@@ -64,7 +62,7 @@ fn is_old(i: u8) -> bool
 
 // An instruction that a card of version v has.
 pub fn is_known(v: u32, i: u8) -> bool
-    ensures { λ r. ⌜ r ≡ isKnown v i ⌝ }
+    ensures { result ≡ is_known v i }
 {
     if is_old(i) {
         return true;
@@ -76,7 +74,7 @@ pub fn is_known(v: u32, i: u8) -> bool
 }
 
 fn wants_alone(i: u8) -> bool
-    ensures { λ r. ⌜ r ≡ wantsAlone i ⌝ }
+    ensures { result ≡ wants_alone i }
 {
     if i == CREATE_FILE {
         return true;
@@ -88,14 +86,14 @@ fn wants_alone(i: u8) -> bool
 }
 
 fn other_channel(state: State) -> bool
-    ensures { λ r. ⌜ r ≡ otherChannel state ⌝ }
+    ensures { result ≡ other_channel state }
 {
     state.channels / 2 % 8 != 0
 }
 
 // Whether another channel stands in the way (step E).
 pub fn is_crowded(i: u8, state: State) -> bool
-    ensures { λ r. ⌜ r ≡ crowded i state ⌝ }
+    ensures { result ≡ crowded i state }
 {
     if !wants_alone(i) {
         return false;
@@ -105,7 +103,7 @@ pub fn is_crowded(i: u8, state: State) -> bool
 
 // Whether SELECT's P2 asks for the template.
 pub fn wants_template(command: &[u8]) -> bool
-    ensures { λ r. ⌜ r ≡ wantsTemplate (now (command .entry)) ⌝ }
+    ensures { result ≡ wants_template command.now }
 {
     if command.len() < 4 {
         return false;
@@ -115,7 +113,7 @@ pub fn wants_template(command: &[u8]) -> bool
 
 // P1 P2, as one number, as the instruction wants them.
 fn good_parameters(i: u8, p: u16) -> bool
-    ensures { λ r. ⌜ r ≡ goodParameters i p ⌝ }
+    ensures { result ≡ good_parameters i p }
 {
     if i == SELECT_FILE {
         if p == 0x000C {
@@ -133,15 +131,15 @@ fn good_parameters(i: u8, p: u16) -> bool
 }
 
 pub fn fit_parameters(command: &[u8]) -> bool
-    requires { ⌜ 4 ≤ length (now command) ⌝ }
-    ensures { λ r. ⌜ r ≡ fitParameters (now (command .entry)) ⌝ }
+    requires { 4 ≤ length command.now }
+    ensures { result ≡ fit_parameters command.now }
 {
     good_parameters(command[1], numbers::u16_at(command, 2))
 }
 
 // Seven bytes with Lc 2: SELECT and DELETE.
 fn is_seven(command: &[u8]) -> bool
-    ensures { λ r. ⌜ r ≡ isSeven (now (command .entry)) ⌝ }
+    ensures { result ≡ is_seven command.now }
 {
     if command.len() != 7 {
         return false;
@@ -151,7 +149,7 @@ fn is_seven(command: &[u8]) -> bool
 
 // Eight bytes with Lc 2 and Le 00: SELECT that asks for the template.
 fn is_eight(command: &[u8]) -> bool
-    ensures { λ r. ⌜ r ≡ isEight (now (command .entry)) ⌝ }
+    ensures { result ≡ is_eight command.now }
 {
     if command.len() != 8 {
         return false;
@@ -164,14 +162,14 @@ fn is_eight(command: &[u8]) -> bool
 
 // Five bytes: READ.
 fn is_five(command: &[u8]) -> bool
-    ensures { λ r. ⌜ r ≡ isFive (now (command .entry)) ⌝ }
+    ensures { result ≡ is_five command.now }
 {
     command.len() == 5
 }
 
 // 5 + Lc bytes with Lc at least 1: CREATE, UPDATE.
 fn has_data(command: &[u8]) -> bool
-    ensures { λ r. ⌜ r ≡ hasData (now (command .entry)) ⌝ }
+    ensures { result ≡ has_data command.now }
 {
     if command.len() < 6 {
         return false;
@@ -181,8 +179,8 @@ fn has_data(command: &[u8]) -> bool
 
 // As long as SELECT's P2 wants it.
 fn select_length(command: &[u8]) -> bool
-    requires { ⌜ 4 ≤ length (now command) ⌝ }
-    ensures { λ r. ⌜ r ≡ cond (wantsTemplate (now (command .entry))) (isEight (now (command .entry))) (isSeven (now (command .entry))) ⌝ }
+    requires { 4 ≤ length command.now }
+    ensures { result ≡ cond (wants_template command.now) (is_eight command.now) (is_seven command.now) }
 {
     if wants_template(command) {
         return is_eight(command);
@@ -191,8 +189,8 @@ fn select_length(command: &[u8]) -> bool
 }
 
 pub fn fit_length(command: &[u8]) -> bool
-    requires { ⌜ 4 ≤ length (now command) ⌝ }
-    ensures { λ r. ⌜ r ≡ fitLength (now (command .entry)) ⌝ }
+    requires { 4 ≤ length command.now }
+    ensures { result ≡ fit_length command.now }
 {
     let i = command[1];
     if i == CREATE_FILE {
@@ -214,7 +212,7 @@ pub fn fit_length(command: &[u8]) -> bool
 }
 
 pub fn on_other_channel(class: u8) -> bool
-    ensures { λ r. ⌜ r ≡ onOtherChannel class ⌝ }
+    ensures { result ≡ on_other_channel class }
 {
     if class < 1 {
         return false;
@@ -224,16 +222,16 @@ pub fn on_other_channel(class: u8) -> bool
 
 // The identifier that SELECT and DELETE send.
 pub fn sent_identifier(command: &[u8]) -> u16
-    requires { ⌜ 7 ≤ length (now command) ⌝ }
-    ensures { λ r. ⌜ r ≡ sentIdentifier (now (command .entry)) ⌝ }
+    requires { 7 ≤ length command.now }
+    ensures { result ≡ sent_identifier command.now }
 {
     numbers::u16_at(command, 5)
 }
 
 // The data of CREATE and UPDATE: a part of the command.
 pub fn sent_data(command: &[u8]) -> &[u8]
-    requires { ⌜ 5 ≤ length (now command) ⌝ }
-    ensures { λ r. ⌜ now r ≡ sentData (now (command .entry)) ⌝ }
+    requires { 5 ≤ length command.now }
+    ensures { result.now ≡ sent_data command.now }
 {
     &command[5..]
 }

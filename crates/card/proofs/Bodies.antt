@@ -1,250 +1,250 @@
 -- What bodies hold after a call (specs/Bodies, 02 Ticket 4): by the verdict that stands, from what it tells of the image.
-use mathlib.Core.Path.{_≡_, refl, sym, ap, _∙_}
-use mathlib.Core.Bool.{Bool, true, false, cond, _&&_, _||_, false≢true}
-use mathlib.Core.List.{List, [], _∷_}
-use mathlib.Core.Logic.{_⊎_, inl, inr, ⊎-elim}
-use Prim.Native.Nat.{ℕ, _+_, _-_, _<_, _≤_}
+use mathlib.Core.Path.{◌≡◌, refl, sym, ap, ◌∙◌}
+use mathlib.Core.Bool.{Bool, true, false, cond, ◌&&◌, ◌||◌, false≢true}
+use mathlib.Core.List.{List, [], ◌∷◌}
+use mathlib.Core.Logic.{◌⊎◌, inl, inr, ⊎_elim}
+use Prim.Native.Nat.{ℕ, ◌+◌, ◌-◌, ◌<◌, ◌≤◌}
 use native.Mathlib.Omega.{arith}
 use lib.Dec.{eqb}
-use lib.ListN.{length, getD, replicate}
-use borrow.Author.Tests.{eq-eqb, ne-eqb, eqb-true, eqb-false}
-use Rattle·laws.specs.declared.Found.{Found}
-use Rattle·laws.specs.declared.Found.the-variants.{At, Nothing}
-use Rattle·laws.specs.Lists.{part, splice}
-use Rattle·laws.proofs.Says.{same-or, lt-or, or-says, and-says}
-use Rattle·laws.proofs.Splices.{part-part}
-use Rattle·rules.specs.Descriptor.{ef}
-use Rattle·image.specs.declared.Head.{Head}
-use Rattle·image.specs.Layout.{Sized, hasBodies, versionOf, countOf, currentEfOf, none, recAt, freeBytes, withLife, kindOf, sizeOf, startOf}
-use Rattle·image.specs.Layout.{recordBytes, withStart}
-use Rattle·image.proofs.Made.{length-made, kind-made, size-made}
-use Rattle·image.proofs.Starts.{start-set}
-use Rattle·image.proofs.Starts as begun
-use Rattle·access.proofs.Fits.{fits-short}
-use Rattle·image.proofs.Headers.{same-version}
-use Rattle·image.proofs.Lives.{kind-kept, size-kept, start-kept}
-use Rattle·image.proofs.Places.{length-record}
-use Rattle·pool.specs.Bodies.{bodyOf, startAt, bodyAt, bodyBytes}
-use Rattle·pool.specs.Laid.{Laid}
-use Rattle·pool.specs.Gaps.{fits}
-use Rattle·pool.specs.Packed.{packedImage, packedPool}
-use Rattle·pool.specs.Places.{placeAt, placeImage, placePool}
-use Rattle·pool.proofs.After.{after-size, after-reads, length-pool}
-use Rattle·pool.proofs.Making.{place-laid}
-use Rattle·pool.proofs.Wiping.{wiped-reads}
-use Rattle·pool.proofs.Updates.{body-updated, other-updated, new-reads, other-new}
-use Rattle·sound.specs.Table.{viewAt}
-use Rattle·sound.specs.Kinship.{atOrBeneath, freeSlot}
-use Rattle·template.specs.Objects.{bytesAt}
-use Rattle·judge_target.specs.Target.{slotIn}
-use Rattle·sound.specs.Sound.{Sound, soundb, poolLength}
-use Rattle·sound.specs.Effects.{Creates, newBody, newGap, made, filled, newBytes, otherRecord, wiped}
-use Rattle·sound.proofs.Says.{sound-says}
-use Rattle·sound.proofs.Front.{sound-sized, sound-within}
-use Rattle·sound.proofs.Created.{slot-free, slot-low}
-use Rattle·sound.proofs.MovedDown.{kept-record}
-use Rattle·sound.proofs.Fitting.{body-fits}
-use Rattle·sound.proofs.Made.{front-made, record-made, other-made, place-inside, place-clear, version-ready}
-use Rattle·verdict.specs.declared.State.{State}
-use Rattle·verdict.specs.declared.Verdict.{Verdict}
-use Rattle·verdict.specs.declared.Verdict.the-variants.{Refuse, Select, Create, Delete, SetLife, Read, Update}
-use Rattle·verdict.specs.Applied.{sentData, wordOf, appliedOf, pooledOf}
-use Rattle·apdu.specs.Apdu.{instruction, isBody, isBinary, isRecord, isRead, asked}
-use Rattle·card·specs.specs.Touching.{placeOf}
-use Rattle·card·specs.specs.Command.{answerWord, poolFits, PoolFits, dueOf, replyOf, imageOf, poolOf}
-use Rattle·card·specs.specs.After.{recordAfter}
-use Rattle·card·specs.specs.Obeyed.{isOneOf}
-use Rattle·card·specs.specs.Bodies.{InBody, NeverMeet, InThePool, Updating, ReadsSame, UpdatedThere, NewBodyFF, ReadsBody}
-use Rattle·card·proofs.proofs.Steps.{cond-by}
-use Rattle·card·proofs.proofs.Tells.{Tells, new-bodies, lies}
-use Rattle·card·proofs.proofs.Ordered.{Ordered}
-use Rattle·card·proofs.proofs.Speaks.{Spoken}
-use Rattle·card·proofs.proofs.Due.{pool-says, due-tells, due-speaks, due-ordered, due-wrong}
-use Rattle·card·proofs.proofs.Answered.{image-is, pool-is, word-is, response-is, damaged-left, damaged-kept, damaged-refused}
-use Rattle·card·proofs.proofs.After.{records-after, front-after}
+use lib.ListN.{length, get_or, replicate}
+use borrow.Author.Tests.{eq-eqb, ne_eqb, eqb-true, eqb-false}
+use Rattle.laws.specs.declared.Found.{Found}
+use Rattle.laws.specs.declared.Found.TheVariants.{At, Nothing}
+use Rattle.laws.specs.Lists.{part, splice}
+use Rattle.laws.proofs.Says.{same_or, lt-or, or-says, and-says}
+use Rattle.laws.proofs.Splices.{part-part}
+use Rattle.rules.specs.Descriptor.{ef}
+use Rattle.image.specs.declared.Head.{Head}
+use Rattle.image.specs.Layout.{Sized, has_bodies, version_of, count_of, current_ef_of, none, rec_at, free_bytes, with_life, kind_of, size_of, start_of}
+use Rattle.image.specs.Layout.{record_bytes, with_start}
+use Rattle.image.proofs.Made.{length-made, kind-made, size-made}
+use Rattle.image.proofs.Starts.{start-set}
+use Rattle.image.proofs.Starts as begun
+use Rattle.access.proofs.Fits.{fits-short}
+use Rattle.image.proofs.Headers.{same_version}
+use Rattle.image.proofs.Lives.{kind-kept, size-kept, start-kept}
+use Rattle.image.proofs.Places.{length_record}
+use Rattle.pool.specs.Bodies.{body_of, start_at, body_at, body_bytes}
+use Rattle.pool.specs.Laid.{Laid}
+use Rattle.pool.specs.Gaps.{fits}
+use Rattle.pool.specs.Packed.{packed_image, packed_pool}
+use Rattle.pool.specs.Places.{place_at, place_image, place_pool}
+use Rattle.pool.proofs.After.{after-size, after-reads, length-pool}
+use Rattle.pool.proofs.Making.{place-laid}
+use Rattle.pool.proofs.Wiping.{wiped-reads}
+use Rattle.pool.proofs.Updates.{body_updated, other_updated, new_reads, other_new}
+use Rattle.sound.specs.Table.{view_at}
+use Rattle.sound.specs.Kinship.{at_or_beneath, free_slot}
+use Rattle.template.specs.Objects.{bytes_at}
+use Rattle.judge_target.specs.Target.{slot_in}
+use Rattle.sound.specs.Sound.{Sound, soundb, pool_length}
+use Rattle.sound.specs.Effects.{Creates, new_body, new_gap, made, filled, new_bytes, other_record, wiped}
+use Rattle.sound.proofs.Says.{sound-says}
+use Rattle.sound.proofs.Front.{sound-sized, sound-within}
+use Rattle.sound.proofs.Created.{slot-free, slot-low}
+use Rattle.sound.proofs.MovedDown.{kept_record_lem}
+use Rattle.sound.proofs.Fitting.{body-fits}
+use Rattle.sound.proofs.Made.{front_made, record_made, other-made, place_inside, place-clear, version_ready}
+use Rattle.verdict.specs.declared.State.{State}
+use Rattle.verdict.specs.declared.Verdict.{Verdict}
+use Rattle.verdict.specs.declared.Verdict.TheVariants.{Refuse, Select, Create, Delete, SetLife, Read, Update}
+use Rattle.verdict.specs.Applied.{sent_data, word_of, applied_of, pooled_of}
+use Rattle.apdu.specs.Apdu.{instruction, is_body, is_binary, is_record, is_read, asked}
+use Rattle.card.specs.Touching.{place_of}
+use Rattle.card.specs.Command.{answer_word, pool_fits, PoolFits, due_of, reply_of, image_of, pool_of}
+use Rattle.card.specs.After.{record_after}
+use Rattle.card.specs.Obeyed.{is_one_of}
+use Rattle.card.specs.Bodies.{InBody, NeverMeet, InThePool, Updating, ReadsSame, UpdatedThere, NewBodyFF, ReadsBody}
+use Rattle.card.proofs.Steps.{cond_by}
+use Rattle.card.proofs.Tells.{Tells, new_bodies, lies}
+use Rattle.card.proofs.Ordered.{Ordered}
+use Rattle.card.proofs.Speaks.{Spoken}
+use Rattle.card.proofs.Due.{pool-says, due_tells, due_speaks, due_ordered, due_wrong}
+use Rattle.card.proofs.Answered.{image_is, pool_is, word_is, response_is, damaged-left, damaged-kept, damaged-refused}
+use Rattle.card.proofs.After.{records-after, front_after}
 
-pub never-meet : NeverMeet
-never-meet img sound s t q k l i j = ⊎-elim (λ e. e) (λ z. absurd (go z (lt-or (startAt img s) (startAt img t)))) (same-or s t)
+pub never_meet : NeverMeet
+never_meet img sound s t q k l i j = ⊎_elim (λ e. e) (λ z. absurd (go z (lt-or (start_at img s) (start_at img t)))) (same_or s t)
   where
-    some-s : 0 < bodyAt img s
-    some-s = omega (arith, i .0, i .1)
+    some_s : 0 < body_at img s
+    some_s = omega (arith, i.0, i.1)
 
-    some-t : 0 < bodyAt img t
-    some-t = omega (arith, j .0, j .1)
+    some_t : 0 < body_at img t
+    some_t = omega (arith, j.0, j.1)
 
-    go : (s ≡ t → ⊥) → (startAt img s < startAt img t) ⊎ (startAt img t ≤ startAt img s) → ⊥
-    go z (inl h) = omega (arith, sound .bodies .apart s t k l some-s some-t (omega arith) z, i .1, j .0)
-    go z (inr h) = omega (arith, sound .bodies .apart t s l k some-t some-s h (λ e. z (sym e)), i .0, j .1)
+    go : (s ≡ t → ⊥) → (start_at img s < start_at img t) ⊎ (start_at img t ≤ start_at img s) → ⊥
+    go z (inl h) = omega (arith, sound.bodies.apart s t k l some_s some_t (omega arith) z, i.1, j.0)
+    go z (inr h) = omega (arith, sound.bodies.apart t s l k some_t some_s h (λ e. z (sym e)), i.0, j.1)
 
-pub in-the-pool : InThePool
-in-the-pool img sound s q l i = omega (arith, sound .bodies .inside s l (omega (arith, i .0, i .1)), i .1)
+pub in_the_pool : InThePool
+in_the_pool img sound s q l i = omega (arith, sound.bodies.inside s l (omega (arith, i.0, i.1)), i.1)
 
 -- a body that lies where another image has it, and is as long, is the same bytes
-pub same-bytes : (a b pool : List ℕ) (s : ℕ) → startAt b s ≡ startAt a s → bodyAt b s ≡ bodyAt a s → bodyBytes b pool s ≡ bodyBytes a pool s
-unfolding bodyBytes
-same-bytes a b pool s e f = rw (e, f)
+pub same_bytes : (a b pool : List ℕ) (s : ℕ) → start_at b s ≡ start_at a s → body_at b s ≡ body_at a s → body_bytes b pool s ≡ body_bytes a pool s
+unfolding body_bytes
+same_bytes a b pool s e f = rw (e, f)
 
-free-kind : kindOf freeBytes ≡ 0
-unfolding kindOf
+free-kind : kind_of free_bytes ≡ 0
+unfolding kind_of
 free-kind = refl
 
 -- what a record tells of its body
 pub record Lies (v : ℕ) (old new : List ℕ) : Type 0 where
-  pub start : startOf new ≡ startOf old
-  pub body : bodyOf v new ≡ bodyOf v old
+  pub start : start_of new ≡ start_of old
+  pub body : body_of v new ≡ body_of v old
 
 module _ (img pool c : List ℕ) (sound : Sound img) (fit : PoolFits img pool) where
-  laid : Laid (countOf img) (startAt img) (bodyAt img) (length pool)
+  laid : Laid (count_of img) (start_at img) (body_at img) (length pool)
   laid = lies img pool sound fit
 
   -- .. and so of the body in an image that has such a record
-  pub by-record : (left : List ℕ) (s : ℕ) → versionOf left ≡ versionOf img → Lies (versionOf img) (recAt img s) (recAt left s)
-      → (startAt left s ≡ startAt img s) × (bodyAt left s ≡ bodyAt img s)
-  unfolding startAt bodyAt
-  by-record left s v k = (k .start, rw v (k .body))
+  pub by_record : (left : List ℕ) (s : ℕ) → version_of left ≡ version_of img → Lies (version_of img) (rec_at img s) (rec_at left s)
+      → (start_at left s ≡ start_at img s) × (body_at left s ≡ body_at img s)
+  unfolding start_at body_at
+  by_record left s v k = (k.start, rw v k.body)
 
-  whole : (s : ℕ) → s < countOf img → length (recAt img s) ≡ 64
-  whole s l = length-record img s (sound-within img sound s l .0)
+  whole : (s : ℕ) → s < count_of img → length (rec_at img s) ≡ 64
+  whole s l = length_record img s (sound-within img sound s l).0
 
-  pub lived : (s life x : ℕ) → s < countOf img → Lies (versionOf img) (recAt img s) (cond (eqb s x) (withLife (recAt img s) life) (recAt img s))
-  unfolding bodyOf
+  pub lived : (s life x : ℕ) → s < count_of img → Lies (version_of img) (rec_at img s) (cond (eqb s x) (with_life (rec_at img s) life) (rec_at img s))
+  unfolding body_of
   lived s life x l = go (eqb s x)
     where
-      go : (b : Bool) → Lies (versionOf img) (recAt img s) (cond b (withLife (recAt img s) life) (recAt img s))
+      go : (b : Bool) → Lies (version_of img) (rec_at img s) (cond b (with_life (rec_at img s) life) (rec_at img s))
       go true = record {
-        start = start-kept (recAt img s) life (whole s l);
-        body = unfold bodyOf in rw (kind-kept (recAt img s) life (whole s l), size-kept (recAt img s) life (whole s l));
+        start = start-kept (rec_at img s) life (whole s l);
+        body = unfold body_of in rw (kind-kept (rec_at img s) life (whole s l), size-kept (rec_at img s) life (whole s l));
       }
       go false = record { start = refl; body = refl }
 
   -- moved down or not, each body reads the same before the new one is written
-  ready-reads : (g : Found) (t : ℕ) → t < countOf img
-      → part (placePool g (countOf img) img pool) (startAt (placeImage g (countOf img) img) t) (bodyAt (placeImage g (countOf img) img) t)
-      ≡ part pool (startAt img t) (bodyAt img t)
-  ready-reads (At p) t l = refl
-  ready-reads Nothing t l = go (lt-or 0 (bodyAt img t))
+  ready_reads : (g : Found) (t : ℕ) → t < count_of img
+      → part (place_pool g (count_of img) img pool) (start_at (place_image g (count_of img) img) t) (body_at (place_image g (count_of img) img) t)
+      ≡ part pool (start_at img t) (body_at img t)
+  ready_reads (At p) t l = refl
+  ready_reads Nothing t l = go (lt-or 0 (body_at img t))
     where
-      size : bodyAt (packedImage (countOf img) img) t ≡ bodyAt img t
-      size = after-size (countOf img) img pool (sound-sized img sound) laid t l
+      size : body_at (packed_image (count_of img) img) t ≡ body_at img t
+      size = after-size (count_of img) img pool (sound-sized img sound) laid t l
 
       empty : (x y : List ℕ) (i j n : ℕ) → n ≡ 0 → part x i n ≡ part y j n
       empty x y i j n e = unfold part in rw e
 
-      go : (0 < bodyAt img t) ⊎ (bodyAt img t ≤ 0)
-          → part (packedPool (countOf img) (startAt img) (bodyAt img) pool) (startAt (packedImage (countOf img) img) t)
-          (bodyAt (packedImage (countOf img) img) t)
-          ≡ part pool (startAt img t) (bodyAt img t)
-      go (inl x) = after-reads (countOf img) img pool (sound-sized img sound) laid t l x
-      go (inr x) = rw size (empty _ _ _ _ (bodyAt img t) (omega arith))
+      go : (0 < body_at img t) ⊎ (body_at img t ≤ 0)
+          → part (packed_pool (count_of img) (start_at img) (body_at img) pool) (start_at (packed_image (count_of img) img) t)
+          (body_at (packed_image (count_of img) img) t)
+          ≡ part pool (start_at img t) (body_at img t)
+      go (inl x) = after-reads (count_of img) img pool (sound-sized img sound) laid t l x
+      go (inr x) = rw size (empty _ _ _ _ (body_at img t) (omega arith))
 
-  pub ready-long : (g : Found) → length (placePool g (countOf img) img pool) ≡ length pool
-  ready-long (At p) = refl
-  ready-long Nothing = length-pool (countOf img) (startAt img) (bodyAt img) pool laid
+  pub ready_long : (g : Found) → length (place_pool g (count_of img) img pool) ≡ length pool
+  ready_long (At p) = refl
+  ready_long Nothing = length-pool (count_of img) (start_at img) (body_at img) pool laid
 
   -- CREATE of a file in slot s
   module _ (s : ℕ) (h : Head) (name rule : List ℕ) (k : Creates img s h name rule) where
     abbrev new : List ℕ
     new = made img s h name rule
 
-    pub version-new : versionOf new ≡ versionOf img
-    version-new = same-version img new (front-made img s h name rule sound k)
+    pub version_new : version_of new ≡ version_of img
+    version_new = same_version img new (front_made img s h name rule sound k)
 
     -- with a body: where, and of how many bytes
-    module _ (some : 0 < newBody (versionOf img) h) where
+    module _ (some : 0 < new_body (version_of img) h) where
       abbrev m : ℕ
-      m = newBody (versionOf img) h
+      m = new_body (version_of img) h
 
       abbrev ready : List ℕ
-      ready = placeImage (newGap img h) (countOf img) img
+      ready = place_image (new_gap img h) (count_of img) img
 
       abbrev at : ℕ
-      at = placeAt (newGap img h) (countOf img) img
+      at = place_at (new_gap img h) (count_of img) img
 
       abbrev moved : List ℕ
-      moved = placePool (newGap img h) (countOf img) img pool
+      moved = place_pool (new_gap img h) (count_of img) img pool
 
-      long : length pool ≡ poolLength img
-      long = fit (new-bodies (versionOf img) h some)
+      long : length pool ≡ pool_length img
+      long = fit (new_bodies (version_of img) h some)
 
-      not-zero : eqb (newBody (versionOf img) h) 0 ≡ false
-      not-zero = ne-eqb (newBody (versionOf img) h) 0 (λ e. omega arith)
+      not-zero : eqb (new_body (version_of img) h) 0 ≡ false
+      not-zero = ne_eqb (new_body (version_of img) h) 0 (λ e. omega arith)
 
-      pub pool-new : filled img pool h ≡ splice moved at (replicate m 0xFF)
+      pub pool_new : filled img pool h ≡ splice moved at (replicate m 0xFF)
       unfolding filled
-      pool-new = rw not-zero
+      pool_new = rw not-zero
 
       pub room : at + m ≤ length moved
-      room = omega (arith, ready-long (newGap img h), long, place-inside img s h name rule sound k some)
+      room = omega (arith, ready_long (new_gap img h), long, place_inside img s h name rule sound k some)
 
-      laid-moved : Laid (countOf img) (startAt ready) (bodyAt ready) (length moved)
+      laid-moved : Laid (count_of img) (start_at ready) (body_at ready) (length moved)
       laid-moved =
-          rw (ready-long (newGap img h))
-          (place-laid (countOf img) m img pool (sound-sized img sound) laid (rw long (body-fits img s h name rule sound k)) (newGap img h))
+          rw (ready_long (new_gap img h))
+          (place-laid (count_of img) m img pool (sound-sized img sound) laid (rw long (body-fits img s h name rule sound k)) (new_gap img h))
 
-      other-record : (t : ℕ) → t < countOf img → (t ≡ s → ⊥) → recAt new t ≡ recAt ready t
-      unfolding otherRecord
+      other-record : (t : ℕ) → t < count_of img → (t ≡ s → ⊥) → rec_at new t ≡ rec_at ready t
+      unfolding other_record
       other-record t l z =
-          other-made img s h name rule sound k t l z ∙ rw not-zero (sym (kept-record img sound (newGap img h) t l))
+          other-made img s h name rule sound k t l z ∙ rw not-zero (sym (kept_record_lem img sound (new_gap img h) t l))
 
-      pub other-lies : (t : ℕ) → t < countOf img → (t ≡ s → ⊥) → (startAt new t ≡ startAt ready t) × (bodyAt new t ≡ bodyAt ready t)
-      unfolding startAt bodyAt
-      other-lies t l z = (
-        ap startOf (other-record t l z),
-        rw (version-new, version-ready img s h name rule sound k some) (ap (bodyOf (versionOf img)) (other-record t l z)),
+      pub other_lies : (t : ℕ) → t < count_of img → (t ≡ s → ⊥) → (start_at new t ≡ start_at ready t) × (body_at new t ≡ body_at ready t)
+      unfolding start_at body_at
+      other_lies t l z = (
+        ap start_of (other-record t l z),
+        rw (version_new, version_ready img s h name rule sound k some) (ap (body_of (version_of img)) (other-record t l z)),
       )
 
-      pub other-reads : (t : ℕ) → t < countOf img → (t ≡ s → ⊥) → bodyBytes new (filled img pool h) t ≡ bodyBytes img pool t
-      unfolding bodyBytes
+      pub other-reads : (t : ℕ) → t < count_of img → (t ≡ s → ⊥) → body_bytes new (filled img pool h) t ≡ body_bytes img pool t
+      unfolding body_bytes
       other-reads t l z =
-          rw (other-lies t l z .0, other-lies t l z .1, pool-new)
-          (other-new (countOf img) (startAt ready) (bodyAt ready) moved laid-moved at m room (place-clear img s h name rule sound k some) t l
-          ∙ ready-reads (newGap img h) t l)
+          rw ((other_lies t l z).0, (other_lies t l z).1, pool_new)
+          (other_new (count_of img) (start_at ready) (body_at ready) moved laid-moved at m room (place-clear img s h name rule sound k some) t l
+          ∙ ready_reads (new_gap img h) t l)
 
-      new-record : recAt new s ≡ withStart (recordBytes (versionOf img) h name rule) at
-      unfolding newBytes
-      new-record = record-made img s h name rule sound k ∙ rw not-zero
+      new-record : rec_at new s ≡ with_start (record_bytes (version_of img) h name rule) at
+      unfolding new_bytes
+      new-record = record_made img s h name rule sound k ∙ rw not-zero
 
-      wholly : length (recordBytes (versionOf img) h name rule) ≡ 64
-      wholly = length-made (versionOf img) h name rule (k .good .name-short) (fits-short (versionOf img) (h .form) rule (k .good .formed))
+      wholly : length (record_bytes (version_of img) h name rule) ≡ 64
+      wholly = length-made (version_of img) h name rule k.good.name-short (fits-short (version_of img) h.form rule k.good.formed)
 
-      pub new-lies : (startAt new s ≡ at) × (bodyAt new s ≡ m)
-      unfolding startAt bodyAt bodyOf newBody
-      new-lies = (
-        ap startOf new-record ∙ start-set (recordBytes (versionOf img) h name rule) at wholly,
+      pub new_lies : (start_at new s ≡ at) × (body_at new s ≡ m)
+      unfolding start_at body_at body_of new_body
+      new_lies = (
+        ap start_of new-record ∙ start-set (record_bytes (version_of img) h name rule) at wholly,
         rw (
-          version-new,
+          version_new,
           new-record,
-          begun.kind-kept (recordBytes (versionOf img) h name rule) at wholly,
-          begun.size-kept (recordBytes (versionOf img) h name rule) at wholly,
-          kind-made (versionOf img) h name rule,
-          size-made (versionOf img) h name rule,
+          begun.kind-kept (record_bytes (version_of img) h name rule) at wholly,
+          begun.size-kept (record_bytes (version_of img) h name rule) at wholly,
+          kind-made (version_of img) h name rule,
+          size-made (version_of img) h name rule,
         ),
       )
 
-      pub new-ff : bodyBytes new (filled img pool h) s ≡ replicate m 0xFF
-      unfolding bodyBytes
-      new-ff = rw (new-lies .0, new-lies .1, pool-new)
-          (new-reads (countOf img) (startAt ready) (bodyAt ready) moved laid-moved at m room)
+      pub new_ff : body_bytes new (filled img pool h) s ≡ replicate m 0xFF
+      unfolding body_bytes
+      new_ff = rw (new_lies.0, new_lies.1, pool_new)
+          (new_reads (count_of img) (start_at ready) (body_at ready) moved laid-moved at m room)
 
   -- CREATE leaves every body of another file as it was, and a bodiless file leaves the pool
-  create-reads : (s : ℕ) (h : Head) (name rule : List ℕ) → Creates img s h name rule → (t : ℕ) → t < countOf img → (t ≡ s → ⊥)
-      → bodyBytes (made img s h name rule) (filled img pool h) t ≡ bodyBytes img pool t
-  create-reads s h name rule k t l z = go (same-or (newBody (versionOf img) h) 0)
+  create-reads : (s : ℕ) (h : Head) (name rule : List ℕ) → Creates img s h name rule → (t : ℕ) → t < count_of img → (t ≡ s → ⊥)
+      → body_bytes (made img s h name rule) (filled img pool h) t ≡ body_bytes img pool t
+  create-reads s h name rule k t l z = go (same_or (new_body (version_of img) h) 0)
     where
-      none : newBody (versionOf img) h ≡ 0 → recAt (made img s h name rule) t ≡ recAt img t
-      none e = other-made img s h name rule sound k t l z ∙ (unfold otherRecord in rw (eq-eqb (newBody (versionOf img) h) 0 e))
+      none : new_body (version_of img) h ≡ 0 → rec_at (made img s h name rule) t ≡ rec_at img t
+      none e = other-made img s h name rule sound k t l z ∙ (unfold other_record in rw (eq-eqb (new_body (version_of img) h) 0 e))
 
-      go : (newBody (versionOf img) h ≡ 0) ⊎ (newBody (versionOf img) h ≡ 0 → ⊥)
-          → bodyBytes (made img s h name rule) (filled img pool h) t ≡ bodyBytes img pool t
+      go : (new_body (version_of img) h ≡ 0) ⊎ (new_body (version_of img) h ≡ 0 → ⊥)
+          → body_bytes (made img s h name rule) (filled img pool h) t ≡ body_bytes img pool t
       go (inl e) =
-          let i = by-record (made img s h name rule) t (version-new s h name rule k)
-          (record { start = ap startOf (none e); body = ap (bodyOf (versionOf img)) (none e) }) in
-          same-bytes img (made img s h name rule) (filled img pool h) t (i .0) (i .1)
-          ∙ ap (λ (q : List ℕ). bodyBytes img q t) (unfold filled in rw (eq-eqb (newBody (versionOf img) h) 0 e))
+          let i = by_record (made img s h name rule) t (version_new s h name rule k)
+          (record { start = ap start_of (none e); body = ap (body_of (version_of img)) (none e) }) in
+          same_bytes img (made img s h name rule) (filled img pool h) t i.0 i.1
+          ∙ ap (λ (q : List ℕ). body_bytes img q t) (unfold filled in rw (eq-eqb (new_body (version_of img) h) 0 e))
       go (inr y) = other-reads s h name rule k (positive y) t l z
         where
-          positive : (newBody (versionOf img) h ≡ 0 → ⊥) → 0 < newBody (versionOf img) h
-          positive f = ⊎-elim (λ x. x) (λ x. absurd (f (omega arith))) (lt-or 0 (newBody (versionOf img) h))
+          positive : (new_body (version_of img) h ≡ 0 → ⊥) → 0 < new_body (version_of img) h
+          positive f = ⊎_elim (λ x. x) (λ x. absurd (f (omega arith))) (lt-or 0 (new_body (version_of img) h))
 
   -- the file in slot s is the one that the verdict updates
   abbrev pub Updates : Verdict → ℕ → Type 0
@@ -254,44 +254,44 @@ module _ (img pool c : List ℕ) (sound : Sound img) (fit : PoolFits img pool) w
   Updates (Delete x) s = ⊥
   Updates (SetLife x life) s = ⊥
   Updates (Read at n) s = ⊥
-  Updates (Update at) s = currentEfOf img ≡ s
+  Updates (Update at) s = current_ef_of img ≡ s
 
   -- under one verdict: a file that lives on and is not updated reads the same
-  pub verdict-reads : (v : Verdict) → Tells img c v → (s : ℕ) → s < countOf img → (kindOf (recAt img s) ≡ 0 → ⊥)
-      → (kindOf (recAt (appliedOf img c v) s) ≡ 0 → ⊥) → (Updates v s → ⊥)
-      → bodyBytes (appliedOf img c v) (pooledOf img pool c v) s ≡ bodyBytes img pool s
-  verdict-reads (Refuse w) t s l used lives other = refl
-  verdict-reads (Read at n) t s l used lives other = refl
-  verdict-reads (Select d e w) t s l used lives other =
+  pub verdict_reads : (v : Verdict) → Tells img c v → (s : ℕ) → s < count_of img → (kind_of (rec_at img s) ≡ 0 → ⊥)
+      → (kind_of (rec_at (applied_of img c v) s) ≡ 0 → ⊥) → (Updates v s → ⊥)
+      → body_bytes (applied_of img c v) (pooled_of img pool c v) s ≡ body_bytes img pool s
+  verdict_reads (Refuse w) t s l used lives other = refl
+  verdict_reads (Read at n) t s l used lives other = refl
+  verdict_reads (Select d e w) t s l used lives other =
       let r = records-after img c sound (Select d e w) t s l in
-      let i = by-record (appliedOf img c (Select d e w)) s (same-version img _ (front-after img c sound (Select d e w) t))
-      (record { start = ap startOf r; body = ap (bodyOf (versionOf img)) r }) in
-      same-bytes img (appliedOf img c (Select d e w)) pool s (i .0) (i .1)
-  verdict-reads (SetLife x life) t s l used lives other =
+      let i = by_record (applied_of img c (Select d e w)) s (same_version img _ (front_after img c sound (Select d e w) t))
+      (record { start = ap start_of r; body = ap (body_of (version_of img)) r }) in
+      same_bytes img (applied_of img c (Select d e w)) pool s i.0 i.1
+  verdict_reads (SetLife x life) t s l used lives other =
       let r = records-after img c sound (SetLife x life) t s l in
-      let i = by-record (appliedOf img c (SetLife x life)) s (same-version img _ (front-after img c sound (SetLife x life) t))
+      let i = by_record (applied_of img c (SetLife x life)) s (same_version img _ (front_after img c sound (SetLife x life) t))
       (rw r (lived s life x l)) in
-      same-bytes img (appliedOf img c (SetLife x life)) pool s (i .0) (i .1)
-  verdict-reads (Delete x) t s l used lives other = go (atOrBeneath (viewAt img) x s) refl
+      same_bytes img (applied_of img c (SetLife x life)) pool s i.0 i.1
+  verdict_reads (Delete x) t s l used lives other = go (at_or_beneath (view_at img) x s) refl
     where
-      r : recAt (appliedOf img c (Delete x)) s ≡ recordAfter img c (Delete x) s
+      r : rec_at (applied_of img c (Delete x)) s ≡ record_after img c (Delete x) s
       r = records-after img c sound (Delete x) t s l
 
-      go : (b : Bool) → atOrBeneath (viewAt img) x s ≡ b
-          → bodyBytes (appliedOf img c (Delete x)) (pooledOf img pool c (Delete x)) s ≡ bodyBytes img pool s
-      go true e = absurd (lives (ap kindOf (r ∙ rw e) ∙ free-kind))
+      go : (b : Bool) → at_or_beneath (view_at img) x s ≡ b
+          → body_bytes (applied_of img c (Delete x)) (pooled_of img pool c (Delete x)) s ≡ body_bytes img pool s
+      go true e = absurd (lives (ap kind_of (r ∙ rw e) ∙ free-kind))
       go false e =
-          let same : recAt (appliedOf img c (Delete x)) s ≡ recAt img s = r ∙ rw e in
-          let i = by-record (appliedOf img c (Delete x)) s (same-version img _ (front-after img c sound (Delete x) t))
-          (record { start = ap startOf same; body = ap (bodyOf (versionOf img)) same }) in
-          same-bytes img (appliedOf img c (Delete x)) (pooledOf img pool c (Delete x)) s (i .0) (i .1)
-          ∙ (unfold bodyBytes wiped in
-          wiped-reads (countOf img) (startAt img) (bodyAt img) pool laid (atOrBeneath (viewAt img) x) s l e)
-  verdict-reads (Create x) t s l used lives other =
-      create-reads (x .slot) (x .head) _ _ (t .1) s l
-      (λ e. used (ap (λ (i : ℕ). kindOf (recAt img i)) e ∙ slot-free img (x .slot) (x .head) _ _ sound (t .1)))
-  verdict-reads (Update at) t s l used lives other =
-      unfold bodyBytes in
-      rw (t .1 .here)
-      (other-updated (countOf img) (startAt img) (bodyAt img) pool laid (currentEfOf img) (placeOf c) (sentData c)
-      (sound .current .ef-low (t .1 .some)) (t .1 .within) s l (λ e. other (sym e)))
+          let same : rec_at (applied_of img c (Delete x)) s ≡ rec_at img s = r ∙ rw e in
+          let i = by_record (applied_of img c (Delete x)) s (same_version img _ (front_after img c sound (Delete x) t))
+          (record { start = ap start_of same; body = ap (body_of (version_of img)) same }) in
+          same_bytes img (applied_of img c (Delete x)) (pooled_of img pool c (Delete x)) s i.0 i.1
+          ∙ (unfold body_bytes wiped in
+          wiped-reads (count_of img) (start_at img) (body_at img) pool laid (at_or_beneath (view_at img) x) s l e)
+  verdict_reads (Create x) t s l used lives other =
+      create-reads x.slot x.head _ _ t.1 s l
+      (λ e. used (ap (λ (i : ℕ). kind_of (rec_at img i)) e ∙ slot-free img x.slot x.head _ _ sound t.1))
+  verdict_reads (Update at) t s l used lives other =
+      unfold body_bytes in
+      rw t.1.here
+      (other_updated (count_of img) (start_at img) (body_at img) pool laid (current_ef_of img) (place_of c) (sent_data c)
+      (sound.current.ef-low t.1.some) t.1.within s l (λ e. other (sym e)))

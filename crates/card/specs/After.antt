@@ -1,63 +1,60 @@
 -- Which records and which header bytes an effect changes, and how (demand 2: that effect and no other). A
 -- record that isn't named here is as it was.
-use Prim.Native.Nat.{ℕ}
-use mathlib.Core.Bool.{cond}
-use mathlib.Core.List.{List, _++_}
-use lib.Dec.{eqb}
-use Rattle·laws.specs.Lists.{part}
-use Rattle·numbers.specs.Numbers.{be16}
-use Rattle·rules.specs.Descriptor.{df}
-use Rattle·template.specs.Objects.{bytesAt}
-use Rattle·image.specs.Layout.{recAt, withLife, freeBytes, currentDfOf, currentEfOf, none}
-use Rattle·sound.specs.Table.{viewAt}
-use Rattle·sound.specs.Kinship.{atOrBeneath}
-use Rattle·sound.specs.Effects.{newBytes, otherRecord}
-use Rattle·verdict.specs.declared.Verdict.{Verdict}
-use Rattle·verdict.specs.declared.Verdict.the-variants.{Refuse, Select, Create, Delete, SetLife, Read, Update}
-use Rattle·verdict.specs.Applied.{sentData}
+use Rattle.std.specs.Prelude.{ℕ, cond, List, ◌++◌, eqb}
+use Rattle.laws.specs.Lists.{part}
+use Rattle.numbers.specs.Numbers.{be16}
+use Rattle.rules.specs.Descriptor.{df}
+use Rattle.template.specs.Objects.{bytes_at}
+use Rattle.image.specs.Layout.{rec_at, with_life, free_bytes, current_df_of, current_ef_of, none}
+use Rattle.sound.specs.Table.{view_at}
+use Rattle.sound.specs.Kinship.{at_or_beneath}
+use Rattle.sound.specs.Effects.{new_bytes, other_record}
+use Rattle.verdict.specs.declared.Verdict.{Verdict}
+use Rattle.verdict.specs.declared.Verdict.TheVariants.{Refuse, Select, Create, Delete, SetLife, Read, Update}
+use Rattle.verdict.specs.Applied.{sent_data}
 
 -- record t after a verdict on the command c
-abbrev pub recordAfter : List ℕ → List ℕ → Verdict → ℕ → List ℕ
-recordAfter img c (Refuse word) t = recAt img t
-recordAfter img c (Select d e word) t = recAt img t
+abbrev pub record_after : List ℕ → List ℕ → Verdict → ℕ → List ℕ
+record_after img c (Refuse word) t = rec_at img t
+record_after img c (Select d e word) t = rec_at img t
 -- CREATE: the record in the new slot; of the others only the start of a body may differ, where bodies are moved down
-recordAfter img c (Create x) t =
-    cond (eqb t (x .slot)) (newBytes img (x .head) (bytesAt (sentData c) (x .name)) (bytesAt (sentData c) (x .rule)))
-    (otherRecord img (x .head) t)
+record_after img c (Create x) t =
+    cond (eqb t x.slot) (new_bytes img x.head (bytes_at (sent_data c) x.name) (bytes_at (sent_data c) x.rule))
+    (other_record img x.head t)
 -- DELETE: the file and all beneath it become zero records
-recordAfter img c (Delete s) t = cond (atOrBeneath (viewAt img) s t) freeBytes (recAt img t)
+record_after img c (Delete s) t = cond (at_or_beneath (view_at img) s t) free_bytes (rec_at img t)
 -- a life-cycle command: one byte of one record
-recordAfter img c (SetLife s life) t = cond (eqb t s) (withLife (recAt img t) life) (recAt img t)
+record_after img c (SetLife s life) t = cond (eqb t s) (with_life (rec_at img t) life) (rec_at img t)
 -- READ and UPDATE: none
-recordAfter img c (Read at n) t = recAt img t
-recordAfter img c (Update at) t = recAt img t
+record_after img c (Read at n) t = rec_at img t
+record_after img c (Update at) t = rec_at img t
 
 -- the current DF and the current EF afterwards
-abbrev pub dfAfter : List ℕ → Verdict → ℕ
-dfAfter img (Refuse word) = currentDfOf img
-dfAfter img (Select d e word) = d
-dfAfter img (Create x) = cond (eqb (x .head .kind) df) (x .slot) (currentDfOf img)
-dfAfter img (Delete s) = currentDfOf img
-dfAfter img (SetLife s life) = currentDfOf img
-dfAfter img (Read at n) = currentDfOf img
-dfAfter img (Update at) = currentDfOf img
+abbrev pub df_after : List ℕ → Verdict → ℕ
+df_after img (Refuse word) = current_df_of img
+df_after img (Select d e word) = d
+df_after img (Create x) = cond (eqb x.head.kind df) x.slot (current_df_of img)
+df_after img (Delete s) = current_df_of img
+df_after img (SetLife s life) = current_df_of img
+df_after img (Read at n) = current_df_of img
+df_after img (Update at) = current_df_of img
 
-abbrev pub efAfter : List ℕ → Verdict → ℕ
-efAfter img (Refuse word) = currentEfOf img
-efAfter img (Select d e word) = e
-efAfter img (Create x) = cond (eqb (x .head .kind) df) none (x .slot)
-efAfter img (Delete s) = cond (eqb (currentEfOf img) s) none (currentEfOf img)
-efAfter img (SetLife s life) = currentEfOf img
-efAfter img (Read at n) = currentEfOf img
-efAfter img (Update at) = currentEfOf img
+abbrev pub ef_after : List ℕ → Verdict → ℕ
+ef_after img (Refuse word) = current_ef_of img
+ef_after img (Select d e word) = e
+ef_after img (Create x) = cond (eqb x.head.kind df) none x.slot
+ef_after img (Delete s) = cond (eqb (current_ef_of img) s) none (current_ef_of img)
+ef_after img (SetLife s life) = current_ef_of img
+ef_after img (Read at n) = current_ef_of img
+ef_after img (Update at) = current_ef_of img
 
 -- the four header bytes that tell what is current
-abbrev pub currentAfter : List ℕ → Verdict → List ℕ
-currentAfter img (Refuse word) = part img 7 4
-currentAfter img (Select d e word) = be16 d ++ be16 e
-currentAfter img (Create x) =
-    be16 (cond (eqb (x .head .kind) df) (x .slot) (currentDfOf img)) ++ be16 (cond (eqb (x .head .kind) df) none (x .slot))
-currentAfter img (Delete s) = be16 (currentDfOf img) ++ be16 (cond (eqb (currentEfOf img) s) none (currentEfOf img))
-currentAfter img (SetLife s life) = part img 7 4
-currentAfter img (Read at n) = part img 7 4
-currentAfter img (Update at) = part img 7 4
+abbrev pub current_after : List ℕ → Verdict → List ℕ
+current_after img (Refuse word) = part img 7 4
+current_after img (Select d e word) = be16 d ++ be16 e
+current_after img (Create x) =
+    be16 (cond (eqb x.head.kind df) x.slot (current_df_of img)) ++ be16 (cond (eqb x.head.kind df) none x.slot)
+current_after img (Delete s) = be16 (current_df_of img) ++ be16 (cond (eqb (current_ef_of img) s) none (current_ef_of img))
+current_after img (SetLife s life) = part img 7 4
+current_after img (Read at n) = part img 7 4
+current_after img (Update at) = part img 7 4

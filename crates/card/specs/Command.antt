@@ -1,108 +1,103 @@
 -- What one call gives, for any image, pool, command, state and response: the reply, and every byte of the image, of the pool and of the
 -- response afterwards. `lent` is how many bytes the response has.
-use Prim.Native.Nat.{ℕ, _+_, _<_}
-use mathlib.Core.Path.{_≡_}
-use mathlib.Core.Bool.{Bool, true, cond}
-use mathlib.Core.List.{List}
-use lib.Dec.{eqb, leb}
-use lib.ListN.{length}
-use Rattle·laws.specs.Lists.{splice}
-use Rattle·laws.specs.Tests.{implies}
-use Rattle·image.specs.Layout.{hasBodies, longestRule, versionOf}
-use Rattle·sound.specs.Sound.{soundb, poolLength}
-use Rattle·verdict.specs.declared.State.{State}
-use Rattle·verdict.specs.declared.Verdict.{Verdict}
-use Rattle·verdict.specs.declared.Verdict.the-variants.{Refuse}
-use Rattle·verdict.specs.Applied.{wordOf, appliedOf, pooledOf}
-use Rattle·access.specs.Decision.{decisionNumber}
-use Rattle·judge.specs.Judge.{judgeOf}
-use Rattle·judge_security.specs.Security.{denialOf}
-use Rattle·effect.specs.Told.{told}
-use Rattle·card·specs.specs.declared.Reply.{Reply}
-use Rattle·card·specs.specs.declared.Reply.the-variants.{Word, Damaged, Short, WrongPool}
+use Rattle.std.specs.Prelude.{ℕ, ◌+◌, ◌<◌, ◌≡◌, Bool, true, cond, List, eqb, leb, length}
+use Rattle.laws.specs.Lists.{splice}
+use Rattle.laws.specs.Tests.{implies}
+use Rattle.image.specs.Layout.{has_bodies, longest_rule, version_of}
+use Rattle.sound.specs.Sound.{soundb, pool_length}
+use Rattle.verdict.specs.declared.State.{State}
+use Rattle.verdict.specs.declared.Verdict.{Verdict}
+use Rattle.verdict.specs.declared.Verdict.TheVariants.{Refuse}
+use Rattle.verdict.specs.Applied.{word_of, applied_of, pooled_of}
+use Rattle.access.specs.Decision.{decision_number}
+use Rattle.judge.specs.Judge.{judge_of}
+use Rattle.judge_security.specs.Security.{denial_of}
+use Rattle.effect.specs.Told.{told}
+use Rattle.card.specs.declared.Reply.{Reply}
+use Rattle.card.specs.declared.Reply.TheVariants.{Word, Damaged, Short, WrongPool}
 
 -- 01's number and word for each reply, how many bytes were told, and what a security refusal lacks: 0 and the word of the command; 1 and
 -- 0000 where the image isn't sound; 5 and 0000 where the response is too short (02 Ticket 2); 6 and 0000 where the pool has a wrong length
 -- (02 Ticket 4)
-abbrev pub answerNumber : Reply → ℕ
-answerNumber (Word w n d) = 0
-answerNumber Damaged = 1
-answerNumber Short = 5
-answerNumber WrongPool = 6
+abbrev pub answer_number : Reply → ℕ
+answer_number (Word w n d) = 0
+answer_number Damaged = 1
+answer_number Short = 5
+answer_number WrongPool = 6
 
-abbrev pub answerWord : Reply → ℕ
-answerWord (Word w n d) = w
-answerWord Damaged = 0x0000
-answerWord Short = 0x0000
-answerWord WrongPool = 0x0000
+abbrev pub answer_word : Reply → ℕ
+answer_word (Word w n d) = w
+answer_word Damaged = 0x0000
+answer_word Short = 0x0000
+answer_word WrongPool = 0x0000
 
-abbrev pub answerTold : Reply → ℕ
-answerTold (Word w n d) = n
-answerTold Damaged = 0
-answerTold Short = 0
-answerTold WrongPool = 0
+abbrev pub answer_told : Reply → ℕ
+answer_told (Word w n d) = n
+answer_told Damaged = 0
+answer_told Short = 0
+answer_told WrongPool = 0
 
 -- 02's number on security (02 Ticket 6): 0 no security refusal, 1 lacking, 2 closed
-abbrev pub answerSecurity : Reply → ℕ
-answerSecurity (Word w n d) = decisionNumber d
-answerSecurity Damaged = 0
-answerSecurity Short = 0
-answerSecurity WrongPool = 0
+abbrev pub answer_security : Reply → ℕ
+answer_security (Word w n d) = decision_number d
+answer_security Damaged = 0
+answer_security Short = 0
+answer_security WrongPool = 0
 
 -- the check before all others of a command: where files have bodies, the pool is as long as the root's total; else any pool will do
-unfoldable pub poolFits : List ℕ → List ℕ → Bool
-poolFits img pool = implies (hasBodies (versionOf img)) (eqb (length pool) (poolLength img))
+unfoldable pub pool_fits : List ℕ → List ℕ → Bool
+pool_fits img pool = implies (has_bodies (version_of img)) (eqb (length pool) (pool_length img))
 
 -- .. which is to say
 abbrev pub PoolFits : List ℕ → List ℕ → Type 0
-PoolFits img pool = hasBodies (versionOf img) ≡ true → length pool ≡ poolLength img
+PoolFits img pool = has_bodies (version_of img) ≡ true → length pool ≡ pool_length img
 
 -- the last check: what the verdict tells fits the response
 unfoldable pub fits : List ℕ → List ℕ → List ℕ → State → ℕ → Bool
-fits img pool c st lent = leb (length (told img pool c (judgeOf img pool c st))) lent
+fits img pool c st lent = leb (length (told img pool c (judge_of img pool c st))) lent
 
 -- the verdict that stands: where one of these two checks fails, a refusal without a word
-unfoldable pub dueOf : List ℕ → List ℕ → List ℕ → State → ℕ → Verdict
-dueOf img pool c st lent =
-    cond (poolFits img pool) (cond (fits img pool c st lent) (judgeOf img pool c st) (Refuse 0x0000)) (Refuse 0x0000)
+unfoldable pub due_of : List ℕ → List ℕ → List ℕ → State → ℕ → Verdict
+due_of img pool c st lent =
+    cond (pool_fits img pool) (cond (fits img pool c st lent) (judge_of img pool c st) (Refuse 0x0000)) (Refuse 0x0000)
 
 -- the longest data on a card of a version: a template, or what one READ asks for
-unfoldable pub longestAnswer : ℕ → ℕ
-longestAnswer v = cond (hasBodies v) 256 (37 + longestRule v)
+unfoldable pub longest_answer : ℕ → ℕ
+longest_answer v = cond (has_bodies v) 256 (37 + longest_rule v)
 
 -- soundness first, then the pool's length; then the command is judged, tells, and has its effect
-unfoldable pub replyOf : List ℕ → List ℕ → List ℕ → State → ℕ → Reply
-replyOf img pool c st lent =
-    let due : Verdict = dueOf img pool c st lent in
+unfoldable pub reply_of : List ℕ → List ℕ → List ℕ → State → ℕ → Reply
+reply_of img pool c st lent =
+    let due : Verdict = due_of img pool c st lent in
     cond (soundb img)
-    (cond (poolFits img pool)
+    (cond (pool_fits img pool)
     (cond (fits img pool c st lent)
-    (Word (wordOf due) (length (told img pool c due)) (denialOf img pool c (st .sets) due)) Short) WrongPool)
+    (Word (word_of due) (length (told img pool c due)) (denial_of img pool c st.sets due)) Short) WrongPool)
     Damaged
 
-unfoldable pub imageOf : List ℕ → List ℕ → List ℕ → State → ℕ → List ℕ
-imageOf img pool c st lent = cond (soundb img) (appliedOf img c (dueOf img pool c st lent)) img
+unfoldable pub image_of : List ℕ → List ℕ → List ℕ → State → ℕ → List ℕ
+image_of img pool c st lent = cond (soundb img) (applied_of img c (due_of img pool c st lent)) img
 
-unfoldable pub poolOf : List ℕ → List ℕ → List ℕ → State → ℕ → List ℕ
-poolOf img pool c st lent = cond (soundb img) (pooledOf img pool c (dueOf img pool c st lent)) pool
+unfoldable pub pool_of : List ℕ → List ℕ → List ℕ → State → ℕ → List ℕ
+pool_of img pool c st lent = cond (soundb img) (pooled_of img pool c (due_of img pool c st lent)) pool
 
 -- what is told stands at the start of the response; the bytes past it stay
-unfoldable pub responseOf : List ℕ → List ℕ → List ℕ → State → List ℕ → List ℕ
-responseOf img pool c st response =
-    cond (soundb img) (splice response 0 (told img pool c (dueOf img pool c st (length response)))) response
+unfoldable pub response_of : List ℕ → List ℕ → List ℕ → State → List ℕ → List ℕ
+response_of img pool c st response =
+    cond (soundb img) (splice response 0 (told img pool c (due_of img pool c st (length response)))) response
 
 -- WHAT A CALL PROMISES: the reply, with its number, its word, how many bytes were told and what a security refusal lacks; every byte of
 -- image, pool and response afterwards
 pub record CommandPromises (img pool c : List ℕ) (st : State) (response : List ℕ) (r : Reply) (left kept answered : List ℕ) : Type 0 where
-  pub reply : r ≡ replyOf img pool c st (length response)
-  pub image : left ≡ imageOf img pool c st (length response)
-  pub pool-is : kept ≡ poolOf img pool c st (length response)
-  pub response-is : answered ≡ responseOf img pool c st response
-  pub number : answerNumber r
-      ≡ cond (soundb img) (cond (poolFits img pool) (cond (fits img pool c st (length response)) 0 5) 6) 1
-  pub word : answerWord r ≡ cond (soundb img) (wordOf (dueOf img pool c st (length response))) 0x0000
-  pub bytes : answerTold r ≡ cond (soundb img) (length (told img pool c (dueOf img pool c st (length response)))) 0
-  pub security : answerSecurity r
-      ≡ cond (soundb img) (decisionNumber (denialOf img pool c (st .sets) (dueOf img pool c st (length response)))) 0
+  pub reply : r ≡ reply_of img pool c st (length response)
+  pub image : left ≡ image_of img pool c st (length response)
+  pub pool_is : kept ≡ pool_of img pool c st (length response)
+  pub response_is : answered ≡ response_of img pool c st response
+  pub number : answer_number r
+      ≡ cond (soundb img) (cond (pool_fits img pool) (cond (fits img pool c st (length response)) 0 5) 6) 1
+  pub word : answer_word r ≡ cond (soundb img) (word_of (due_of img pool c st (length response))) 0x0000
+  pub bytes : answer_told r ≡ cond (soundb img) (length (told img pool c (due_of img pool c st (length response)))) 0
+  pub security : answer_security r
+      ≡ cond (soundb img) (decision_number (denial_of img pool c st.sets (due_of img pool c st (length response)))) 0
   -- so few that every number holds them
-  pub few : answerTold r < 65536
+  pub few : answer_told r < 65536

@@ -1,35 +1,31 @@
 -- Where the rule that decides on a file stands, as a public call tells it (02 Ticket 7), for any image, pool and slot.
-use Prim.Native.Nat.{ℕ}
-use mathlib.Core.Path.{_≡_}
-use mathlib.Core.Bool.{cond, _&&_, not}
-use mathlib.Core.List.{List}
-use lib.Dec.{eqb, ltb}
-use Rattle·image.specs.Layout.{countOf, recAt, kindOf}
-use Rattle·sound.specs.Sound.{soundb}
-use Rattle·referred.specs.declared.Place.{Place}
-use Rattle·referred.specs.declared.Place.the-variants.{Nowhere}
-use Rattle·referred.specs.Deciding.{placeOf, Bounded, PlaceLies}
-use Rattle·card·specs.specs.declared.Ruling.{Ruling}
-use Rattle·card·specs.specs.declared.Ruling.the-variants.{At, Damaged, WrongPool}
-use Rattle·card·specs.specs.Command.{poolFits}
+use Rattle.std.specs.Prelude.{ℕ, ◌≡◌, cond, ◌&&◌, not, List, eqb, ltb}
+use Rattle.image.specs.Layout.{count_of, rec_at, kind_of}
+use Rattle.sound.specs.Sound.{soundb}
+use Rattle.referred.specs.declared.Place.{Place}
+use Rattle.referred.specs.declared.Place.TheVariants.{Nowhere}
+use Rattle.referred.specs.Deciding.{place_of, Bounded, PlaceLies}
+use Rattle.card.specs.declared.Ruling.{Ruling}
+use Rattle.card.specs.declared.Ruling.TheVariants.{At, Damaged, WrongPool}
+use Rattle.card.specs.Command.{pool_fits}
 
 -- 1 where the image isn't sound, 6 where the pool has a wrong length; else where the rule of the file in slot s stands, and nowhere where
 -- that slot is past the last or free
-unfoldable pub rulingOf : List ℕ → List ℕ → ℕ → Ruling
-rulingOf img pool s =
+unfoldable pub ruling_of : List ℕ → List ℕ → ℕ → Ruling
+ruling_of img pool s =
     cond (soundb img)
-    (cond (poolFits img pool)
-    (cond (ltb s (countOf img) && not (eqb (kindOf (recAt img s)) 0)) (At (placeOf (countOf img) img pool s)) (At Nowhere))
+    (cond (pool_fits img pool)
+    (cond (ltb s (count_of img) && not (eqb (kind_of (rec_at img s)) 0)) (At (place_of (count_of img) img pool s)) (At Nowhere))
     WrongPool) Damaged
 
-abbrev pub rulingNumber : Ruling → ℕ
-rulingNumber (At p) = 0
-rulingNumber Damaged = 1
-rulingNumber WrongPool = 6
+abbrev pub ruling_number : Ruling → ℕ
+ruling_number (At p) = 0
+ruling_number Damaged = 1
+ruling_number WrongPool = 6
 
 -- a place that is told lies within its slice, for any image and pool (proofs/Ruled, `ruling-lies`)
 abbrev pub RulingLies : Type 0
-RulingLies = (img pool : List ℕ) (s : ℕ) (p : Place) → rulingOf img pool s ≡ At p → PlaceLies img pool p
+RulingLies = (img pool : List ℕ) (s : ℕ) (p : Place) → ruling_of img pool s ≡ At p → PlaceLies img pool p
 
 -- its place is one that numbers of 32 bits hold
 abbrev pub RulingBounded : Ruling → Type 0

@@ -1,9 +1,7 @@
 -- Where in the body of the current EF a command on it begins, by the bytes of the command (02 Ticket 4): READ and UPDATE BINARY at the
 -- start that P1 P2 give; READ and UPDATE RECORD at the record of number P1, each record being as long as the command is.
-use Prim.Native.Nat.{ℕ, _*_, _-_}
-use mathlib.Core.Bool.{cond}
-use mathlib.Core.List.{List}
-use Rattle·apdu.specs.Apdu.{instruction, isBinary, parameters, recordNumber, asked}
+use Rattle.std.specs.Prelude.{ℕ, ◌*◌, ◌-◌, cond, List}
+use Rattle.apdu.specs.Apdu.{instruction, is_binary, parameters, record_number, asked}
 
-unfoldable pub placeOf : List ℕ → ℕ
-placeOf c = cond (isBinary (instruction c)) (parameters c) ((recordNumber c - 1) * asked c)
+unfoldable pub place_of : List ℕ → ℕ
+place_of c = cond (is_binary (instruction c)) (parameters c) ((record_number c - 1) * asked c)

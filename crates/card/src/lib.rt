@@ -3,9 +3,10 @@
 // due. It answers demands 1 and 2: specs/Command says what a call gives, specs/Demands and specs/Obeyed what the demands ask for.
 // specs/Lives says who writes which life-cycle byte (02 Ticket 1), specs/Bodies what becomes of contents, specs/Security what a security
 // refusal lacks (02 Ticket 6).
-ghost use mathlib.Core.Path.{_≡_};
-ghost use Rattle·sound.specs.Sound.{Sound};
-ghost use Rattle·card·specs.specs.Command.{poolFits, CommandPromises};
+ghost use Rattle.std.specs.Prelude.{◌≡◌};
+ghost use Rattle.sound.specs.Sound.{Sound};
+ghost use Rattle.card.specs.Command.{pool_fits, CommandPromises};
+
 use access::Decision;
 use fcp::Written;
 use referred::Place;
@@ -16,6 +17,7 @@ pub mod standing;
 // What a call answers: the word of a command on a sound image, how many bytes it told, and what it lacks where it was refused for security
 // (with any other word, where no rule was asked too, nothing: Granted); or that the image is damaged; or that the response is too short
 // for what the command would tell; or that the pool does not have the length of this card's.
+#[derive(Drop)]
 pub enum Reply {
     Word {
         word: u16,
@@ -29,6 +31,7 @@ pub enum Reply {
 
 // Where the rule of a slot stands, nowhere if there is no file; or that the image is damaged, or that the pool does not have the length of
 // this card's.
+#[derive(Drop)]
 pub enum Ruling {
     At(Place),
     Damaged,
@@ -37,8 +40,8 @@ pub enum Ruling {
 
 // Whether the pool has the length that a sound image wants: the root's total, where files have bodies.
 pub fn pool_fits(image: &[u8], pool: &[u8]) -> bool
-    requires { ⌜ Sound (now image) ⌝ }
-    ensures { λ r. ⌜ r ≡ poolFits (now (image .entry)) (now (pool .entry)) ⌝ }
+    requires { Sound image.now }
+    ensures { result ≡ pool_fits image.now pool.now }
 {
     if !image::version::has_bodies(image::fields::version(image)) {
         return true;
@@ -54,8 +57,8 @@ pub fn command(
     response: &mut [u8],
     state: State,
 ) -> Reply
-    ensures { λ r. ⌜ CommandPromises (now (image .entry)) (now (pool .entry)) (now (command .entry)) state (now (response .entry)) r
-        (now (image .exit)) (now (pool .exit)) (now (response .exit)) ⌝ }
+    ensures { CommandPromises image.old pool.old command.now state response.old result
+        image.new pool.new response.new }
 {
     if !sound_test::sound(image) {
         return Reply::Damaged;

@@ -1,14 +1,14 @@
 // Where the rule that decides on a file stands (02 Ticket 7), for a caller who wants to see it: no command, and nothing changes.
-ghost use mathlib.Core.Path.{_≡_};
-ghost use Rattle·card·specs.specs.Ruling.{rulingOf, RulingBounded};
+ghost use Rattle.std.specs.Prelude.{◌≡◌};
+ghost use Rattle.card.specs.Ruling.{ruling_of, RulingBounded};
+
 use crate::Ruling;
 use image::fields;
-use referred::Place;
-use referred::deciding;
+use referred::{Place, deciding};
 
 // The rule of slot s of any image, whatever its bytes, and any pool.
 pub fn ruling(image: &[u8], pool: &[u8], s: usize) -> Ruling
-    ensures { λ r. ⌜ (r ≡ rulingOf (now (image .entry)) (now (pool .entry)) s) × RulingBounded r ⌝ }
+    ensures { (result ≡ ruling_of image.now pool.now s) × RulingBounded result }
 {
     if !sound_test::sound(image) {
         return Ruling::Damaged;

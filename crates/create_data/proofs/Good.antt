@@ -1,28 +1,28 @@
 -- What is read from any data is good, or bad.
-use mathlib.Core.Path.{_≡_, refl}
+use mathlib.Core.Path.{◌≡◌, refl}
 use mathlib.Core.Bool.{Bool, true, false, cond}
 use mathlib.Core.List.{List}
-use mathlib.Core.Logic.{⊎-elim}
-use Prim.Native.Nat.{ℕ, _-_, _≤_}
+use mathlib.Core.Logic.{⊎_elim}
+use Prim.Native.Nat.{ℕ, ◌-◌, ◌≤◌}
 use native.Mathlib.Omega.{arith}
 use lib.ListN.{length}
 use lib.Dec.{eqb}
 use borrow.Author.Tests.{eqb-true, eqb-false}
-use Rattle·laws.proofs.Says.{and-says, or-says}
-use Rattle·laws.proofs.Splices.{length-part}
-use Rattle·rules.specs.Descriptor.{classOf, df, ef}
-use Rattle·rules.specs.Life.{newLife}
-use Rattle·rules.specs.Value.{goodIdentifier, goodLength}
-use Rattle·template.specs.declared.Objects.{Objects}
-use Rattle·create_data·specs.specs.declared.Data.{Data}
-use Rattle·create_data·specs.specs.declared.Data.the-variants.{Bad}
-use Rattle·template.specs.Objects.{startIn, endIn, lengthIn, valueIn, objectsOf, Held}
-use Rattle·create_data·specs.specs.Form.{t82, t83, t84, t8A, t80, t81, lacks, oneRule, ruleIn, dfForm, efForm}
-use Rattle·template.specs.Values.{firstOf, pairOf, recordLengthOf, numberOf, fitsName}
-use Rattle·create_data·specs.specs.Data.{isTemplate, need, nameGood, ruleGood, bothGood, newFile, dfOf, sizedEf, efOf, fileOf, dataOf}
-use Rattle·create_data·specs.specs.Good.{GoodFile, Good}
-use Rattle·template.proofs.Holding.{held}
-use Rattle·create_data·proofs.proofs.Meaning.{name-fits}
+use Rattle.laws.proofs.Says.{and-says, or-says}
+use Rattle.laws.proofs.Splices.{length_part}
+use Rattle.rules.specs.Descriptor.{class_of, df, ef}
+use Rattle.rules.specs.Life.{new_life}
+use Rattle.rules.specs.Value.{good_identifier, good_length}
+use Rattle.template.specs.declared.Objects.{Objects}
+use Rattle.create_data.specs.declared.Data.{Data}
+use Rattle.create_data.specs.declared.Data.TheVariants.{Bad}
+use Rattle.template.specs.Objects.{start_in, end_in, length_in, value_in, objects_of, Held}
+use Rattle.create_data.specs.Form.{t82, t83, t84, t8a, t80, t81, lacks, one_rule, rule_in, df_form, ef_form}
+use Rattle.template.specs.Values.{first_of, pair_of, record_length_of, number_of, fits_name}
+use Rattle.create_data.specs.Data.{is_template, need, name_good, rule_good, both_good, new_file, df_of, sized_ef, ef_of, file_of, data_of}
+use Rattle.create_data.specs.Good.{GoodFile, Good}
+use Rattle.template.proofs.Holding.{held}
+use Rattle.create_data.proofs.Meaning.{name-fits}
 
 -- past a test: only the branch that goes on is to be shown good
 module _ (v : ℕ) (s : List ℕ) where
@@ -37,72 +37,72 @@ module _ (v : ℕ) (s : List ℕ) where
       go true p = tt
       go false p = f (eqb-false k 0 p)
 
-  by-class : (k m : ℕ) (x y : Data) → (k ≡ m → Good v s x) → Good v s y → Good v s (cond (eqb k m) x y)
-  by-class k m x y f g = go (eqb k m) refl
+  by_class : (k m : ℕ) (x y : Data) → (k ≡ m → Good v s x) → Good v s y → Good v s (cond (eqb k m) x y)
+  by_class k m x y f g = go (eqb k m) refl
     where
       go : (b : Bool) → eqb k m ≡ b → Good v s (cond b x y)
       go true p = f (eqb-true k m p)
       go false p = g
 
 module _ (v : ℕ) (s : List ℕ) (o : Objects) (h : Held s o) where
-  file-good : (n z : ℕ) → bothGood v s o ≡ true → GoodFile v s (newFile s o n z)
-  unfolding bothGood ruleGood newFile
+  file-good : (n z : ℕ) → both_good v s o ≡ true → GoodFile v s (new_file s o n z)
+  unfolding both_good rule_good new_file
   file-good n z e =
-      let p = and-says (goodIdentifier (pairOf (valueIn s o t83))) _ .0 e in
-      let q = and-says (newLife (firstOf (valueIn s o t8A))) _ .0 (p .1) in
-      let r = and-says (oneRule o) _ .0 (q .1) in
+      let p = (and-says (good_identifier (pair_of (value_in s o t83))) _).0 e in
+      let q = (and-says (new_life (first_of (value_in s o t8a))) _).0 p.1 in
+      let r = (and-says (one_rule o) _).0 q.1 in
       record {
-        identifier = p .0;
-        life = q .0;
-        name-low = h .low t84;
-        name-high = h .high t84;
-        rule-low = h .low (ruleIn o);
-        rule-high = h .high (ruleIn o);
-        rule = r .1;
+        identifier = p.0;
+        life = q.0;
+        name-low = h.low t84;
+        name-high = h.high t84;
+        rule-low = h.low (rule_in o);
+        rule-high = h.high (rule_in o);
+        rule = r.1;
       }
 
   -- an EF's list has no place for a name
-  none-sent : (d : ℕ) → efForm o d ≡ true → endIn o t84 ≡ startIn o t84
-  unfolding efForm lacks
+  none-sent : (d : ℕ) → ef_form o d ≡ true → end_in o t84 ≡ start_in o t84
+  unfolding ef_form lacks
   none-sent d f =
-      let z : startIn o t84 ≡ 0 = eqb-true _ _ ((simp and-says at f) .1 .1 .1 .1 .1 .0) in
-      let e : endIn o t84 ≡ 0 = h .absent t84 z in
+      let z : start_in o t84 ≡ 0 = eqb-true _ _ (simp and-says at f).1.1.1.1.1.0 in
+      let e : end_in o t84 ≡ 0 = h.absent t84 z in
       omega arith
 
-  name-good : nameGood s o ≡ true → lengthIn o t84 ≤ 16
-  unfolding nameGood lacks
-  name-good e = ⊎-elim none some (or-says (eqb (startIn o t84) 0) _ .0 e)
+  name-good : name_good s o ≡ true → length_in o t84 ≤ 16
+  unfolding name_good lacks
+  name-good e = ⊎_elim none some ((or-says (eqb (start_in o t84) 0) _).0 e)
     where
-      none : eqb (startIn o t84) 0 ≡ true → lengthIn o t84 ≤ 16
-      none q = let z : endIn o t84 ≡ 0 = h .absent t84 (eqb-true (startIn o t84) 0 q) in omega arith
+      none : eqb (start_in o t84) 0 ≡ true → length_in o t84 ≤ 16
+      none q = let z : end_in o t84 ≡ 0 = h.absent t84 (eqb-true (start_in o t84) 0 q) in omega arith
 
-      some : fitsName (valueIn s o t84) ≡ true → lengthIn o t84 ≤ 16
+      some : fits_name (value_in s o t84) ≡ true → length_in o t84 ≤ 16
       some q =
-          let n : length (valueIn s o t84) ≡ lengthIn o t84 = length-part s (startIn o t84) (lengthIn o t84)
-          (omega (arith, h .low t84, h .high t84)) in
-          omega (arith, name-fits (valueIn s o t84) .0 q)
+          let n : length (value_in s o t84) ≡ length_in o t84 = length_part s (start_in o t84) (length_in o t84)
+          (omega (arith, h.low t84, h.high t84)) in
+          omega (arith, (name-fits (value_in s o t84)).0 q)
 
-  df-good : classOf (firstOf (valueIn s o t82)) ≡ df → Good v s (dfOf v s o)
-  unfolding dfOf newFile
+  df-good : class_of (first_of (value_in s o t82)) ≡ df → Good v s (df_of v s o)
+  unfolding df_of new_file
   df-good k =
-      needed v s (dfForm o) _
-      (λ f. needed v s (nameGood s o) _ (λ n. needed v s (bothGood v s o) _ (λ b. not-zero v s (numberOf (valueIn s o t81)) _ (λ z.
+      needed v s (df_form o) _
+      (λ f. needed v s (name_good s o) _ (λ n. needed v s (both_good v s o) _ (λ b. not-zero v s (number_of (value_in s o t81)) _ (λ z.
       record { class = k; file = file-good 0 _ b; name-short = name-good n; total = z; plain = refl }))))
 
-  ef-good : classOf (firstOf (valueIn s o t82)) ≡ ef → Good v s (efOf v s o (firstOf (valueIn s o t82)))
-  unfolding efOf sizedEf newFile
+  ef-good : class_of (first_of (value_in s o t82)) ≡ ef → Good v s (ef_of v s o (first_of (value_in s o t82)))
+  unfolding ef_of sized_ef new_file
   ef-good k =
-      let d : ℕ = firstOf (valueIn s o t82) in
-      let z : ℕ = numberOf (valueIn s o t80) in
-      needed v s (efForm o d) _
-      (λ f. needed v s (bothGood v s o) _ (λ b. not-zero v s z _ (λ n.
-      needed v s (goodLength d (recordLengthOf (valueIn s o t82)) z) _ (λ g.
+      let d : ℕ = first_of (value_in s o t82) in
+      let z : ℕ = number_of (value_in s o t80) in
+      needed v s (ef_form o d) _
+      (λ f. needed v s (both_good v s o) _ (λ b. not-zero v s z _ (λ n.
+      needed v s (good_length d (record_length_of (value_in s o t82)) z) _ (λ g.
       record { class = k; file = file-good _ _ b; nameless = none-sent d f; size = n; records = g }))))
 
-pub good : (v : ℕ) (s : List ℕ) → Good v s (dataOf v s)
-unfolding dataOf fileOf
+pub good : (v : ℕ) (s : List ℕ) → Good v s (data_of v s)
+unfolding data_of file_of
 good v s =
-    let o : Objects = objectsOf s in
-    let k : ℕ = classOf (firstOf (valueIn s o t82)) in
-    needed v s (isTemplate s) _ (λ t. needed v s (eqb (o .next) (length s)) _ (λ n.
-    by-class v s k df _ _ (df-good v s o (held s)) (by-class v s k ef _ _ (ef-good v s o (held s)) tt)))
+    let o : Objects = objects_of s in
+    let k : ℕ = class_of (first_of (value_in s o t82)) in
+    needed v s (is_template s) _ (λ t. needed v s (eqb o.next (length s)) _ (λ n.
+    by_class v s k df _ _ (df-good v s o (held s)) (by_class v s k ef _ _ (ef-good v s o (held s)) tt)))

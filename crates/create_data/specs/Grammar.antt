@@ -1,20 +1,15 @@
 -- CREATE's data as 01 writes them ("CREATE", data): which bytes are good, and what they say. A grammar, with no word
--- of how it is read. The statements at the end hold the reader, `dataOf`, to it: it takes exactly these data, and reads
+-- of how it is read. The statements at the end hold the reader, `data_of`, to it: it takes exactly these data, and reads
 -- their values, on every card that takes them the same.
-use Prim.Native.Nat.{ℕ, _+_, _*_, _<_, _≤_}
-use mathlib.Core.Path.{_≡_}
-use mathlib.Core.Bool.{true}
-use mathlib.Core.List.{List, [], _∷_, _++_}
-use mathlib.Core.Logic.{_↔_, _⊎_}
-use lib.ListN.{length, drop}
-use Rattle·rules.specs.Descriptor.{classOf, df, ef, structureOf}
-use Rattle·rules.specs.Life.{newLife}
-use Rattle·image.specs.Layout.{longestRule, formsOf}
-use Rattle·access.specs.Access.{compact, expanded, referred, wellFormed}
-use Rattle·template.specs.Objects.{bytesAt}
-use Rattle·create_data·specs.specs.declared.Data.{Data}
-use Rattle·create_data·specs.specs.declared.Data.the-variants.{Df, Ef, Bad}
-use Rattle·create_data·specs.specs.Data.{dataOf}
+use Rattle.std.specs.Prelude.{ℕ, ◌+◌, ◌*◌, ◌<◌, ◌≤◌, ◌≡◌, true, List, [], ◌∷◌, ◌++◌, ◌↔◌, ◌⊎◌, length, drop}
+use Rattle.rules.specs.Descriptor.{class_of, df, ef, structure_of}
+use Rattle.rules.specs.Life.{new_life}
+use Rattle.image.specs.Layout.{longest_rule, forms_of}
+use Rattle.access.specs.Access.{compact, expanded, referred, well_formed}
+use Rattle.template.specs.Objects.{bytes_at}
+use Rattle.create_data.specs.declared.Data.{Data}
+use Rattle.create_data.specs.declared.Data.TheVariants.{Df, Ef, Bad}
+use Rattle.create_data.specs.Data.{data_of}
 
 -- an object: its tag, its length, its value
 abbrev pub object : ℕ → List ℕ → List ℕ
@@ -33,53 +28,53 @@ abbrev pub optional : ℕ → Optional → List ℕ
 optional tag absent = []
 optional tag (sent v) = object tag v
 
-abbrev pub valueOf : Optional → List ℕ
-valueOf absent = []
-valueOf (sent v) = v
+abbrev pub value_of : Optional → List ℕ
+value_of absent = []
+value_of (sent v) = v
 
 -- 85 or A5 optional: not both
 pub data Private : Type 0 where
   neither : Private
   in85 : List ℕ → Private
-  inA5 : List ℕ → Private
+  in_a5 : List ℕ → Private
 
 abbrev pub privately : Private → List ℕ
 privately neither = []
 privately (in85 v) = object 0x85 v
-privately (inA5 v) = object 0xA5 v
+privately (in_a5 v) = object 0xA5 v
 
 -- the rule: compact in 8C, or in its place expanded in AB (02 Ticket 3) or referred in 8B (02 Ticket 7)
 pub data Ruled : Type 0 where
-  in8C : List ℕ → Ruled
-  inAB : List ℕ → Ruled
-  in8B : List ℕ → Ruled
+  in_8c : List ℕ → Ruled
+  in_ab : List ℕ → Ruled
+  in_8b : List ℕ → Ruled
 
 abbrev pub ruled : Ruled → List ℕ
-ruled (in8C v) = object 0x8C v
-ruled (inAB v) = object 0xAB v
-ruled (in8B v) = object 0x8B v
+ruled (in_8c v) = object 0x8C v
+ruled (in_ab v) = object 0xAB v
+ruled (in_8b v) = object 0x8B v
 
-abbrev pub ruleOf : Ruled → List ℕ
-ruleOf (in8C v) = v
-ruleOf (inAB v) = v
-ruleOf (in8B v) = v
+abbrev pub rule_of : Ruled → List ℕ
+rule_of (in_8c v) = v
+rule_of (in_ab v) = v
+rule_of (in_8b v) = v
 
-abbrev pub ruleForm : Ruled → ℕ
-ruleForm (in8C v) = compact
-ruleForm (inAB v) = expanded
-ruleForm (in8B v) = referred
+abbrev pub rule_form : Ruled → ℕ
+rule_form (in_8c v) = compact
+rule_form (in_ab v) = expanded
+rule_form (in_8b v) = referred
 
 -- the first byte; the number in all of them, high byte first
 abbrev pub first : List ℕ → ℕ
 first [] = 0
 first (x ∷ v) = x
 
-abbrev pub numberFrom : ℕ → List ℕ → ℕ
-numberFrom n [] = n
-numberFrom n (x ∷ v) = numberFrom (n * 256 + x) v
+abbrev pub number_from : ℕ → List ℕ → ℕ
+number_from n [] = n
+number_from n (x ∷ v) = number_from (n * 256 + x) v
 
 abbrev pub number : List ℕ → ℕ
-number v = numberFrom 0 v
+number v = number_from 0 v
 
 -- low to high bytes
 abbrev pub Long : ℕ → ℕ → List ℕ → Type 0
@@ -93,14 +88,14 @@ NameLong (sent v) = Long 1 16 v
 -- a well formed rule, as long as the card's version v allows and of a form that it has
 pub record FileData (v : ℕ) (identifier life : List ℕ) (rule : Ruled) : Type 0 where
   pub identifier-long : length identifier ≡ 2
-  pub not-3FFF : number identifier ≡ 0x3FFF → ⊥
-  pub not-7FFF : number identifier ≡ 0x7FFF → ⊥
+  pub not_3fff : number identifier ≡ 0x3FFF → ⊥
+  pub not_7fff : number identifier ≡ 0x7FFF → ⊥
   pub not-FFFF : number identifier ≡ 0xFFFF → ⊥
   pub life-long : length life ≡ 1
-  pub life-cycle : newLife (first life) ≡ true
-  pub rule-long : Long 1 (longestRule v) (ruleOf rule)
-  pub rule-form : ruleForm rule < formsOf v
-  pub rule-formed : wellFormed (ruleForm rule) (ruleOf rule) ≡ true
+  pub life_cycle : new_life (first life) ≡ true
+  pub rule-long : Long 1 (longest_rule v) (rule_of rule)
+  pub rule-form : rule_form rule < forms_of v
+  pub rule-formed : well_formed (rule_form rule) (rule_of rule) ≡ true
 
 -- a DF's data: 82 (2 bytes), 83 (2), 84 optional (1-16), 8A (1), 8C, AB or 8B, 81 (2-4), C6 (at least 1), 85 or A5
 -- optional, in this order, each once. LL, and so each length, is 00-7F; the total is never 0
@@ -120,7 +115,7 @@ pub record DfData (v : ℕ) (s : List ℕ) : Type 0 where
       ++ (ruled rule ++ (object 0x81 total ++ (object 0xC6 security ++ privately private)))))))
   pub short : length s ≤ 2 + 0x7F
   pub descriptor-long : length descriptor ≡ 2
-  pub class : classOf (first descriptor) ≡ df
+  pub class : class_of (first descriptor) ≡ df
   pub file : FileData v identifier life rule
   pub name-long : NameLong name
   pub total-long : Long 2 4 total
@@ -129,14 +124,14 @@ pub record DfData (v : ℕ) (s : List ℕ) : Type 0 where
 
 -- structures 010 and 110
 abbrev pub Structured : List ℕ → Type 0
-Structured descriptor = (structureOf (first descriptor) ≡ 0b010) ⊎ (structureOf (first descriptor) ≡ 0b110)
+Structured descriptor = (structure_of (first descriptor) ≡ 0b010) ⊎ (structure_of (first descriptor) ≡ 0b110)
 
 -- 1-254 records of 1-255 bytes each, which make up the size
 pub record Records (each size : ℕ) : Type 0 where
-  pub each-low : 1 ≤ each
-  pub each-high : each ≤ 255
+  pub each_low : 1 ≤ each
+  pub each_high : each ≤ 255
   pub count : ℕ
-  pub count-low : 1 ≤ count
+  pub count_low : 1 ≤ count
   pub count-high : count ≤ 254
   pub whole : size ≡ count * each
 
@@ -160,7 +155,7 @@ pub record EfData (v : ℕ) (s : List ℕ) : Type 0 where
       (object 0x82 descriptor ++ (object 0x83 identifier ++ (object 0x8A life ++ (ruled rule
       ++ (object 0x80 size ++ privately private)))))
   pub short : length s ≤ 2 + 0x7F
-  pub class : classOf (first descriptor) ≡ ef
+  pub class : class_of (first descriptor) ≡ ef
   pub layout : Layout descriptor (number size)
   pub file : FileData v identifier life rule
   pub size-long : Long 2 4 size
@@ -168,7 +163,7 @@ pub record EfData (v : ℕ) (s : List ℕ) : Type 0 where
 
 -- on a card of any version, data are good exactly if they are a DF's or an EF's; all others are bad
 abbrev pub DataExactly : Type 0
-DataExactly = (v : ℕ) (s : List ℕ) → (dataOf v s ≡ Bad → ⊥) ↔ (DfData v s ⊎ EfData v s)
+DataExactly = (v : ℕ) (s : List ℕ) → (data_of v s ≡ Bad → ⊥) ↔ (DfData v s ⊎ EfData v s)
 
 -- what is read of a DF's data and of an EF's: numbers, the rule's form, and where the name (empty for none) and the rule stand. The second
 -- byte of 82 isn't interpreted; C6, 85 and A5 contents aren't kept
@@ -176,24 +171,24 @@ abbrev pub DfRead : (v : ℕ) (s : List ℕ) → DfData v s → Data → Type 0
 DfRead v s t Bad = ⊥
 DfRead v s t (Ef x) = ⊥
 DfRead v s t (Df x) =
-    (x .descriptor ≡ first (t .descriptor)) × (x .identifier ≡ number (t .identifier)) × (x .life ≡ first (t .life))
-    × (bytesAt s (x .name) ≡ valueOf (t .name)) × (x .form ≡ ruleForm (t .rule)) × (bytesAt s (x .rule) ≡ ruleOf (t .rule))
-    × (x .size ≡ number (t .total))
+    (x.descriptor ≡ first t.descriptor) × (x.identifier ≡ number t.identifier) × (x.life ≡ first t.life)
+    × (bytes_at s x.name ≡ value_of t.name) × (x.form ≡ rule_form t.rule) × (bytes_at s x.rule ≡ rule_of t.rule)
+    × (x.size ≡ number t.total)
 
 abbrev pub EfRead : (v : ℕ) (s : List ℕ) → EfData v s → Data → Type 0
 EfRead v s t Bad = ⊥
 EfRead v s t (Df x) = ⊥
 EfRead v s t (Ef x) =
-    (x .descriptor ≡ first (t .descriptor)) × (x .identifier ≡ number (t .identifier)) × (x .life ≡ first (t .life))
-    × (x .«record_length» ≡ number (drop 2 (t .descriptor))) × (x .form ≡ ruleForm (t .rule))
-    × (bytesAt s (x .rule) ≡ ruleOf (t .rule)) × (x .size ≡ number (t .size))
+    (x.descriptor ≡ first t.descriptor) × (x.identifier ≡ number t.identifier) × (x.life ≡ first t.life)
+    × (x.record_length ≡ number (drop 2 t.descriptor)) × (x.form ≡ rule_form t.rule)
+    × (bytes_at s x.rule ≡ rule_of t.rule) × (x.size ≡ number t.size)
 
 -- good data are read so
 abbrev pub DataRead : Type 0
 DataRead =
-    (v : ℕ) (s : List ℕ) → ((t : DfData v s) → DfRead v s t (dataOf v s)) × ((t : EfData v s) → EfRead v s t (dataOf v s))
+    (v : ℕ) (s : List ℕ) → ((t : DfData v s) → DfRead v s t (data_of v s)) × ((t : EfData v s) → EfRead v s t (data_of v s))
 
 -- what a card takes is read alike on any whose version has room for as long rules, and as many forms
 abbrev pub DataAlike : Type 0
 DataAlike =
-    (v w : ℕ) → longestRule v ≤ longestRule w → formsOf v ≤ formsOf w → (s : List ℕ) → (dataOf v s ≡ Bad → ⊥) → dataOf w s ≡ dataOf v s
+    (v w : ℕ) → longest_rule v ≤ longest_rule w → forms_of v ≤ forms_of w → (s : List ℕ) → (data_of v s ≡ Bad → ⊥) → data_of w s ≡ data_of v s

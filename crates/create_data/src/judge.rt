@@ -1,22 +1,17 @@
 // CREATE's data judged (01 "CREATE", data): 62 LL, the objects of a DF's or an EF's list, and what their
 // values must obey on a card of version v. Any breach is `Bad`. Each value goes to its reader as a part of the data.
-ghost use mathlib.Core.Path.{_≡_};
-ghost use Prim.Native.Nat.{_<_};
-ghost use Rattle·template.specs.Objects.{Held, valueIn};
-ghost use Rattle·template.specs.Values.{firstOf, pairOf, recordLengthOf, numberOf};
-ghost use Rattle·create_data·specs.specs.Data.{isTemplate, nameGood, ruleGood, bothGood, newFile, dfOf, efOf, sizedEf, fileOf};
-use crate::Data;
-use crate::NewFile;
-use crate::form;
-use rules::descriptor;
-use rules::life_cycle;
-use template::Objects;
-use template::Span;
-use template::value;
+ghost use Rattle.std.specs.Prelude.{◌≡◌, ◌<◌};
+ghost use Rattle.template.specs.Objects.{Held, value_in};
+ghost use Rattle.template.specs.Values.{first_of, pair_of, record_length_of, number_of};
+ghost use Rattle.create_data.specs.Data.{is_template, name_good, rule_good, both_good, new_file, df_of, ef_of, sized_ef, file_of};
+
+use crate::{Data, NewFile, form};
+use rules::{descriptor, life_cycle};
+use template::{Objects, Span, value};
 
 // Whether the data is a template: 62, a length 00-7F, and exactly as many bytes.
 pub fn is_template(s: &[u8]) -> bool
-    ensures { λ r. ⌜ r ≡ isTemplate (now (s .entry)) ⌝ }
+    ensures { result ≡ is_template s.now }
 {
     if s.len() < 2 {
         return false;
@@ -32,8 +27,8 @@ pub fn is_template(s: &[u8]) -> bool
 
 // The value of object k, as a part of the data.
 fn value_in(s: &[u8], o: Objects, k: usize) -> &[u8]
-    requires { ⌜ (k < 12) × Held (now s) o ⌝ }
-    ensures { λ r. ⌜ now r ≡ valueIn (now (s .entry)) o k ⌝ }
+    requires { (k < 12) × Held s.now o }
+    ensures { result.now ≡ value_in s.now o k }
 {
     let start = o.starts[k];
     let end = o.ends[k];
@@ -42,40 +37,40 @@ fn value_in(s: &[u8], o: Objects, k: usize) -> &[u8]
 
 // The first byte of object k's value.
 fn byte_in(s: &[u8], o: Objects, k: usize) -> u8
-    requires { ⌜ (k < 12) × Held (now s) o ⌝ }
-    ensures { λ r. ⌜ r ≡ firstOf (valueIn (now (s .entry)) o k) ⌝ }
+    requires { (k < 12) × Held s.now o }
+    ensures { result ≡ first_of (value_in s.now o k) }
 {
     value::first(value_in(s, o, k))
 }
 
 // The identifier.
 fn identifier_in(s: &[u8], o: Objects) -> u16
-    requires { ⌜ Held (now s) o ⌝ }
-    ensures { λ r. ⌜ r ≡ pairOf (valueIn (now (s .entry)) o 1) ⌝ }
+    requires { Held s.now o }
+    ensures { result ≡ pair_of (value_in s.now o 1) }
 {
     value::pair(value_in(s, o, 1))
 }
 
 // The record length, behind the descriptor's two bytes.
 fn record_length_in(s: &[u8], o: Objects) -> u16
-    requires { ⌜ Held (now s) o ⌝ }
-    ensures { λ r. ⌜ r ≡ recordLengthOf (valueIn (now (s .entry)) o 0) ⌝ }
+    requires { Held s.now o }
+    ensures { result ≡ record_length_of (value_in s.now o 0) }
 {
     value::record_length(value_in(s, o, 0))
 }
 
 // The size of object k: 80 or 81.
 fn size_in(s: &[u8], o: Objects, k: usize) -> u32
-    requires { ⌜ (k < 12) × Held (now s) o ⌝ }
-    ensures { λ r. ⌜ r ≡ numberOf (valueIn (now (s .entry)) o k) ⌝ }
+    requires { (k < 12) × Held s.now o }
+    ensures { result ≡ number_of (value_in s.now o k) }
 {
     value::number(value_in(s, o, k))
 }
 
 // Whether the rule is there once, and a record of version v may hold it.
 fn is_rule_good(s: &[u8], o: Objects, v: u32) -> bool
-    requires { ⌜ Held (now s) o ⌝ }
-    ensures { λ r. ⌜ r ≡ ruleGood v (now (s .entry)) o ⌝ }
+    requires { Held s.now o }
+    ensures { result ≡ rule_good v s.now o }
 {
     if !form::has_one_rule(o) {
         return false;
@@ -86,8 +81,8 @@ fn is_rule_good(s: &[u8], o: Objects, v: u32) -> bool
 
 // Whether the name is not there, or has 1 to 16 bytes.
 fn is_name_good(s: &[u8], o: Objects) -> bool
-    requires { ⌜ Held (now s) o ⌝ }
-    ensures { λ r. ⌜ r ≡ nameGood (now (s .entry)) o ⌝ }
+    requires { Held s.now o }
+    ensures { result ≡ name_good s.now o }
 {
     if form::is_absent(o, 2) {
         return true;
@@ -97,8 +92,8 @@ fn is_name_good(s: &[u8], o: Objects) -> bool
 
 // What identifier, life cycle and rule must obey in every file.
 fn is_both_good(s: &[u8], o: Objects, v: u32) -> bool
-    requires { ⌜ Held (now s) o ⌝ }
-    ensures { λ r. ⌜ r ≡ bothGood v (now (s .entry)) o ⌝ }
+    requires { Held s.now o }
+    ensures { result ≡ both_good v s.now o }
 {
     if !rules::value::good_identifier(identifier_in(s, o)) {
         return false;
@@ -111,8 +106,8 @@ fn is_both_good(s: &[u8], o: Objects, v: u32) -> bool
 
 // The new file, all tests passed: its numbers, and where its name and its rule stand.
 fn new_file(s: &[u8], o: Objects, length: u16, size: u32) -> NewFile
-    requires { ⌜ Held (now s) o ⌝ }
-    ensures { λ r. ⌜ r ≡ newFile (now (s .entry)) o length size ⌝ }
+    requires { Held s.now o }
+    ensures { result ≡ new_file s.now o length size }
 {
     let descriptor = byte_in(s, o, 0);
     let identifier = identifier_in(s, o);
@@ -141,8 +136,8 @@ fn new_file(s: &[u8], o: Objects, length: u16, size: u32) -> NewFile
 
 // A DF by its list and its values.
 fn df(s: &[u8], o: Objects, v: u32) -> Data
-    requires { ⌜ Held (now s) o ⌝ }
-    ensures { λ r. ⌜ r ≡ dfOf v (now (s .entry)) o ⌝ }
+    requires { Held s.now o }
+    ensures { result ≡ df_of v s.now o }
 {
     if !form::is_df(o) {
         return Data::Bad;
@@ -162,8 +157,8 @@ fn df(s: &[u8], o: Objects, v: u32) -> Data
 
 // An EF by its size and its record length.
 fn sized_ef(s: &[u8], o: Objects, descriptor: u8) -> Data
-    requires { ⌜ Held (now s) o ⌝ }
-    ensures { λ r. ⌜ r ≡ sizedEf (now (s .entry)) o descriptor ⌝ }
+    requires { Held s.now o }
+    ensures { result ≡ sized_ef s.now o descriptor }
 {
     let size = size_in(s, o, 7);
     if size == 0 {
@@ -178,8 +173,8 @@ fn sized_ef(s: &[u8], o: Objects, descriptor: u8) -> Data
 
 // An EF by its list and its values.
 fn ef(s: &[u8], o: Objects, descriptor: u8, v: u32) -> Data
-    requires { ⌜ Held (now s) o ⌝ }
-    ensures { λ r. ⌜ r ≡ efOf v (now (s .entry)) o descriptor ⌝ }
+    requires { Held s.now o }
+    ensures { result ≡ ef_of v s.now o descriptor }
 {
     if !form::is_ef(o, descriptor) {
         return Data::Bad;
@@ -192,8 +187,8 @@ fn ef(s: &[u8], o: Objects, descriptor: u8, v: u32) -> Data
 
 // The file by the class of its descriptor, once the objects end the data.
 pub fn file(s: &[u8], o: Objects, v: u32) -> Data
-    requires { ⌜ Held (now s) o ⌝ }
-    ensures { λ r. ⌜ r ≡ fileOf v (now (s .entry)) o ⌝ }
+    requires { Held s.now o }
+    ensures { result ≡ file_of v s.now o }
 {
     let next = o.next;
     if next != s.len() {

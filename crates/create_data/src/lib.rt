@@ -3,17 +3,18 @@
 //
 // `judge` judges which objects were gathered and the bytes that they point at. Every value is handed on as a part of
 // the data, from the middle of it, and nothing is copied.
-ghost use mathlib.Core.Path.{_≡_};
-ghost use Rattle·create_data·specs.specs.Data.{dataOf};
-ghost use Rattle·create_data·specs.specs.Good.{Good};
-use template::Span;
-use template::gather;
+ghost use Rattle.std.specs.Prelude.{◌≡◌};
+ghost use Rattle.create_data.specs.Data.{data_of};
+ghost use Rattle.create_data.specs.Good.{Good};
+
+use template::{Span, gather};
 
 pub mod form;
 pub mod judge;
 
 // A new file as CREATE's data describe it: its numbers, the form of its rule, and where its name (an empty stretch for none)
 // and its rule stand in the data. The size of a DF is its total; a file without records has record length 0.
+#[derive(Drop)]
 pub struct NewFile {
     pub descriptor: u8,
     pub identifier: u16,
@@ -25,6 +26,7 @@ pub struct NewFile {
     pub rule: Span,
 }
 
+#[derive(Drop)]
 pub enum Data {
     Df(NewFile),
     Ef(NewFile),
@@ -33,7 +35,7 @@ pub enum Data {
 
 // CREATE's data read, for a card of version v: any bytes, from the byte after Lc to the end of the command.
 pub fn read(s: &[u8], v: u32) -> Data
-    ensures { λ r. ⌜ (r ≡ dataOf v (now (s .entry))) × Good v (now (s .entry)) r ⌝ }
+    ensures { (result ≡ data_of v s.now) × Good v s.now result }
 {
     if !judge::is_template(s) {
         return Data::Bad;

@@ -1,21 +1,21 @@
 -- What a verdict tells, case by case: o is the response before, y after.
-use mathlib.Core.Path.{_≡_, refl, sym, ap, _∙_}
+use mathlib.Core.Path.{◌≡◌, refl, sym, ap, ◌∙◌}
 use mathlib.Core.Bool.{Bool, true, false, not, cond}
 use mathlib.Core.List.{List, []}
-use Prim.Native.Nat.{ℕ, _+_, _-_, _<_, _≤_}
+use Prim.Native.Nat.{ℕ, ◌+◌, ◌-◌, ◌<◌, ◌≤◌}
 use native.Mathlib.Omega.{arith}
 use lib.ListN.{length, take, drop}
 use borrow.Author.Tests.{not-true, not-false}
-use Rattle·laws.specs.Lists.{part, splice}
-use Rattle·laws.proofs.Splices.{splice-nil, length-part}
-use Rattle·image.specs.Layout.{recAt}
-use Rattle·verdict.specs.declared.Verdict.{Verdict}
-use Rattle·verdict.specs.declared.Verdict.the-variants.{Select, Read}
-use Rattle·fcp.specs.declared.Written.{Written}
-use Rattle·fcp.specs.declared.Written.the-variants.{Done, Short}
-use Rattle·fcp.specs.Template.{templateOf}
-use Rattle·fcp.specs.Writing.{Tellable, Answered}
-use Rattle·effect·specs.specs.Told.{chosen, told, CanTell}
+use Rattle.laws.specs.Lists.{part, splice}
+use Rattle.laws.proofs.Splices.{splice-nil, length_part}
+use Rattle.image.specs.Layout.{rec_at}
+use Rattle.verdict.specs.declared.Verdict.{Verdict}
+use Rattle.verdict.specs.declared.Verdict.TheVariants.{Select, Read}
+use Rattle.fcp.specs.declared.Written.{Written}
+use Rattle.fcp.specs.declared.Written.TheVariants.{Done, Short}
+use Rattle.fcp.specs.Template.{template_of}
+use Rattle.fcp.specs.Writing.{Tellable, Answered}
+use Rattle.effect.specs.Told.{chosen, told, CanTell}
 
 nothing : (o : List ℕ) → Answered [] o o (Done 0)
 nothing o = (omega arith, (refl, sym (splice-nil o 0)))
@@ -29,36 +29,36 @@ module _ (what o : List ℕ) {r : Bool} (b : Bool) (e : r ≡ b) where
   asked t y k h = rw (sym e ∙ not-false r t) h
 
 -- the file in slot s is the one that is chosen
-pub chosen-told : (img : List ℕ) (d e s : ℕ) (o y : List ℕ) (k : Written) → s ≡ chosen d e → Answered (templateOf (recAt img s)) o y k
-    → Answered (templateOf (recAt img (chosen d e))) o y k
+pub chosen-told : (img : List ℕ) (d e s : ℕ) (o y : List ℕ) (k : Written) → s ≡ chosen d e → Answered (template_of (rec_at img s)) o y k
+    → Answered (template_of (rec_at img (chosen d e))) o y k
 chosen-told img d e s o y k q h = rw (← q) h
 
-pub chosen-tellable : (img : List ℕ) (d e s : ℕ) → s ≡ chosen d e → Tellable img (chosen d e) → Tellable img s
-chosen-tellable img d e s q h = rw q h
+pub chosen_tellable : (img : List ℕ) (d e s : ℕ) → s ≡ chosen d e → Tellable img (chosen d e) → Tellable img s
+chosen_tellable img d e s q h = rw q h
 
 -- a READ of n bytes from `at` on: too long for the response, or at its start
 module _ (pool o : List ℕ) (at n : ℕ) (inside : at + n ≤ length pool) where
-  pub read-short : length o < n → Answered (part pool at n) o o Short
-  read-short h = (omega (arith, length-part pool at n inside), refl)
+  pub read_short : length o < n → Answered (part pool at n) o o Short
+  read_short h = (omega (arith, length_part pool at n inside), refl)
 
-  pub read-done : n ≤ length o → (y : List ℕ) → y ≡ splice o 0 (take (at + n - at) (drop at pool)) → Answered (part pool at n) o y (Done n)
+  pub read_done : n ≤ length o → (y : List ℕ) → y ≡ splice o 0 (take (at + n - at) (drop at pool)) → Answered (part pool at n) o y (Done n)
   unfolding part
-  read-done h y f =
-      let l = length-part pool at n inside in
+  read_done h y f =
+      let l = length_part pool at n inside in
       let e : at + n - at ≡ n = omega arith in
       (omega (arith, l), (sym l, f ∙ ap (λ (k : ℕ). splice o 0 (take k (drop at pool))) e))
 
 -- v is w
 module _ (img pool c o : List ℕ) (v w : Verdict) (e : v ≡ w) where
-  pub tells-nothing : told img pool c w ≡ [] → Answered (told img pool c v) o o (Done 0)
-  tells-nothing f = rw (e, f) (nothing o)
+  pub tells_nothing : told img pool c w ≡ [] → Answered (told img pool c v) o o (Done 0)
+  tells_nothing f = rw (e, f) (nothing o)
 
   pub tells : (y : List ℕ) (k : Written) → Answered (told img pool c w) o y k → Answered (told img pool c v) o y k
   tells y k h = rw e h
 
 module _ (img pool : List ℕ) (v : Verdict) where
-  pub can-tell : (d e w : ℕ) → v ≡ Select d e w → CanTell img pool v → Tellable img (chosen d e)
-  can-tell d e w q h = rw q at h
+  pub can_tell : (d e w : ℕ) → v ≡ Select d e w → CanTell img pool v → Tellable img (chosen d e)
+  can_tell d e w q h = rw q at h
 
-  pub can-read : (at n : ℕ) → v ≡ Read at n → CanTell img pool v → at + n ≤ length pool
-  can-read at n q h = rw q at h
+  pub can_read : (at n : ℕ) → v ≡ Read at n → CanTell img pool v → at + n ≤ length pool
+  can_read at n q h = rw q at h

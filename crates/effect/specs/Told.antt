@@ -1,16 +1,12 @@
 -- What a verdict tells (02 Tickets 2 and 4): the data that the caller gets in the response that it lends.
-use Prim.Native.Nat.{ℕ, _+_, _≤_}
-use mathlib.Core.Bool.{cond}
-use mathlib.Core.List.{List, []}
-use lib.Dec.{eqb}
-use lib.ListN.{length}
-use Rattle·laws.specs.Lists.{part}
-use Rattle·image.specs.Layout.{recAt, none}
-use Rattle·verdict.specs.declared.Verdict.{Verdict}
-use Rattle·verdict.specs.declared.Verdict.the-variants.{Refuse, Select, Create, Delete, SetLife, Read, Update}
-use Rattle·apdu.specs.Apdu.{wantsTemplate}
-use Rattle·fcp.specs.Template.{templateOf}
-use Rattle·fcp.specs.Writing.{Tellable}
+use Rattle.std.specs.Prelude.{ℕ, ◌+◌, ◌≤◌, cond, List, [], eqb, length}
+use Rattle.laws.specs.Lists.{part}
+use Rattle.image.specs.Layout.{rec_at, none}
+use Rattle.verdict.specs.declared.Verdict.{Verdict}
+use Rattle.verdict.specs.declared.Verdict.TheVariants.{Refuse, Select, Create, Delete, SetLife, Read, Update}
+use Rattle.apdu.specs.Apdu.{wants_template}
+use Rattle.fcp.specs.Template.{template_of}
+use Rattle.fcp.specs.Writing.{Tellable}
 
 -- the file that SELECT makes current: the EF, where there is one, else the DF
 unfoldable pub chosen : ℕ → ℕ → ℕ
@@ -19,7 +15,7 @@ chosen d e = cond (eqb e none) d e
 -- SELECT tells the template of that file, where P2 asks for it; READ bytes of the pool; nothing else is told
 abbrev pub told : List ℕ → List ℕ → List ℕ → Verdict → List ℕ
 told img pool c (Refuse word) = []
-told img pool c (Select d e word) = cond (wantsTemplate c) (templateOf (recAt img (chosen d e))) []
+told img pool c (Select d e word) = cond (wants_template c) (template_of (rec_at img (chosen d e))) []
 told img pool c (Create x) = []
 told img pool c (Delete s) = []
 told img pool c (SetLife s life) = []

@@ -1,31 +1,27 @@
 // A verdict becomes its effect: a small function for each, then `apply`, which chooses among them (01 "SELECT",
 // "CREATE", "DELETE", "ACTIVATE, DEACTIVATE", "TERMINATE EF / DF", "TERMINATE CARD USAGE"; 02 Ticket 4).
-ghost use mathlib.Core.Path.{_≡_};
-ghost use Prim.Native.Nat.{_+_, _-_, _<_, _≤_};
-ghost use lib.ListN.{length};
-ghost use Rattle·laws.specs.Lists.{splice};
-ghost use Rattle·template.specs.Objects.{bytesAt};
-ghost use Rattle·image.specs.Layout.{Within, Sized, setCurrent, setLife, longestRule, versionOf, countOf};
-ghost use Rattle·pool.specs.Bodies.{startAt, bodyAt};
-ghost use Rattle·pool.specs.Laid.{Laid};
-ghost use Rattle·sound.specs.Effects.{created, newBody, made, filled, deleted, wiped};
-ghost use Rattle·kinship.specs.Climb.{Rooted, Housed};
-ghost use Rattle·verdict.specs.Words.{done};
-ghost use Rattle·verdict.specs.Applied.{wordOf, sentData, appliedOf, pooledOf};
-ghost use Rattle·effect·specs.specs.Fit.{Roomy, Applies};
+ghost use Rattle.std.specs.Prelude.{◌≡◌, ◌+◌, ◌-◌, ◌<◌, ◌≤◌, length};
+ghost use Rattle.laws.specs.Lists.{splice};
+ghost use Rattle.template.specs.Objects.{bytes_at};
+ghost use Rattle.image.specs.Layout.{Within, Sized, set_current, set_life, longest_rule, version_of, count_of};
+ghost use Rattle.pool.specs.Bodies.{start_at, body_at};
+ghost use Rattle.pool.specs.Laid.{Laid};
+ghost use Rattle.sound.specs.Effects.{created, new_body, made, filled, deleted, wiped};
+ghost use Rattle.kinship.specs.Climb.{Rooted, Housed};
+ghost use Rattle.verdict.specs.Words.{done};
+ghost use Rattle.verdict.specs.Applied.{word_of, sent_data, applied_of, pooled_of};
+ghost use Rattle.effect.specs.Fit.{Roomy, Applies};
+
 use crate::erase;
-use image::Head;
-use image::fields;
-use image::write;
+use image::{Head, fields, write};
 use rules::descriptor;
 use template::Span;
-use verdict::Verdict;
-use verdict::words;
+use verdict::{Verdict, words};
 
 // What SELECT found becomes current; its word tells the file's life cycle.
 fn select(image: &mut [u8], df: u16, ef: u16, word: u16) -> u16
-    requires { ⌜ 16 ≤ length (now image) ⌝ }
-    ensures { λ r. ⌜ (r ≡ word) × (now (image .exit) ≡ setCurrent (now (image .entry)) df ef) ⌝ }
+    requires { 16 ≤ length image.old }
+    ensures { (result ≡ word) × (image.new ≡ set_current image.old df ef) }
 {
     write::set_current(image, df, ef);
     word
@@ -33,8 +29,8 @@ fn select(image: &mut [u8], df: u16, ef: u16, word: u16) -> u16
 
 // A value in CREATE's data as a part of the command: the data follow the five bytes up to Lc.
 fn sent(command: &[u8], place: Span) -> &[u8]
-    requires { ⌜ (place .start ≤ place .end) × (5 + place .end ≤ length (now command)) ⌝ }
-    ensures { λ r. ⌜ now r ≡ bytesAt (sentData (now (command .entry))) place ⌝ }
+    requires { (place.start ≤ place.end) × (5 + place.end ≤ length command.now) }
+    ensures { result.now ≡ bytes_at (sent_data command.now) place }
 {
     let from = 5 + place.start;
     let to = 5 + place.end;
@@ -43,9 +39,9 @@ fn sent(command: &[u8], place: Span) -> &[u8]
 
 // The new record; a new DF becomes current with no EF, a new EF becomes current EF.
 fn enter(image: &mut [u8], slot: usize, head: Head, name: &[u8], rule: &[u8])
-    requires { ⌜ Within (now image) slot ⌝ }
-    requires { ⌜ (length (now name) ≤ 16) × (length (now rule) ≤ longestRule (versionOf (now image))) ⌝ }
-    ensures { λ _. ⌜ now (image .exit) ≡ created (now (image .entry)) slot head (now (name .entry)) (now (rule .entry)) ⌝ }
+    requires within { Within image.old slot }
+    requires name_len_bound { (length name.now ≤ 16) × (length rule.now ≤ longest_rule (version_of image.old)) }
+    ensures { image.new ≡ created image.old slot head name.now rule.now }
 {
     let df = fields::current_df(image) as u16;
     let new = slot as u16;
@@ -60,7 +56,7 @@ fn enter(image: &mut [u8], slot: usize, head: Head, name: &[u8], rule: &[u8])
 
 // How many bytes of the pool a new file needs.
 fn new_body(v: u32, head: Head) -> usize
-    ensures { λ r. ⌜ r ≡ newBody v head ⌝ }
+    ensures { result ≡ new_body v head }
 {
     if !image::version::has_bodies(v) {
         return 0;
@@ -81,11 +77,11 @@ fn create(
     name: &[u8],
     rule: &[u8],
 ) -> u16
-    requires { ⌜ (Within (now image) slot × Sized (now image) n) × (n ≡ countOf (now image)) ⌝ }
-    requires { ⌜ (length (now name) ≤ 16) × (length (now rule) ≤ longestRule (versionOf (now image))) ⌝ }
-    requires { ⌜ Laid n (startAt (now image)) (bodyAt (now image)) (length (now pool)) × Roomy (now image) (now pool) head ⌝ }
-    ensures { λ r. ⌜ (r ≡ done) × (now (image .exit) ≡ made (now (image .entry)) slot head (now (name .entry)) (now (rule .entry)))
-        × (now (pool .exit) ≡ filled (now (image .entry)) (now (pool .entry)) head) ⌝ }
+    requires within { (Within image.old slot × Sized image.old n) × (n ≡ count_of image.old) }
+    requires name_len_bound { (length name.now ≤ 16) × (length rule.now ≤ longest_rule (version_of image.old)) }
+    requires laid { Laid n (start_at image.old) (body_at image.old) (length pool.old) × Roomy image.old pool.old head }
+    ensures { (result ≡ done) × (image.new ≡ made image.old slot head name.now rule.now)
+        × (pool.new ≡ filled image.old pool.old head) }
 {
     let m = new_body(fields::version(image), head);
     if m == 0 {
@@ -100,11 +96,11 @@ fn create(
 
 // DELETE, with its word.
 fn delete(image: &mut [u8], n: usize, pool: &mut [u8], slot: usize) -> u16
-    requires { ⌜ Rooted (now image) n × Housed (now image) n ⌝ }
-    requires { ⌜ (n ≡ countOf (now image)) × (slot < n) ⌝ }
-    requires { ⌜ Laid n (startAt (now image)) (bodyAt (now image)) (length (now pool)) ⌝ }
-    ensures { λ r. ⌜ (r ≡ done) × (now (image .exit) ≡ deleted (now (image .entry)) slot)
-        × (now (pool .exit) ≡ wiped (now (image .entry)) (now (pool .entry)) slot) ⌝ }
+    requires rooted { Rooted image.old n × Housed image.old n }
+    requires n_value { (n ≡ count_of image.old) × (slot < n) }
+    requires laid { Laid n (start_at image.old) (body_at image.old) (length pool.old) }
+    ensures { (result ≡ done) × (image.new ≡ deleted image.old slot)
+        × (pool.new ≡ wiped image.old pool.old slot) }
 {
     erase::erase(image, n, pool, slot);
     words::DONE
@@ -112,8 +108,8 @@ fn delete(image: &mut [u8], n: usize, pool: &mut [u8], slot: usize) -> u16
 
 // UPDATE, with its word: the command's data, from `at` on.
 fn update(pool: &mut [u8], at: usize, command: &[u8]) -> u16
-    requires { ⌜ (5 ≤ length (now command)) × (at + (length (now command) - 5) ≤ length (now pool)) ⌝ }
-    ensures { λ r. ⌜ (r ≡ done) × (now (pool .exit) ≡ splice (now (pool .entry)) at (sentData (now (command .entry)))) ⌝ }
+    requires { (5 ≤ length command.now) × (at + (length command.now - 5) ≤ length pool.old) }
+    ensures { (result ≡ done) × (pool.new ≡ splice pool.old at (sent_data command.now)) }
 {
     numbers::copy_in(pool, at, apdu::sent_data(command));
     words::DONE
@@ -121,8 +117,8 @@ fn update(pool: &mut [u8], at: usize, command: &[u8]) -> u16
 
 // Another life-cycle byte.
 fn set_life(image: &mut [u8], slot: usize, life: u8) -> u16
-    requires { ⌜ Within (now image) slot ⌝ }
-    ensures { λ r. ⌜ (r ≡ done) × (now (image .exit) ≡ setLife (now (image .entry)) slot life) ⌝ }
+    requires { Within image.old slot }
+    ensures { (result ≡ done) × (image.new ≡ set_life image.old slot life) }
 {
     write::set_life(image, slot, life);
     words::DONE
@@ -130,9 +126,9 @@ fn set_life(image: &mut [u8], slot: usize, life: u8) -> u16
 
 // The one effect of the verdict on the command, and its word.
 pub fn apply(image: &mut [u8], n: usize, pool: &mut [u8], command: &[u8], verdict: Verdict) -> u16
-    requires { ⌜ Applies (now image) n (now pool) (now command) verdict ⌝ }
-    ensures { λ r. ⌜ (r ≡ wordOf verdict) × (now (image .exit) ≡ appliedOf (now (image .entry)) (now (command .entry)) verdict)
-        × (now (pool .exit) ≡ pooledOf (now (image .entry)) (now (pool .entry)) (now (command .entry)) verdict) ⌝ }
+    requires { Applies image.old n pool.old command.now verdict }
+    ensures { (result ≡ word_of verdict) × (image.new ≡ applied_of image.old command.now verdict)
+        × (pool.new ≡ pooled_of image.old pool.old command.now verdict) }
 {
     match verdict {
         Verdict::Refuse(word) => word,

@@ -1,50 +1,50 @@
 -- What an expanded rule grants grows with what has been authenticated, however its conditions nest.
 use mathlib.Core.Bool.{Bool, true, false}
-use mathlib.Core.List.{List, [], _∷_}
-use Prim.Native.Nat.{ℕ, zero, suc, _/_, _%_}
+use mathlib.Core.List.{List, [], ◌∷◌}
+use Prim.Native.Nat.{ℕ, zero, suc, ◌/◌, ◌%◌}
 use lib.Dec.{eqb}
-use Rattle·rules.specs.declared.Right.{Right}
-use Rattle·rules.specs.declared.Sets.{Sets}
-use Rattle·rules.specs.Condition.{Wider}
-use Rattle·rules.proofs.Growing.{Grows, same-grows, cond-grows, or-grows, and-grows, sc-grows}
-use Rattle·expanded·specs.specs.Object.{Object, object, cut, objectsOf, every, some}
-use Rattle·expanded·specs.specs.Condition.{scOf, holdsPlain, holds}
-use Rattle·expanded·specs.specs.Expanded.{amAfter, expandedFormed, bitOf, opens, opensOne, expandedGrants}
+use Rattle.rules.specs.declared.Right.{Right}
+use Rattle.rules.specs.declared.Sets.{Sets}
+use Rattle.rules.specs.Condition.{Wider}
+use Rattle.rules.proofs.Growing.{Grows, same_grows, cond_grows, or_grows, and_grows, sc_grows}
+use Rattle.expanded.specs.Object.{Object, object, cut, objects_of, every, some}
+use Rattle.expanded.specs.Condition.{sc_of, holds_plain, holds}
+use Rattle.expanded.specs.Expanded.{am_after, expanded_formed, bit_of, opens, opens_one, expanded_grants}
 
 -- rows of objects
 module _ (f g : Object → Bool) (h : (o : Object) → Grows (f o) (g o)) where
-  some-grows : (os : List Object) → Grows (some f os) (some g os)
+  some_grows : (os : List Object) → Grows (some f os) (some g os)
   unfolding some
-  some-grows [] e = e
-  some-grows (o ∷ os) e = or-grows (f o) (some f os) (g o) (some g os) (h o) (some-grows os) e
+  some_grows [] e = e
+  some_grows (o ∷ os) e = or_grows (f o) (some f os) (g o) (some g os) (h o) (some_grows os) e
 
-  every-grows : (os : List Object) → Grows (every f os) (every g os)
+  every_grows : (os : List Object) → Grows (every f os) (every g os)
   unfolding every
-  every-grows [] e = e
-  every-grows (o ∷ os) e = and-grows (f o) (every f os) (g o) (every g os) (h o) (every-grows os) e
+  every_grows [] e = e
+  every_grows (o ∷ os) e = and_grows (f o) (every f os) (g o) (every g os) (h o) (every_grows os) e
 
 module _ (x y : Sets) (l : Wider x y) where
-  plain-grows : (tag : ℕ) (v : List ℕ) → Grows (holdsPlain x tag v) (holdsPlain y tag v)
-  unfolding holdsPlain
-  plain-grows tag v =
-      cond-grows (eqb tag 0x90) _ _ _ _ (same-grows true)
-      (cond-grows (eqb tag 0x9E) _ _ _ _ (sc-grows x y l (scOf v)) (same-grows false))
+  plain_grows : (tag : ℕ) (v : List ℕ) → Grows (holds_plain x tag v) (holds_plain y tag v)
+  unfolding holds_plain
+  plain_grows tag v =
+      cond_grows (eqb tag 0x90) _ _ _ _ (same_grows true)
+      (cond_grows (eqb tag 0x9E) _ _ _ _ (sc_grows x y l (sc_of v)) (same_grows false))
 
-  condition-grows : (left : ℕ) (o : Object) → Grows (holds left x o) (holds left y o)
+  condition_grows : (left : ℕ) (o : Object) → Grows (holds left x o) (holds left y o)
   unfolding holds
-  condition-grows zero (object tag v) = plain-grows tag v
-  condition-grows zero cut = same-grows false
-  condition-grows (suc left) (object tag v) =
-      cond-grows (eqb tag 0xA0) _ _ _ _ (some-grows (holds left x) (holds left y) (condition-grows left) (objectsOf v))
-      (cond-grows (eqb tag 0xAF) _ _ _ _ (every-grows (holds left x) (holds left y) (condition-grows left) (objectsOf v)) (plain-grows tag v))
-  condition-grows (suc left) cut = same-grows false
+  condition_grows zero (object tag v) = plain_grows tag v
+  condition_grows zero cut = same_grows false
+  condition_grows (suc left) (object tag v) =
+      cond_grows (eqb tag 0xA0) _ _ _ _ (some_grows (holds left x) (holds left y) (condition_grows left) (objects_of v))
+      (cond_grows (eqb tag 0xAF) _ _ _ _ (every_grows (holds left x) (holds left y) (condition_grows left) (objects_of v)) (plain_grows tag v))
+  condition_grows (suc left) cut = same_grows false
 
-  opens-grows : (bit am : ℕ) (os : List Object) → Grows (opensOne bit x am os) (opensOne bit y am os)
-  unfolding opensOne opens
-  opens-grows bit am [] = same-grows false
-  opens-grows bit am (o ∷ os) =
-      or-grows _ _ _ _ (cond-grows (eqb (am / bit % 2) 1) _ _ _ _ (condition-grows 4 o) (same-grows false)) (opens-grows bit (amAfter am o) os)
+  opens_grows : (bit am : ℕ) (os : List Object) → Grows (opens_one bit x am os) (opens_one bit y am os)
+  unfolding opens_one opens
+  opens_grows bit am [] = same_grows false
+  opens_grows bit am (o ∷ os) =
+      or_grows _ _ _ _ (cond_grows (eqb (am / bit % 2) 1) _ _ _ _ (condition_grows 4 o) (same_grows false)) (opens_grows bit (am_after am o) os)
 
-  pub expanded-grows : (rule : List ℕ) (right : Right) → Grows (expandedGrants rule right x) (expandedGrants rule right y)
-  unfolding expandedGrants
-  expanded-grows rule right = and-grows _ _ _ _ (same-grows (expandedFormed rule)) (opens-grows (bitOf right) 0 (objectsOf rule))
+  pub expanded_grows : (rule : List ℕ) (right : Right) → Grows (expanded_grants rule right x) (expanded_grants rule right y)
+  unfolding expanded_grants
+  expanded_grows rule right = and_grows _ _ _ _ (same_grows (expanded_formed rule)) (opens_grows (bit_of right) 0 (objects_of rule))

@@ -1,15 +1,11 @@
 -- Rules on both sides of each line that 02 Ticket 3 draws. Asked is CREATE EF, b2 of the AM byte, with user authentication 1 done.
-use Prim.Native.Nat.{ℕ, zero, suc}
-use mathlib.Core.Path.{_≡_, refl}
-use mathlib.Core.Bool.{cond}
-use mathlib.Core.List.{List, [], _∷_, _++_}
-use lib.ListN.{length}
-use Rattle·rules.specs.declared.Right.the-variants.{CreateEf}
-use Rattle·rules.specs.declared.Sets.{Sets}
-use Rattle·rules.specs.Condition.{met, oneOf, holdsOf}
-use Rattle·expanded·specs.specs.Object.{objectsFrom, objectsOf, every, some, several}
-use Rattle·expanded·specs.specs.Condition.{formedPlain, isTemplate, formed, scOf, holdsPlain, holds}
-use Rattle·expanded·specs.specs.Expanded.{isAm, amAfter, inPlace, goesOn, expandedFormed, opens, opensOne, expandedGrants}
+use Rattle.std.specs.Prelude.{ℕ, zero, suc, ◌≡◌, refl, cond, List, [], ◌∷◌, ◌++◌, length}
+use Rattle.rules.specs.declared.Right.TheVariants.{CreateEf}
+use Rattle.rules.specs.declared.Sets.{Sets}
+use Rattle.rules.specs.Condition.{met, one_of, holds_of}
+use Rattle.expanded.specs.Object.{objects_from, objects_of, every, some, several}
+use Rattle.expanded.specs.Condition.{formed_plain, is_template, formed, sc_of, holds_plain, holds}
+use Rattle.expanded.specs.Expanded.{is_am, am_after, in_place, goes_on, expanded_formed, opens, opens_one, expanded_grants}
 
 pub data Answer : Type 0 where
   granted : Answer
@@ -21,7 +17,7 @@ done = record { messaging = 0; external = 0; user = 0x0002 }
 
 -- a rule that grants is told as granted even where it is malformed, so that none does so unseen
 abbrev pub answer : List ℕ → Answer
-answer rule = cond (expandedGrants rule CreateEf done) granted (cond (expandedFormed rule) denied malformed)
+answer rule = cond (expanded_grants rule CreateEf done) granted (cond (expanded_formed rule) denied malformed)
 
 -- conditions: 90, 97, 9E with an SC byte that holds (11) and with one that does not (12)
 abbrev pub always : List ℕ
@@ -94,13 +90,13 @@ rows =
 
 abbrev pub answers : List (List ℕ × Answer) → List Answer
 answers [] = []
-answers (r ∷ rs) = answer (r .0) ∷ answers rs
+answers (r ∷ rs) = answer r.0 ∷ answers rs
 
 abbrev pub expected : List (List ℕ × Answer) → List Answer
 expected [] = []
-expected (r ∷ rs) = r .1 ∷ expected rs
+expected (r ∷ rs) = r.1 ∷ expected rs
 
 pub lines : answers rows ≡ expected rows
-unfolding objectsFrom objectsOf every some several formedPlain isTemplate formed scOf holdsPlain holds met oneOf holdsOf isAm amAfter
-    inPlace goesOn expandedFormed opens opensOne expandedGrants
+unfolding objects_from objects_of every some several formed_plain is_template formed sc_of holds_plain holds met one_of holds_of is_am am_after
+    in_place goes_on expanded_formed opens opens_one expanded_grants
 lines = refl

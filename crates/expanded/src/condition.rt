@@ -1,12 +1,9 @@
 // Conditions of an expanded rule: SC_DOs, which nest (02 Ticket 3). A function here takes the tag of an object and its value;
 // `left` is how many templates may still stand inside one another, and falls.
-ghost use mathlib.Core.Path.{_≡_};
-ghost use mathlib.Core.Bool.{true};
-ghost use Prim.Native.Nat.{_<_, _+_};
-ghost use lib.ListN.{length};
-ghost use mathlib.Core.List.{[]};
-ghost use Rattle·expanded·specs.specs.Object.{object, objectsOf, every, some, Stands};
-ghost use Rattle·expanded·specs.specs.Condition.{formedPlain, isTemplate, formed, scOf, holdsPlain, holds};
+ghost use Rattle.std.specs.Prelude.{◌≡◌, true, ◌<◌, ◌+◌, length, []};
+ghost use Rattle.expanded.specs.Object.{object, objects_of, every, some, Stands};
+ghost use Rattle.expanded.specs.Condition.{formed_plain, is_template, formed, sc_of, holds_plain, holds};
+
 use crate::object;
 use rules::Sets;
 
@@ -22,7 +19,7 @@ const ALL_OF: u8 = 0xAF;
 
 // Whether a condition that is no template is well formed.
 pub fn is_formed_plain(tag: u8, value: &[u8]) -> bool
-    ensures { λ r. ⌜ r ≡ formedPlain tag (now (value .entry)) ⌝ }
+    ensures { result ≡ formed_plain tag value.now }
 {
     if tag == ALWAYS {
         return value.len() == 0;
@@ -38,7 +35,7 @@ pub fn is_formed_plain(tag: u8, value: &[u8]) -> bool
 
 // Whether a tag is that of always or of never, which hold nothing.
 fn is_constant(tag: u8) -> bool
-    ensures { λ r. ⌜ r ≡ formedPlain tag [] ⌝ }
+    ensures { result ≡ formed_plain tag [] }
 {
     if tag == ALWAYS {
         return true;
@@ -48,8 +45,8 @@ fn is_constant(tag: u8) -> bool
 
 // Whether a 9E with its SC byte stands at `at`.
 pub fn is_byte_at(s: &[u8], at: usize) -> bool
-    requires { ⌜ at < length (now s) ⌝ }
-    ensures { λ r. ⌜ (r ≡ true → Stands (formed 0) (now (s .entry)) at (at + 3)) ⌝ }
+    requires { at < length s.now }
+    ensures { result ≡ true → Stands (formed 0) s.now at (at + 3) }
 {
     if s[at] != BYTE {
         return false;
@@ -59,8 +56,8 @@ pub fn is_byte_at(s: &[u8], at: usize) -> bool
 
 // Whether a 90 or a 97, with nothing in it, stands at `at`.
 pub fn is_constant_at(s: &[u8], at: usize) -> bool
-    requires { ⌜ at < length (now s) ⌝ }
-    ensures { λ r. ⌜ (r ≡ true → Stands (formed 0) (now (s .entry)) at (at + 2)) ⌝ }
+    requires { at < length s.now }
+    ensures { result ≡ true → Stands (formed 0) s.now at (at + 2) }
 {
     if !is_constant(s[at]) {
         return false;
@@ -70,7 +67,7 @@ pub fn is_constant_at(s: &[u8], at: usize) -> bool
 
 // Whether conditions stand in the value.
 pub fn is_template(tag: u8) -> bool
-    ensures { λ r. ⌜ r ≡ isTemplate tag ⌝ }
+    ensures { result ≡ is_template tag }
 {
     if tag == ONE_OF {
         return true;
@@ -79,8 +76,9 @@ pub fn is_template(tag: u8) -> bool
 }
 
 // Whether a condition is well formed, nested at most `left` deep.
+#[cycle(are_formed_is_formed)]
 pub fn is_formed(tag: u8, value: &[u8], left: usize) -> bool
-    ensures { λ r. ⌜ r ≡ formed left (object tag (now (value .entry))) ⌝ }
+    ensures { result ≡ formed left (object tag value.now) }
 {
     if left == 0 {
         return is_formed_plain(tag, value);
@@ -96,8 +94,9 @@ pub fn is_formed(tag: u8, value: &[u8], left: usize) -> bool
 
 // Whether each object of a row is such a condition. What is no template is passed by a constant, so that the next object does not
 // wait for the length of this one; all else, and what is malformed, goes the general way.
+#[cycle(are_formed_is_formed)]
 fn are_formed(s: &[u8], left: usize) -> bool
-    ensures { λ r. ⌜ r ≡ every (formed left) (objectsOf (now (s .entry))) ⌝ }
+    ensures { result ≡ every (formed left) (objects_of s.now) }
 {
     let mut at: usize = 0;
     while at < s.len() {
@@ -123,7 +122,7 @@ fn are_formed(s: &[u8], left: usize) -> bool
 
 // The SC byte of a 9E; FF, never, where there is none.
 fn sc_of(value: &[u8]) -> u8
-    ensures { λ r. ⌜ r ≡ scOf (now (value .entry)) ⌝ }
+    ensures { result ≡ sc_of value.now }
 {
     if value.len() == 1 {
         return value[0];
@@ -133,7 +132,7 @@ fn sc_of(value: &[u8]) -> u8
 
 // Whether a condition that is no template holds.
 fn does_hold_plain(tag: u8, value: &[u8], sets: Sets) -> bool
-    ensures { λ r. ⌜ r ≡ holdsPlain sets tag (now (value .entry)) ⌝ }
+    ensures { result ≡ holds_plain sets tag value.now }
 {
     if tag == ALWAYS {
         return true;
@@ -145,8 +144,9 @@ fn does_hold_plain(tag: u8, value: &[u8], sets: Sets) -> bool
 }
 
 // Whether a condition holds, nested at most `left` deep.
+#[cycle(do_all_does_hold_does_one)]
 pub fn does_hold(tag: u8, value: &[u8], left: usize, sets: Sets) -> bool
-    ensures { λ r. ⌜ r ≡ holds left sets (object tag (now (value .entry))) ⌝ }
+    ensures { result ≡ holds left sets (object tag value.now) }
 {
     if left == 0 {
         return does_hold_plain(tag, value, sets);
@@ -161,8 +161,9 @@ pub fn does_hold(tag: u8, value: &[u8], left: usize, sets: Sets) -> bool
 }
 
 // Whether one of the conditions in a row holds.
+#[cycle(do_all_does_hold_does_one)]
 fn does_one(s: &[u8], left: usize, sets: Sets) -> bool
-    ensures { λ r. ⌜ r ≡ some (holds left sets) (objectsOf (now (s .entry))) ⌝ }
+    ensures { result ≡ some (holds left sets) (objects_of s.now) }
 {
     let mut at: usize = 0;
     while at < s.len() {
@@ -179,8 +180,9 @@ fn does_one(s: &[u8], left: usize, sets: Sets) -> bool
 }
 
 // Whether all of the conditions in a row hold.
+#[cycle(do_all_does_hold_does_one)]
 fn do_all(s: &[u8], left: usize, sets: Sets) -> bool
-    ensures { λ r. ⌜ r ≡ every (holds left sets) (objectsOf (now (s .entry))) ⌝ }
+    ensures { result ≡ every (holds left sets) (objects_of s.now) }
 {
     let mut at: usize = 0;
     while at < s.len() {

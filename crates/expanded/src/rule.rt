@@ -1,22 +1,18 @@
 // Groups of a rule: which are well formed, and what they decide together (02 Ticket 3; house: of several SC_DOs in a row, one
 // suffices).
-ghost use mathlib.Core.Path.{_≡_};
-ghost use mathlib.Core.Bool.{true, false};
-ghost use Prim.Native.Nat.{_<_, _+_};
-ghost use lib.ListN.{length};
-ghost use Rattle·expanded·specs.specs.Object.{object, objectsOf, Stands};
-ghost use Rattle·expanded·specs.specs.Expanded.{isAm, amAfter, inPlace, expandedFormed, bitOf, opens, opensOne, expandedGrants};
-use crate::condition;
-use crate::object;
-use rules::Right;
-use rules::Sets;
+ghost use Rattle.std.specs.Prelude.{◌≡◌, true, false, ◌<◌, ◌+◌, length};
+ghost use Rattle.expanded.specs.Object.{object, objects_of, Stands};
+ghost use Rattle.expanded.specs.Expanded.{is_am, am_after, in_place, expanded_formed, bit_of, opens, opens_one, expanded_grants};
+
+use crate::{condition, object};
+use rules::{Right, Sets};
 
 // How deep templates may nest.
 const DEEP: usize = 4;
 
 // Whether an object is an AM_DO: 80 01 and an AM byte, b8 clear.
 fn is_am(tag: u8, value: &[u8]) -> bool
-    ensures { λ r. ⌜ r ≡ isAm (object tag (now (value .entry))) ⌝ }
+    ensures { result ≡ is_am (object tag value.now) }
 {
     if tag != 0x80 {
         return false;
@@ -30,7 +26,7 @@ fn is_am(tag: u8, value: &[u8]) -> bool
 // Whether an object may stand where it does; `due` says that an SC_DO must come. Only a template costs the call that goes down:
 // each command judges the rules of all records.
 fn is_in_place(tag: u8, value: &[u8], due: bool) -> bool
-    ensures { λ r. ⌜ r ≡ inPlace due (object tag (now (value .entry))) ⌝ }
+    ensures { result ≡ in_place due (object tag value.now) }
 {
     if is_am(tag, value) {
         return !due;
@@ -43,8 +39,8 @@ fn is_in_place(tag: u8, value: &[u8], due: bool) -> bool
 
 // Whether a group begins at `at`: an AM_DO, where no SC_DO is due.
 fn begins_at(rule: &[u8], at: usize, due: bool) -> bool
-    requires { ⌜ at < length (now rule) ⌝ }
-    ensures { λ r. ⌜ (r ≡ true → (due ≡ false) × Stands isAm (now (rule .entry)) at (at + 3)) ⌝ }
+    requires { at < length rule.now }
+    ensures { result ≡ true → (due ≡ false) × Stands is_am rule.now at (at + 3) }
 {
     if rule[at] != 0x80 {
         return false;
@@ -61,7 +57,7 @@ fn begins_at(rule: &[u8], at: usize, due: bool) -> bool
 // Whether a rule is groups of an AM_DO and one or more SC_DOs, and nothing else. What is no template is passed by a constant, so
 // that the next object does not wait for the length of this one; all else, and what is malformed, goes the general way.
 pub fn well_formed(rule: &[u8]) -> bool
-    ensures { λ r. ⌜ r ≡ expandedFormed (now (rule .entry)) ⌝ }
+    ensures { result ≡ expanded_formed rule.now }
 {
     if rule.len() < 1 {
         return false;
@@ -102,7 +98,7 @@ pub fn well_formed(rule: &[u8]) -> bool
 
 // The bit of a right in an AM byte.
 fn bit_of(right: Right) -> u8
-    ensures { λ r. ⌜ (r ≡ bitOf right) × (0 < r) ⌝ }
+    ensures { (result ≡ bit_of right) × (0 < result) }
 {
     match right {
         Right::DeleteSelf => 64,
@@ -119,7 +115,7 @@ fn bit_of(right: Right) -> u8
 
 // The AM byte that counts after an object: that of the last AM_DO.
 fn am_after(am: u8, tag: u8, value: &[u8]) -> u8
-    ensures { λ r. ⌜ r ≡ amAfter am (object tag (now (value .entry))) ⌝ }
+    ensures { result ≡ am_after am (object tag value.now) }
 {
     if !is_am(tag, value) {
         return am;
@@ -132,8 +128,8 @@ fn am_after(am: u8, tag: u8, value: &[u8]) -> u8
 
 // Whether the AM byte has the bit, and the object is a condition that holds.
 fn does_open(bit: u8, sets: Sets, am: u8, tag: u8, value: &[u8]) -> bool
-    requires { ⌜ 0 < bit ⌝ }
-    ensures { λ r. ⌜ r ≡ opens bit sets am (object tag (now (value .entry))) ⌝ }
+    requires { 0 < bit }
+    ensures { result ≡ opens bit sets am (object tag value.now) }
 {
     if am / bit % 2 != 1 {
         return false;
@@ -143,8 +139,8 @@ fn does_open(bit: u8, sets: Sets, am: u8, tag: u8, value: &[u8]) -> bool
 
 // Whether one of the objects opens what the bit stands for. Groups are alternatives, and so are the SC_DOs of one.
 fn opens_one(rule: &[u8], bit: u8, sets: Sets) -> bool
-    requires { ⌜ 0 < bit ⌝ }
-    ensures { λ r. ⌜ r ≡ opensOne bit sets 0 (objectsOf (now (rule .entry))) ⌝ }
+    requires { 0 < bit }
+    ensures { result ≡ opens_one bit sets 0 (objects_of rule.now) }
 {
     let mut am: u8 = 0;
     let mut at: usize = 0;
@@ -164,7 +160,7 @@ fn opens_one(rule: &[u8], bit: u8, sets: Sets) -> bool
 
 // What the rule decides on a right, under what has been authenticated; a malformed rule grants nothing.
 pub fn granted(rule: &[u8], right: Right, sets: Sets) -> bool
-    ensures { λ r. ⌜ r ≡ expandedGrants (now (rule .entry)) right sets ⌝ }
+    ensures { result ≡ expanded_grants rule.now right sets }
 {
     if !well_formed(rule) {
         return false;

@@ -1,19 +1,17 @@
 // The template of a file: how long it is, and written into a lent buffer where it fits.
-ghost use mathlib.Core.Path.{_≡_};
-ghost use Prim.Native.Nat.{_≤_};
-ghost use lib.ListN.{length};
-ghost use Rattle·image.specs.Layout.{recAt};
-ghost use Rattle·text.specs.Written.{Wrote};
-ghost use Rattle·fcp·specs.specs.Template.{templateOf};
-ghost use Rattle·fcp·specs.specs.Writing.{Tellable, descriptorLength, nameLength, Answered};
-use crate::Written;
-use crate::objects;
+ghost use Rattle.std.specs.Prelude.{◌≡◌, ◌≤◌, length};
+ghost use Rattle.image.specs.Layout.{rec_at};
+ghost use Rattle.text.specs.Written.{Wrote};
+ghost use Rattle.fcp.specs.Template.{template_of};
+ghost use Rattle.fcp.specs.Writing.{Tellable, descriptor_length, name_length, Answered};
+
+use crate::{Written, objects};
 use image::fields;
 use rules::descriptor;
 
 // How long 82 is.
 fn descriptor_length(d: u8) -> usize
-    ensures { λ r. ⌜ (r ≡ descriptorLength d) × (r ≤ 6) ⌝ }
+    ensures { (result ≡ descriptor_length d) × (result ≤ 6) }
 {
     if descriptor::has_records(d) {
         return 6;
@@ -23,8 +21,8 @@ fn descriptor_length(d: u8) -> usize
 
 // How long 84 is, of a name of n bytes.
 fn name_length(n: usize) -> usize
-    requires { ⌜ n ≤ 16 ⌝ }
-    ensures { λ r. ⌜ (r ≡ nameLength n) × (r ≤ 18) ⌝ }
+    requires { n ≤ 16 }
+    ensures { (result ≡ name_length n) × (result ≤ 18) }
 {
     if n == 0 {
         return 0;
@@ -34,8 +32,8 @@ fn name_length(n: usize) -> usize
 
 // How long the template is: 62 LL, 83, 8A, the rule's tag and length and the size are 15 bytes.
 fn length_of(image: &[u8], s: usize) -> usize
-    requires { ⌜ Tellable (now image) s ⌝ }
-    ensures { λ r. ⌜ (r ≡ length (templateOf (recAt (now (image .entry)) s))) × (r ≤ 69) ⌝ }
+    requires { Tellable image.now s }
+    ensures { (result ≡ length (template_of (rec_at image.now s))) × (result ≤ 69) }
 {
     let first = descriptor_length(fields::descriptor(image, s));
     let name = fields::name(image, s);
@@ -46,9 +44,9 @@ fn length_of(image: &[u8], s: usize) -> usize
 
 // Writes the template, n bytes long, at the buffer's start.
 fn fill(out: &mut [u8], image: &[u8], s: usize, n: usize) -> usize
-    requires { ⌜ Tellable (now image) s ⌝ }
-    requires { ⌜ (n ≡ length (templateOf (recAt (now image) s))) × ((n ≤ 69) × (n ≤ length (now out))) ⌝ }
-    ensures { λ r. ⌜ Wrote r (now (out .entry)) (now (out .exit)) (templateOf (recAt (now (image .entry)) s)) ⌝ }
+    requires tellable { Tellable image.now s }
+    requires n_value { (n ≡ length (template_of (rec_at image.now s))) × ((n ≤ 69) × (n ≤ length out.old)) }
+    ensures { Wrote result out.old out.new (template_of (rec_at image.now s)) }
 {
     let a = text::put(out, 0, &[0x62, (n - 2) as u8]);
     let b = objects::put_descriptor(out, a, image, s);
@@ -62,8 +60,8 @@ fn fill(out: &mut [u8], image: &[u8], s: usize, n: usize) -> usize
 // The template of the file in slot s at the start of the buffer, whose other bytes stay; or Short, and the buffer as it came,
 // where it is shorter than the template.
 pub fn write(out: &mut [u8], image: &[u8], s: usize) -> Written
-    requires { ⌜ Tellable (now image) s ⌝ }
-    ensures { λ r. ⌜ Answered (templateOf (recAt (now (image .entry)) s)) (now (out .entry)) (now (out .exit)) r ⌝ }
+    requires { Tellable image.now s }
+    ensures { Answered (template_of (rec_at image.now s)) out.old out.new result }
 {
     let n = length_of(image, s);
     if out.len() < n {

@@ -5,6 +5,7 @@ pub mod answer;
 pub mod objects;
 
 // The template was written, and is so long; or the buffer is too short for it and as it came.
+#[derive(Drop)]
 pub enum Written {
     Done(usize),
     Short,

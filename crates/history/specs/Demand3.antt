@@ -1,40 +1,36 @@
 -- Demand 3, and what follows from it, as statements about any history of commands on a fresh card (01 "What the
 -- statements must tie down"). Each is proved in proofs/Demand or proofs/Corollaries under the same name in small letters.
-use mathlib.Core.Path.{_≡_}
-use mathlib.Core.Bool.{Bool, true}
-use mathlib.Core.List.{List, [], _∷_}
-use mathlib.Core.Logic.{_↔_}
-use Prim.Native.Nat.{ℕ, _+_, _<_, _≤_}
-use Rattle·laws.specs.declared.Found.the-variants.{Nothing}
-use Rattle·rules.specs.Descriptor.{df}
-use Rattle·image.specs.Layout.{countOf, currentDfOf}
-use Rattle·pool.specs.Bodies.{startAt, bodyAt}
-use Rattle·pool.specs.Laid.{Laid}
-use Rattle·sound.specs.Table.{viewAt}
-use Rattle·sound.specs.Kinship.{freeSlot, roomFor}
-use Rattle·maker.specs.declared.Edition.{Edition}
-use Rattle·maker.specs.declared.Made.the-variants.{Done}
-use Rattle·maker.specs.Making.{madeOf, leftBy}
-use Rattle·verdict.specs.Words.{done, notEnoughMemory}
-use Rattle·card.specs.Command.{PoolFits}
-use Rattle·card.specs.Demands.{Call}
-use Rattle·history·specs.specs.Ledger.{makes, deletes, neither, livesIn, totalIn, chargedIn, roomIn, fileIn, strikes}
-use Rattle·history·specs.specs.Story.{Story, begun, wordFor, hears, next, played, Ready, sizeSent}
+use Rattle.std.specs.Prelude.{◌≡◌, Bool, true, List, [], ◌∷◌, ◌↔◌, ℕ, ◌+◌, ◌<◌, ◌≤◌}
+use Rattle.laws.specs.declared.Found.TheVariants.{Nothing}
+use Rattle.rules.specs.Descriptor.{df}
+use Rattle.image.specs.Layout.{count_of, current_df_of}
+use Rattle.pool.specs.Bodies.{start_at, body_at}
+use Rattle.pool.specs.Laid.{Laid}
+use Rattle.sound.specs.Table.{view_at}
+use Rattle.sound.specs.Kinship.{free_slot, room_for}
+use Rattle.maker.specs.declared.Edition.{Edition}
+use Rattle.maker.specs.declared.Made.TheVariants.{Done}
+use Rattle.maker.specs.Making.{made_of, left_by}
+use Rattle.verdict.specs.Words.{done, not_enough_memory}
+use Rattle.card.specs.Command.{PoolFits}
+use Rattle.card.specs.Demands.{Call}
+use Rattle.history.specs.Ledger.{makes, deletes, neither, lives_in, total_in, charged_in, room_in, file_in, strikes}
+use Rattle.history.specs.Story.{Story, begun, word_for, hears, next, played, Ready, size_sent}
 
 -- the directory whose slot is current
 abbrev pub here : Story → ℕ
-here st = currentDfOf (st .image)
+here st = current_df_of st.image
 
 -- its room; whether it lives; by the ledger
 abbrev pub room : Story → ℕ → ℕ
-room st d = roomIn (st .ledger) d
+room st d = room_in st.ledger d
 
 abbrev pub Lives : Story → ℕ → Type 0
-Lives st d = livesIn (st .ledger) d ≡ true
+Lives st d = lives_in st.ledger d ≡ true
 
 -- a call deletes directory d, or one above it
 abbrev pub Strikes : Story → Call → ℕ → Type 0
-Strikes st x d = strikes (st .ledger) (hears st x) (here st) d ≡ true
+Strikes st x d = strikes st.ledger (hears st x) (here st) d ≡ true
 
 -- a call made directory d: a CREATE of a DF, answered 9000, whose slot is then current
 pub record Makes (st : Story) (x : Call) (d : ℕ) : Type 0 where
@@ -45,22 +41,22 @@ pub record Makes (st : Story) (x : Call) (d : ℕ) : Type 0 where
 
 pub record Demand3 (st : Story) : Type 0 where
   -- every directory of the card lives in the ledger, and no other slot does
-  pub everyone : (d : ℕ) → Lives st d ↔ ((d < countOf (st .image)) × (viewAt (st .image) d .kind ≡ df))
+  pub everyone : (d : ℕ) → Lives st d ↔ ((d < count_of st.image) × ((view_at st.image d).kind ≡ df))
   -- any directory that lives: its room by the ledger is what its records give, and the total is never exceeded
-  pub rooms : (d : ℕ) → Lives st d → room st d ≡ roomFor (countOf (st .image)) (viewAt (st .image)) d
-  pub covered : (d : ℕ) → Lives st d → chargedIn (st .ledger) d ≤ totalIn (st .ledger) d
+  pub rooms : (d : ℕ) → Lives st d → room st d ≡ room_for (count_of st.image) (view_at st.image) d
+  pub covered : (d : ℕ) → Lives st d → charged_in st.ledger d ≤ total_in st.ledger d
   -- the current one lives; where every earlier check passes, CREATE FILE says 6A84 exactly if size plus 64 exceeds its
   -- room, and 9000 otherwise
   pub current : Lives st (here st)
-  pub full : (x : Call) → Ready (st .image) x → (wordFor (st .image) x ≡ notEnoughMemory)
-      ↔ (room st (here st) < sizeSent (st .version) x + 64)
-  pub takes : (x : Call) → Ready (st .image) x → (wordFor (st .image) x ≡ done) ↔ (sizeSent (st .version) x + 64 ≤ room st (here st))
+  pub full : (x : Call) → Ready st.image x → (word_for st.image x ≡ not_enough_memory)
+      ↔ (room st (here st) < size_sent st.version x + 64)
+  pub takes : (x : Call) → Ready st.image x → (word_for st.image x ≡ done) ↔ (size_sent st.version x + 64 ≤ room st (here st))
   -- from its creation, in a slot where none lived, with its announced total for its room
   pub begins : (x : Call) (d : ℕ) → (Lives st d → ⊥) → Lives (next st x) d → Makes st x d
-  pub newborn : (x : Call) (d : ℕ) (m : Makes st x d) → (Lives st d → ⊥) × (Lives (next st x) d × (room (next st x) d ≡ m .total))
+  pub newborn : (x : Call) (d : ℕ) (m : Makes st x d) → (Lives st d → ⊥) × (Lives (next st x) d × (room (next st x) d ≡ m.total))
   -- until it or one above it is deleted
   pub ends : (x : Call) (d : ℕ) → Lives st d → Strikes st x d → Lives (next st x) d → ⊥
-  pub goes-on : (x : Call) (d : ℕ) → Lives st d → (Strikes st x d → ⊥) → Lives (next st x) d
+  pub goes_on_lem : (x : Call) (d : ℕ) → Lives st d → (Strikes st x d → ⊥) → Lives (next st x) d
   -- nothing done while another is current takes a byte from it, or gives it one
   pub elsewhere : (x : Call) (d : ℕ) → Lives st d → (Strikes st x d → ⊥) → (d ≡ here st → ⊥) → room (next st x) d ≡ room st d
 
@@ -72,8 +68,8 @@ pub record History (st : Story) : Type 0 where
   pub form : ℕ
   pub rule : List ℕ
   pub calls : List Call
-  pub made : madeOf buffer edition total form rule ≡ Done
-  pub story : played (begun (edition .version) (leftBy Done buffer edition total form rule) total) calls ≡ st
+  pub made : made_of buffer edition total form rule ≡ Done
+  pub story : played (begun edition.version (left_by Done buffer edition total form rule) total) calls ≡ st
 
 abbrev pub Demand3Holds : Type 0
 Demand3Holds = (st : Story) → History st → Demand3 st
@@ -89,36 +85,36 @@ NothingElsewhere = (st : Story) → History st → (d : ℕ) → Lives st d → 
 
 -- a full file table never refuses a CREATE that has room: a free record is there, and the word is 9000
 abbrev pub FullTableNever : Type 0
-FullTableNever = (st : Story) → History st → (x : Call) → Ready (st .image) x → sizeSent (st .version) x + 64 ≤ room st (here st)
-    → (freeSlot (countOf (st .image)) (viewAt (st .image)) ≡ Nothing → ⊥) × (wordFor (st .image) x ≡ done)
+FullTableNever = (st : Story) → History st → (x : Call) → Ready st.image x → size_sent st.version x + 64 ≤ room st (here st)
+    → (free_slot (count_of st.image) (view_at st.image) ≡ Nothing → ⊥) × (word_for st.image x ≡ done)
 
 -- .. and a fragmented pool never does (02 Ticket 4): however the bodies lie, such a CREATE is answered 9000, and afterwards all bodies, the
 -- new one among them, lie apart in a pool of the root's total
 abbrev pub FragmentedPoolNever : Type 0
-FragmentedPoolNever = (st : Story) → History st → (x : Call) → Ready (st .image) x → sizeSent (st .version) x + 64 ≤ room st (here st)
-    → (wordFor (st .image) x ≡ done)
-    × Laid (countOf (next st x .image)) (startAt (next st x .image)) (bodyAt (next st x .image)) (next st x .ledger .total)
+FragmentedPoolNever = (st : Story) → History st → (x : Call) → Ready st.image x → size_sent st.version x + 64 ≤ room st (here st)
+    → (word_for st.image x ≡ done)
+    × Laid (count_of (next st x).image) (start_at (next st x).image) (body_at (next st x).image) (next st x).ledger.total
 
 -- a pool of a wrong length, answer 6: nothing changes, and the ledger hears nothing
 abbrev pub WrongPoolUnheard : Type 0
-WrongPoolUnheard = (st : Story) → History st → (x : Call) → (PoolFits (st .image) (x .pool) → ⊥)
+WrongPoolUnheard = (st : Story) → History st → (x : Call) → (PoolFits st.image x.pool → ⊥)
     → (hears st x ≡ neither) × (next st x ≡ st)
 
 -- a file is charged to its direct parent alone: size plus 64, and no other directory that lives pays anything
 abbrev pub ParentPaysAlone : Type 0
-ParentPaysAlone = (st : Story) → History st → (x : Call) (i size : ℕ) (isDf : Bool) → hears st x ≡ makes i size isDf
+ParentPaysAlone = (st : Story) → History st → (x : Call) (i size : ℕ) (is_df : Bool) → hears st x ≡ makes i size is_df
     → (room (next st x) (here st) + (size + 64) ≡ room st (here st))
     × ((d : ℕ) → Lives st d → (d ≡ here st → ⊥) → room (next st x) d ≡ room st d)
 
 -- a deleted file gives back exactly what it took, however much lay beneath it
 abbrev pub GivesBack : Type 0
 GivesBack = (st : Story) → History st → (x : Call) (i : ℕ) → hears st x ≡ deletes i
-    → room (next st x) (here st) ≡ room st (here st) + (fileIn (st .ledger) (here st) i .size + 64)
+    → room (next st x) (here st) ≡ room st (here st) + ((file_in st.ledger (here st) i).size + 64)
 
 -- a deleted identifier that comes back at once is charged anew, by what is announced then; one that comes back later is
 -- charged as any new file is (`ParentPaysAlone`)
 abbrev pub ChargedAnew : Type 0
-ChargedAnew = (st : Story) → History st → (x y : Call) (i size : ℕ) (isDf : Bool) → hears st x ≡ deletes i
-    → hears (next st x) y ≡ makes i size isDf
-    → (room (next (next st x) y) (here st) + (size + 64) ≡ room st (here st) + (fileIn (st .ledger) (here st) i .size + 64))
-    × (fileIn (next (next st x) y .ledger) (here st) i .size ≡ size)
+ChargedAnew = (st : Story) → History st → (x y : Call) (i size : ℕ) (is_df : Bool) → hears st x ≡ deletes i
+    → hears (next st x) y ≡ makes i size is_df
+    → (room (next (next st x) y) (here st) + (size + 64) ≡ room st (here st) + ((file_in st.ledger (here st) i).size + 64))
+    × ((file_in (next (next st x) y).ledger (here st) i).size ≡ size)

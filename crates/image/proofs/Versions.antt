@@ -1,15 +1,15 @@
 -- The versions: none has a rule past the end of a record, and none more forms than a byte can tell; two bytes hold each of them.
-use mathlib.Core.Path.{_≡_, refl, sym, _∙_, ap}
+use mathlib.Core.Path.{◌≡◌, refl, sym, ◌∙◌, ap}
 use mathlib.Core.Bool.{Bool, true, false, cond, false≢true}
-use Prim.Native.Nat.{ℕ, _<_, _≤_}
+use Prim.Native.Nat.{ℕ, ◌<◌, ◌≤◌}
 use native.Mathlib.Omega.{arith}
 use lib.Dec.{eqb, leb, ltb}
 use borrow.Author.Tests.{eqb-true, eqb-false, ltb-true, lt-leb, le-ltb}
-use Rattle·image·specs.specs.Layout.{longestRule, formsOf, knownVersion, hasBodies}
+use Rattle.image.specs.Layout.{longest_rule, forms_of, known_version, has_bodies}
 
-pub longest-within : (v : ℕ) → longestRule v ≤ 30
-unfolding longestRule
-longest-within v = go (eqb v 1) (eqb v 2) (eqb v 3)
+pub longest_within : (v : ℕ) → longest_rule v ≤ 30
+unfolding longest_rule
+longest_within v = go (eqb v 1) (eqb v 2) (eqb v 3)
   where
     go : (a b c : Bool) → cond a 16 (cond b 30 (cond c 28 0)) ≤ 30
     go true b c = omega arith
@@ -17,8 +17,8 @@ longest-within v = go (eqb v 1) (eqb v 2) (eqb v 3)
     go false false true = omega arith
     go false false false = omega arith
 
-pub known-low : (v : ℕ) → knownVersion v ≡ true → v ≤ 3
-unfolding knownVersion formsOf
+pub known-low : (v : ℕ) → known_version v ≡ true → v ≤ 3
+unfolding known_version forms_of
 known-low v k = go (eqb v 1) (eqb v 2) (eqb v 3) refl refl refl k
   where
     go : (a b c : Bool) → eqb v 1 ≡ a → eqb v 2 ≡ b → eqb v 3 ≡ c → ltb 0 (cond a 1 (cond b 2 (cond c 3 0))) ≡ true → v ≤ 3
@@ -27,17 +27,17 @@ known-low v k = go (eqb v 1) (eqb v 2) (eqb v 3) refl refl refl k
     go false false true p q r t = omega (arith, eqb-true v 3 r)
     go false false false p q r t = absurd (false≢true t)
 
-pub known-narrow : (v : ℕ) → knownVersion v ≡ true → v < 65536
-known-narrow v k = omega (arith, known-low v k)
+pub known_narrow : (v : ℕ) → known_version v ≡ true → v < 65536
+known_narrow v k = omega (arith, known-low v k)
 
 -- a version that is known has a form, and room for rules of 16 bytes
-pub known-form : (v : ℕ) → knownVersion v ≡ true → 0 < formsOf v
-unfolding knownVersion
-known-form v k = ltb-true 0 (formsOf v) k
+pub known-form : (v : ℕ) → known_version v ≡ true → 0 < forms_of v
+unfolding known_version
+known-form v k = ltb-true 0 (forms_of v) k
 
-pub longest-least : (v : ℕ) → knownVersion v ≡ true → 16 ≤ longestRule v
-unfolding knownVersion formsOf longestRule
-longest-least v k = go (eqb v 1) (eqb v 2) (eqb v 3) k
+pub longest_least : (v : ℕ) → known_version v ≡ true → 16 ≤ longest_rule v
+unfolding known_version forms_of longest_rule
+longest_least v k = go (eqb v 1) (eqb v 2) (eqb v 3) k
   where
     go : (a b c : Bool) → ltb 0 (cond a 1 (cond b 2 (cond c 3 0))) ≡ true → 16 ≤ cond a 16 (cond b 30 (cond c 28 0))
     go true b c t = omega arith
@@ -45,8 +45,8 @@ longest-least v k = go (eqb v 1) (eqb v 2) (eqb v 3) k
     go false false true t = omega arith
     go false false false t = absurd (false≢true t)
 
-pub forms-few : (v : ℕ) → formsOf v ≤ 3
-unfolding formsOf
+pub forms-few : (v : ℕ) → forms_of v ≤ 3
+unfolding forms_of
 forms-few v = go (eqb v 1) (eqb v 2) (eqb v 3)
   where
     go : (a b c : Bool) → cond a 1 (cond b 2 (cond c 3 0)) ≤ 3
@@ -56,18 +56,18 @@ forms-few v = go (eqb v 1) (eqb v 2) (eqb v 3)
     go false false false = omega arith
 
 -- where there are bodies, the rule leaves two bytes for a start
-pub bodies-third : (v : ℕ) → hasBodies v ≡ true → v ≡ 3
-unfolding hasBodies
+pub bodies-third : (v : ℕ) → has_bodies v ≡ true → v ≡ 3
+unfolding has_bodies
 bodies-third v h = eqb-true v 3 h
 
-pub bodies-rule : (v : ℕ) → hasBodies v ≡ true → longestRule v ≡ 28
-unfolding longestRule
+pub bodies-rule : (v : ℕ) → has_bodies v ≡ true → longest_rule v ≡ 28
+unfolding longest_rule
 bodies-rule v h = rw (bodies-third v h)
 
 -- a form told by itself, a law for each way out of `version::has_form`
 module _ (v : ℕ) {form : ℕ} where
-  pub has-third : form ≡ 2 → eqb v 3 ≡ ltb form (formsOf v)
-  unfolding formsOf
+  pub has-third : form ≡ 2 → eqb v 3 ≡ ltb form (forms_of v)
+  unfolding forms_of
   has-third f = rw f (go (eqb v 1) (eqb v 2) (eqb v 3) refl refl refl)
     where
       go : (a b c : Bool) → eqb v 1 ≡ a → eqb v 2 ≡ b → eqb v 3 ≡ c → c ≡ ltb 2 (cond a 1 (cond b 2 (cond c 3 0)))
@@ -76,13 +76,13 @@ module _ (v : ℕ) {form : ℕ} where
       go false false true p q r = refl
       go false false false p q r = refl
 
-  pub has-second : form ≡ 1 → v ≡ 2 → true ≡ ltb form (formsOf v)
-  unfolding formsOf
-  has-second f e = rw f (rw e refl)
+  pub has_second : form ≡ 1 → v ≡ 2 → true ≡ ltb form (forms_of v)
+  unfolding forms_of
+  has_second f e = rw f (rw e refl)
 
-  pub has-second-else : form ≡ 1 → (v ≡ 2 → ⊥) → eqb v 3 ≡ ltb form (formsOf v)
-  unfolding formsOf
-  has-second-else f other = rw f (go (eqb v 1) (eqb v 2) (eqb v 3) refl refl refl)
+  pub has_second_else : form ≡ 1 → (v ≡ 2 → ⊥) → eqb v 3 ≡ ltb form (forms_of v)
+  unfolding forms_of
+  has_second_else f other = rw f (go (eqb v 1) (eqb v 2) (eqb v 3) refl refl refl)
     where
       go : (a b c : Bool) → eqb v 1 ≡ a → eqb v 2 ≡ b → eqb v 3 ≡ c → c ≡ ltb 1 (cond a 1 (cond b 2 (cond c 3 0)))
       go true b c p q r = sym r ∙ ap (λ (w : ℕ). eqb w 3) (eqb-true v 1 p)
@@ -90,16 +90,16 @@ module _ (v : ℕ) {form : ℕ} where
       go false false true p q r = refl
       go false false false p q r = refl
 
-  pub has-no-more : (form ≡ 2 → ⊥) → (form ≡ 1 → ⊥) → (form ≡ 0 → ⊥) → false ≡ ltb form (formsOf v)
-  has-no-more two one nought = sym (le-ltb form (formsOf v) (omega (arith, forms-few v, two, one, nought)))
+  pub has-no_more : (form ≡ 2 → ⊥) → (form ≡ 1 → ⊥) → (form ≡ 0 → ⊥) → false ≡ ltb form (forms_of v)
+  has-no_more two one nought = sym (le-ltb form (forms_of v) (omega (arith, forms-few v, two, one, nought)))
 
-  pub has-none : form ≡ 0 → v < 1 → false ≡ ltb form (formsOf v)
-  unfolding formsOf
+  pub has-none : form ≡ 0 → v < 1 → false ≡ ltb form (forms_of v)
+  unfolding forms_of
   has-none f low = let nought : v ≡ 0 = omega (arith, low) in rw f (rw nought refl)
 
-  pub has-first : form ≡ 0 → 1 ≤ v → leb v 3 ≡ ltb form (formsOf v)
-  unfolding formsOf
-  has-first f low = rw f (go (eqb v 1) (eqb v 2) (eqb v 3) refl refl refl)
+  pub has_first : form ≡ 0 → 1 ≤ v → leb v 3 ≡ ltb form (forms_of v)
+  unfolding forms_of
+  has_first f low = rw f (go (eqb v 1) (eqb v 2) (eqb v 3) refl refl refl)
     where
       go : (a b c : Bool) → eqb v 1 ≡ a → eqb v 2 ≡ b → eqb v 3 ≡ c → leb v 3 ≡ ltb 0 (cond a 1 (cond b 2 (cond c 3 0)))
       go true b c p q r = ap (λ (w : ℕ). leb w 3) (eqb-true v 1 p)
@@ -107,4 +107,4 @@ module _ (v : ℕ) {form : ℕ} where
       go false false true p q r = ap (λ (w : ℕ). leb w 3) (eqb-true v 3 r)
       go false false false p q r = lt-leb v 3 (omega (arith, low, eqb-false v 1 p, eqb-false v 2 q, eqb-false v 3 r))
 
-pub ruleset formsTold = (has-third, has-second, has-second-else, has-no-more, has-none, has-first)
+pub ruleset forms_told = (has-third, has_second, has_second_else, has-no_more, has-none, has_first)

@@ -15,6 +15,7 @@ pub const NONE: u16 = 0xFFFF;
 pub const NO_SLOT: usize = 0xFFFF;
 
 // The numbers of a record, in the order of its bytes.
+#[derive(Drop)]
 pub struct Head {
     pub kind: u8,
     pub descriptor: u8,

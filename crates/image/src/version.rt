@@ -1,12 +1,10 @@
 // What a version of the image lays down (01 "Image"; 02 Tickets 3, 4 and 7).
-ghost use mathlib.Core.Path.{_≡_};
-ghost use Prim.Native.Nat.{_≤_};
-ghost use lib.Dec.{ltb};
-ghost use Rattle·image·specs.specs.Layout.{longestRule, formsOf, knownVersion, hasBodies};
+ghost use Rattle.std.specs.Prelude.{◌≡◌, ◌≤◌, ltb};
+ghost use Rattle.image.specs.Layout.{longest_rule, forms_of, known_version, has_bodies};
 
 // How many bytes a rule may have, from 34 of a record on; 0 where the version is not known.
 pub fn longest_rule(v: u32) -> usize
-    ensures { λ r. ⌜ (r ≡ longestRule v) × (r ≤ 30) ⌝ }
+    ensures { (result ≡ longest_rule v) × (result ≤ 30) }
 {
     if v == 1 {
         return 16;
@@ -23,7 +21,7 @@ pub fn longest_rule(v: u32) -> usize
 // Whether it has a form of rules, numbered from 0. The form is told first: soundness asks this of every record, and a version told for
 // each form is quicker there than a comparison of two numbers.
 pub fn has_form(v: u32, form: u8) -> bool
-    ensures { λ r. ⌜ r ≡ ltb form (formsOf v) ⌝ }
+    ensures { result ≡ ltb form (forms_of v) }
 {
     if form == 2 {
         return v == 3;
@@ -44,14 +42,14 @@ pub fn has_form(v: u32, form: u8) -> bool
 }
 
 pub fn is_known(v: u32) -> bool
-    ensures { λ r. ⌜ r ≡ knownVersion v ⌝ }
+    ensures { result ≡ known_version v }
 {
     has_form(v, 0)
 }
 
 // Whether files have bodies.
 pub fn has_bodies(v: u32) -> bool
-    ensures { λ r. ⌜ r ≡ hasBodies v ⌝ }
+    ensures { result ≡ has_bodies v }
 {
     v == 3
 }

@@ -1,18 +1,16 @@
 // The writes into an image: a whole record, a free one, a life-cycle byte, a start, what is current (01 "Image"). Each
 // leaves every byte that it does not name.
-ghost use mathlib.Core.Path.{_≡_};
-ghost use Prim.Native.Nat.{_+_, _*_, _<_, _≤_};
-ghost use lib.ListN.{length};
-ghost use Rattle·laws.specs.Lists.{splice};
-ghost use Rattle·image·specs.specs.Layout.{Within, longestRule, field, headBytes, recordBytes, putRecord, clearRecord, setLife, setCurrent};
-ghost use Rattle·image·specs.specs.Layout.{setStart};
-use crate::Head;
-use crate::version;
+ghost use Rattle.std.specs.Prelude.{◌≡◌, ◌+◌, ◌*◌, ◌<◌, ◌≤◌, length};
+ghost use Rattle.laws.specs.Lists.{splice};
+ghost use Rattle.image.specs.Layout.{Within, longest_rule, field, head_bytes, record_bytes, put_record, clear_record, set_life, set_current};
+ghost use Rattle.image.specs.Layout.{set_start};
+
+use crate::{Head, version};
 
 // The first 16 bytes of a record.
 fn put_head(image: &mut [u8], at: usize, h: Head)
-    requires { ⌜ at + 16 ≤ length (now image) ⌝ }
-    ensures { λ _. ⌜ now (image .exit) ≡ splice (now (image .entry)) at (headBytes h) ⌝ }
+    requires { at + 16 ≤ length image.old }
+    ensures { image.new ≡ splice image.old at (head_bytes h) }
 {
     numbers::put8(image, at, h.kind);
     numbers::put8(image, at + 1, h.descriptor);
@@ -27,8 +25,8 @@ fn put_head(image: &mut [u8], at: usize, h: Head)
 
 // A length and so many bytes, zero-padded to `most`.
 fn put_field(image: &mut [u8], at: usize, v: &[u8], most: usize)
-    requires { ⌜ (at + 1 + most ≤ length (now image)) × ((length (now v) ≤ most) × (most ≤ 30)) ⌝ }
-    ensures { λ _. ⌜ now (image .exit) ≡ splice (now (image .entry)) at (field most (now (v .entry))) ⌝ }
+    requires { (at + 1 + most ≤ length image.old) × ((length v.now ≤ most) × (most ≤ 30)) }
+    ensures { image.new ≡ splice image.old at (field most v.now) }
 {
     let n = v.len();
     numbers::put8(image, at, n as u8);
@@ -38,8 +36,8 @@ fn put_field(image: &mut [u8], at: usize, v: &[u8], most: usize)
 
 // Record s, whole, as the version lays it down.
 pub fn put_record(image: &mut [u8], v: u32, s: usize, h: Head, name: &[u8], rule: &[u8])
-    requires { ⌜ Within (now image) s × ((length (now name) ≤ 16) × (length (now rule) ≤ longestRule v)) ⌝ }
-    ensures { λ _. ⌜ now (image .exit) ≡ putRecord (now (image .entry)) s (recordBytes v h (now (name .entry)) (now (rule .entry))) ⌝ }
+    requires { Within image.old s × ((length name.now ≤ 16) × (length rule.now ≤ longest_rule v)) }
+    ensures { image.new ≡ put_record image.old s (record_bytes v h name.now rule.now) }
 {
     let at = 16 + 64 * s;
     let most = version::longest_rule(v);
@@ -51,32 +49,32 @@ pub fn put_record(image: &mut [u8], v: u32, s: usize, h: Head, name: &[u8], rule
 
 // Record s becomes a free one.
 pub fn clear_record(image: &mut [u8], s: usize)
-    requires { ⌜ Within (now image) s ⌝ }
-    ensures { λ _. ⌜ now (image .exit) ≡ clearRecord (now (image .entry)) s ⌝ }
+    requires { Within image.old s }
+    ensures { image.new ≡ clear_record image.old s }
 {
     numbers::zero_out(image, 16 + 64 * s, 64);
 }
 
 // Another life-cycle byte for record s.
 pub fn set_life(image: &mut [u8], s: usize, life: u8)
-    requires { ⌜ Within (now image) s ⌝ }
-    ensures { λ _. ⌜ now (image .exit) ≡ setLife (now (image .entry)) s life ⌝ }
+    requires { Within image.old s }
+    ensures { image.new ≡ set_life image.old s life }
 {
     numbers::put8(image, 16 + 64 * s + 2, life);
 }
 
 // Another start for the body of record s.
 pub fn set_start(image: &mut [u8], s: usize, to: usize)
-    requires { ⌜ Within (now image) s × (to < 65536) ⌝ }
-    ensures { λ _. ⌜ now (image .exit) ≡ setStart (now (image .entry)) s to ⌝ }
+    requires { Within image.old s × (to < 65536) }
+    ensures { image.new ≡ set_start image.old s to }
 {
     numbers::put16(image, 16 + 64 * s + 62, to as u16);
 }
 
 // Another current DF, another current EF.
 pub fn set_current(image: &mut [u8], df: u16, ef: u16)
-    requires { ⌜ 16 ≤ length (now image) ⌝ }
-    ensures { λ _. ⌜ now (image .exit) ≡ setCurrent (now (image .entry)) df ef ⌝ }
+    requires { 16 ≤ length image.old }
+    ensures { image.new ≡ set_current image.old df ef }
 {
     numbers::put16(image, 7, df);
     numbers::put16(image, 9, ef);

@@ -1,30 +1,26 @@
 -- The steps A to G that all commands share (01 "The order in which a command is judged").
-use Prim.Native.Nat.{ℕ}
-use mathlib.Core.Bool.{not}
-use mathlib.Core.List.{List, [], _∷_}
-use lib.ListN.{length}
-use lib.Dec.{eqb, leb}
-use Rattle·image.specs.Layout.{versionOf}
-use Rattle·sound.specs.Kinship.{terminatedAt}
-use Rattle·verdict.specs.declared.State.{State}
-use Rattle·verdict.specs.Words.{wrongLength, wrongClass, wrongInstruction, wrongParameters, conditionsNotSatisfied}
-use Rattle·judge_target.specs.Steps.{Step, step}
-use Rattle·apdu.specs.Apdu.{classByte, instruction, isKnown, crowded, fitParameters, fitLength, onOtherChannel}
+use Rattle.std.specs.Prelude.{ℕ, not, List, [], ◌∷◌, length, eqb, leb}
+use Rattle.image.specs.Layout.{version_of}
+use Rattle.sound.specs.Kinship.{terminated_at}
+use Rattle.verdict.specs.declared.State.{State}
+use Rattle.verdict.specs.Words.{wrong_length, wrong_class, wrong_instruction, wrong_parameters, conditions_not_satisfied}
+use Rattle.judge_target.specs.Steps.{Step, step}
+use Rattle.apdu.specs.Apdu.{class_byte, instruction, is_known, crowded, fit_parameters, fit_length, on_other_channel}
 
 -- the steps E to G
-abbrev pub laterSteps : List ℕ → State → List Step
-laterSteps c st =
-    step (not (crowded (instruction c) st)) conditionsNotSatisfied                                   -- E
-    ∷ step (fitParameters c) wrongParameters                                                         -- F
-    ∷ step (fitLength c) wrongLength                                                                 -- G
+abbrev pub later_steps : List ℕ → State → List Step
+later_steps c st =
+    step (not (crowded (instruction c) st)) conditions_not_satisfied  -- E
+    ∷ step (fit_parameters c) wrong_parameters  -- F
+    ∷ step (fit_length c) wrong_length  -- G
     ∷ []
 
 -- the steps A to G
-abbrev pub sharedSteps : List ℕ → List ℕ → State → List Step
-sharedSteps img c st =
-    step (leb 4 (length c)) wrongLength                                                              -- A
-    ∷ step (not (onOtherChannel (classByte c))) conditionsNotSatisfied                               -- B
-    ∷ step (eqb (classByte c) 0x00) wrongClass
-    ∷ step (isKnown (versionOf img) (instruction c)) wrongInstruction                                -- C
-    ∷ step (not (terminatedAt img 0)) conditionsNotSatisfied                                         -- D
-    ∷ laterSteps c st                                                                                -- E to G
+abbrev pub shared_steps : List ℕ → List ℕ → State → List Step
+shared_steps img c st =
+    step (leb 4 (length c)) wrong_length  -- A
+    ∷ step (not (on_other_channel (class_byte c))) conditions_not_satisfied  -- B
+    ∷ step (eqb (class_byte c) 0x00) wrong_class
+    ∷ step (is_known (version_of img) (instruction c)) wrong_instruction  -- C
+    ∷ step (not (terminated_at img 0)) conditions_not_satisfied  -- D
+    ∷ later_steps c st  -- E to G

@@ -1,29 +1,25 @@
 // The order in which a command is judged (01): the steps A to G that all commands share, then the command's
 // own, by its instruction.
-ghost use mathlib.Core.Path.{_≡_};
-ghost use mathlib.Core.Bool.{true};
-ghost use Prim.Native.Nat.{_≤_};
-ghost use lib.ListN.{length};
-ghost use Rattle·image.specs.Layout.{versionOf, currentDfOf};
-ghost use Rattle·sound.specs.Sound.{Sound};
-ghost use Rattle·judge_target.specs.Judgeable.{Judgeable};
-ghost use Rattle·judge_target.specs.Steps.{judged, followed};
-ghost use Rattle·apdu.specs.Apdu.{isKnown, fitLength};
-ghost use Rattle·judge·specs.specs.Shared.{laterSteps};
-ghost use Rattle·judge·specs.specs.Judge.{lifePlan, bodyPlan, planFor, judgeFor, judgeOf};
+ghost use Rattle.std.specs.Prelude.{◌≡◌, true, ◌≤◌, length};
+ghost use Rattle.image.specs.Layout.{version_of, current_df_of};
+ghost use Rattle.sound.specs.Sound.{Sound};
+ghost use Rattle.judge_target.specs.Judgeable.{Judgeable};
+ghost use Rattle.judge_target.specs.Steps.{judged, followed};
+ghost use Rattle.apdu.specs.Apdu.{is_known, fit_length};
+ghost use Rattle.judge.specs.Shared.{later_steps};
+ghost use Rattle.judge.specs.Judge.{life_plan, body_plan, plan_for, judge_for, judge_of};
+
 use apdu::bodies;
 use image::fields;
 use judge_target::target;
 use rules::Sets;
-use verdict::State;
-use verdict::Verdict;
-use verdict::words;
+use verdict::{State, Verdict, words};
 
 // The life-cycle commands, which are about what is current.
 fn on_current<'a>(image: &'a [u8], pool: &'a [u8], n: usize, d: usize, i: u8, sets: Sets) -> Verdict
-    requires { ⌜ Judgeable (now image) n d ⌝ }
-    requires { ⌜ d ≡ currentDfOf (now image) ⌝ }
-    ensures { λ r. ⌜ r ≡ followed (lifePlan (now (image .entry)) (now (pool .entry)) d i sets) ⌝ }
+    requires judgeable { Judgeable image.now n d }
+    requires d_value { d ≡ current_df_of image.now }
+    ensures { result ≡ followed (life_plan image.now pool.now d i sets) }
 {
     if i == apdu::ACTIVATE_FILE {
         return judge_commands::activate_file(image, pool, n, d, target::current_file(image), sets);
@@ -56,9 +52,9 @@ fn on_body<'a>(
     command: &[u8],
     sets: Sets,
 ) -> Verdict
-    requires { ⌜ Judgeable (now image) n d ⌝ }
-    requires { ⌜ 5 ≤ length (now command) ⌝ }
-    ensures { λ r. ⌜ r ≡ followed (bodyPlan (now (image .entry)) (now (pool .entry)) (now (command .entry)) sets) ⌝ }
+    requires judgeable { Judgeable image.now n d }
+    requires in_bounds { 5 ≤ length command.now }
+    ensures { result ≡ followed (body_plan image.now pool.now command.now sets) }
 {
     let i = command[1];
     let t = fields::current_ef(image);
@@ -81,10 +77,10 @@ fn by_instruction<'a>(
     command: &[u8],
     state: State,
 ) -> Verdict
-    requires { ⌜ Judgeable (now image) n d ⌝ }
-    requires { ⌜ d ≡ currentDfOf (now image) ⌝ }
-    requires { ⌜ (4 ≤ length (now command)) × (fitLength (now command) ≡ true) ⌝ }
-    ensures { λ r. ⌜ r ≡ followed (planFor (now (image .entry)) (now (pool .entry)) n d (now (command .entry)) state) ⌝ }
+    requires judgeable { Judgeable image.now n d }
+    requires d_value { d ≡ current_df_of image.now }
+    requires in_bounds { (4 ≤ length command.now) × (fit_length command.now ≡ true) }
+    ensures { result ≡ followed (plan_for image.now pool.now n d command.now state) }
 {
     let i = command[1];
     let sets = state.sets;
@@ -112,10 +108,10 @@ fn judge_later<'a>(
     command: &[u8],
     state: State,
 ) -> Verdict
-    requires { ⌜ Judgeable (now image) n d ⌝ }
-    requires { ⌜ (d ≡ currentDfOf (now image)) × (4 ≤ length (now command)) ⌝ }
-    ensures { λ r. ⌜ r ≡ judged (laterSteps (now (command .entry)) state)
-        (followed (planFor (now (image .entry)) (now (pool .entry)) n d (now (command .entry)) state)) ⌝ }
+    requires judgeable { Judgeable image.now n d }
+    requires d_value { (d ≡ current_df_of image.now) × (4 ≤ length command.now) }
+    ensures { result ≡ judged (later_steps command.now state)
+        (followed (plan_for image.now pool.now n d command.now state)) }
 {
     if apdu::is_crowded(command[1], state) {
         return Verdict::Refuse(words::CONDITIONS_NOT_SATISFIED);
@@ -131,8 +127,8 @@ fn judge_later<'a>(
 
 // Whether the card has the instruction, by its version.
 fn is_known(image: &[u8], i: u8) -> bool
-    requires { ⌜ 16 ≤ length (now image) ⌝ }
-    ensures { λ r. ⌜ r ≡ isKnown (versionOf (now (image .entry))) i ⌝ }
+    requires { 16 ≤ length image.now }
+    ensures { result ≡ is_known (version_of image.now) i }
 {
     apdu::is_known(fields::version(image), i)
 }
@@ -146,9 +142,9 @@ fn judge_for<'a>(
     command: &[u8],
     state: State,
 ) -> Verdict
-    requires { ⌜ Judgeable (now image) n d ⌝ }
-    requires { ⌜ d ≡ currentDfOf (now image) ⌝ }
-    ensures { λ r. ⌜ r ≡ judgeFor (now (image .entry)) (now (pool .entry)) n d (now (command .entry)) state ⌝ }
+    requires judgeable { Judgeable image.now n d }
+    requires d_value { d ≡ current_df_of image.now }
+    ensures { result ≡ judge_for image.now pool.now n d command.now state }
 {
     if command.len() < 4 {
         return Verdict::Refuse(words::WRONG_LENGTH);
@@ -170,8 +166,8 @@ fn judge_for<'a>(
 
 // The verdict on a command, on a sound image.
 pub fn judge<'a>(image: &'a [u8], pool: &'a [u8], command: &[u8], state: State) -> Verdict
-    requires { ⌜ Sound (now image) ⌝ }
-    ensures { λ r. ⌜ r ≡ judgeOf (now (image .entry)) (now (pool .entry)) (now (command .entry)) state ⌝ }
+    requires { Sound image.now }
+    ensures { result ≡ judge_of image.now pool.now command.now state }
 {
     let n = fields::count(image);
     let d = fields::current_df(image);

@@ -1,27 +1,24 @@
 // READ BINARY, UPDATE BINARY, READ RECORD and UPDATE RECORD, each by its own steps I to L (02 Ticket 4): the word of the first that fails,
 // or from where on bytes of the pool are told or overwritten.
-ghost use mathlib.Core.Path.{_≡_};
-ghost use Prim.Native.Nat.{_*_, _-_, _<_, _≤_};
-ghost use Rattle·rules.specs.Descriptor.{hasRecords};
-ghost use Rattle·image.specs.Layout.{Within, none, recAt, descriptorOf, recordLengthOf};
-ghost use Rattle·kinship.specs.Climb.{Stands};
-ghost use Rattle·judge_target.specs.Judgeable.{Judgeable};
-ghost use Rattle·judge_target.specs.Steps.{judged, followed};
-ghost use Rattle·judge_target.specs.Target.{allowedAt};
-ghost use Rattle·judge_bodies·specs.specs.Bodies.{rightTo, usable, touching, onBytes, binary, onRecord, recordwise};
+ghost use Rattle.std.specs.Prelude.{◌≡◌, ◌*◌, ◌-◌, ◌<◌, ◌≤◌};
+ghost use Rattle.rules.specs.Descriptor.{has_records};
+ghost use Rattle.image.specs.Layout.{Within, none, rec_at, descriptor_of, record_length_of};
+ghost use Rattle.kinship.specs.Climb.{Stands};
+ghost use Rattle.judge_target.specs.Judgeable.{Judgeable};
+ghost use Rattle.judge_target.specs.Steps.{judged, followed};
+ghost use Rattle.judge_target.specs.Target.{allowed_at};
+ghost use Rattle.judge_bodies.specs.Bodies.{right_to, usable, touching, on_bytes, binary, on_record, recordwise};
+
 use image::fields;
 use judge_target::target;
 use kinship::climb;
 use pool::records;
-use rules::Right;
-use rules::Sets;
-use rules::descriptor;
-use verdict::Verdict;
-use verdict::words;
+use rules::{Right, Sets, descriptor};
+use verdict::{Verdict, words};
 
 // The right that the EF's rule is asked for.
 pub fn right_to(reads: bool) -> Right
-    ensures { λ r. ⌜ r ≡ rightTo reads ⌝ }
+    ensures { result ≡ right_to reads }
 {
     if reads {
         return Right::Read;
@@ -39,25 +36,25 @@ fn may_touch<'a>(
     reads: bool,
     sets: Sets,
 ) -> bool
-    requires { ⌜ Judgeable (now image) n d ⌝ }
-    requires { ⌜ Stands (now image) n t ⌝ }
-    ensures { λ r. ⌜ r ≡ allowedAt (now (image .entry)) (now (pool .entry)) t (rightTo reads) sets ⌝ }
+    requires judgeable { Judgeable image.now n d }
+    requires stands { Stands image.now n t }
+    ensures { result ≡ allowed_at image.now pool.now t (right_to reads) sets }
 {
     target::allowed(image, pool, n, d, t, right_to(reads), sets)
 }
 
 // Whether the file in slot t has records.
 fn has_records(image: &[u8], t: usize) -> bool
-    requires { ⌜ Within (now image) t ⌝ }
-    ensures { λ r. ⌜ r ≡ hasRecords (descriptorOf (recAt (now (image .entry)) t)) ⌝ }
+    requires { Within image.now t }
+    ensures { result ≡ has_records (descriptor_of (rec_at image.now t)) }
 {
     descriptor::has_records(fields::descriptor(image, t))
 }
 
 // What is due: bytes of the body of t, from k on, are told or overwritten.
 fn touching_it(image: &[u8], t: usize, reads: bool, k: usize, n: usize) -> Verdict
-    requires { ⌜ Within (now image) t × (k < 4294967296) ⌝ }
-    ensures { λ r. ⌜ r ≡ touching (now (image .entry)) t reads k n ⌝ }
+    requires { Within image.now t × (k < 4294967296) }
+    ensures { result ≡ touching image.now t reads k n }
 {
     let at = fields::start(image, t) + k;
     if reads {
@@ -77,9 +74,9 @@ fn if_usable<'a>(
     sets: Sets,
     due: Verdict,
 ) -> Verdict
-    requires { ⌜ Judgeable (now image) n d ⌝ }
-    requires { ⌜ Stands (now image) n t ⌝ }
-    ensures { λ r. ⌜ r ≡ judged (usable (now (image .entry)) (now (pool .entry)) t reads sets) due ⌝ }
+    requires judgeable { Judgeable image.now n d }
+    requires stands { Stands image.now n t }
+    ensures { result ≡ judged (usable image.now pool.now t reads sets) due }
 {
     if !may_touch(image, pool, n, d, t, reads, sets) {
         return Verdict::Refuse(words::SECURITY_NOT_SATISFIED);
@@ -95,8 +92,8 @@ fn if_usable<'a>(
 
 // The steps on a transparent EF: `count` bytes from k on.
 fn on_bytes(image: &[u8], t: usize, reads: bool, k: usize, count: usize) -> Verdict
-    requires { ⌜ Within (now image) t × ((k < 65536) × (count ≤ 256)) ⌝ }
-    ensures { λ r. ⌜ r ≡ judged (onBytes (now (image .entry)) t k count) (touching (now (image .entry)) t reads k count) ⌝ }
+    requires { Within image.now t × ((k < 65536) × (count ≤ 256)) }
+    ensures { result ≡ judged (on_bytes image.now t k count) (touching image.now t reads k count) }
 {
     if has_records(image, t) {
         return Verdict::Refuse(words::WRONG_STRUCTURE);
@@ -123,10 +120,10 @@ pub fn binary<'a>(
     count: usize,
     sets: Sets,
 ) -> Verdict
-    requires { ⌜ Judgeable (now image) n d ⌝ }
-    requires { ⌜ ((t ≡ none → ⊥) → Stands (now image) n t) ⌝ }
-    requires { ⌜ (k < 65536) × (count ≤ 256) ⌝ }
-    ensures { λ r. ⌜ r ≡ followed (binary (now (image .entry)) (now (pool .entry)) t reads k count sets) ⌝ }
+    requires judgeable { Judgeable image.now n d }
+    requires stands { (t ≡ none → ⊥) → Stands image.now n t }
+    requires k_bound { (k < 65536) × (count ≤ 256) }
+    ensures { result ≡ followed (binary image.now pool.now t reads k count sets) }
 {
     if t == image::NO_SLOT {
         return Verdict::Refuse(words::NOT_ALLOWED);
@@ -137,9 +134,9 @@ pub fn binary<'a>(
 
 // The steps on an EF with records: record number i, of `count` bytes.
 fn on_record(image: &[u8], t: usize, reads: bool, i: usize, count: usize) -> Verdict
-    requires { ⌜ Within (now image) t × ((i < 256) × (count ≤ 256)) ⌝ }
-    ensures { λ r. ⌜ r ≡ judged (onRecord (now (image .entry)) t i count)
-        (touching (now (image .entry)) t reads ((i - 1) * recordLengthOf (recAt (now (image .entry)) t)) count) ⌝ }
+    requires { Within image.now t × ((i < 256) × (count ≤ 256)) }
+    ensures { result ≡ judged (on_record image.now t i count)
+        (touching image.now t reads ((i - 1) * record_length_of (rec_at image.now t)) count) }
 {
     if !has_records(image, t) {
         return Verdict::Refuse(words::WRONG_STRUCTURE);
@@ -166,10 +163,10 @@ pub fn recordwise<'a>(
     count: usize,
     sets: Sets,
 ) -> Verdict
-    requires { ⌜ Judgeable (now image) n d ⌝ }
-    requires { ⌜ ((t ≡ none → ⊥) → Stands (now image) n t) ⌝ }
-    requires { ⌜ (i < 256) × (count ≤ 256) ⌝ }
-    ensures { λ r. ⌜ r ≡ followed (recordwise (now (image .entry)) (now (pool .entry)) t reads i count sets) ⌝ }
+    requires judgeable { Judgeable image.now n d }
+    requires stands { (t ≡ none → ⊥) → Stands image.now n t }
+    requires i_bound { (i < 256) × (count ≤ 256) }
+    ensures { result ≡ followed (recordwise image.now pool.now t reads i count sets) }
 {
     if t == image::NO_SLOT {
         return Verdict::Refuse(words::NOT_ALLOWED);

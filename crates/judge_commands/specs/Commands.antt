@@ -1,98 +1,95 @@
 -- The commands of 01 but CREATE, each as the steps H to L that it is judged by and the effect that it then has. n is
 -- the slot count, d the current DF, t the file that a life-cycle command is about.
-use Prim.Native.Nat.{ℕ}
-use mathlib.Core.Bool.{Bool, cond, not, _||_}
-use mathlib.Core.List.{List, [], _∷_}
-use lib.Dec.{eqb}
-use Rattle·laws.specs.declared.Found.{Found}
-use Rattle·rules.specs.declared.Sets.{Sets}
-use Rattle·rules.specs.declared.Right.the-variants.{DeleteSelf, Terminate, Activate, Deactivate, DeleteChild}
-use Rattle·rules.specs.Descriptor.{df}
-use Rattle·rules.specs.Life.{isActivated, isDeactivated, isTerminated, canActivate, activatedByte, deactivatedByte, terminatedByte}
-use Rattle·image.specs.Layout.{none}
-use Rattle·sound.specs.Table.{viewAt}
-use Rattle·sound.specs.Kinship.{childNamed, terminatedUp}
-use Rattle·verdict.specs.declared.Verdict.{Verdict}
-use Rattle·verdict.specs.declared.Verdict.the-variants.{Select, Delete, SetLife}
-use Rattle·verdict.specs.Words.{done, fileDeactivated, fileTerminated, securityNotSatisfied, conditionsNotSatisfied, notAllowed, notFound}
-use Rattle·judge_target.specs.Steps.{step, judged, Plan, plan}
-use Rattle·judge_target.specs.Target.{lifeAt, allowedAt, isFound, slotIn, selected}
+use Rattle.std.specs.Prelude.{ℕ, Bool, cond, not, ◌||◌, List, [], ◌∷◌, eqb}
+use Rattle.laws.specs.declared.Found.{Found}
+use Rattle.rules.specs.declared.Sets.{Sets}
+use Rattle.rules.specs.declared.Right.TheVariants.{DeleteSelf, Terminate, Activate, Deactivate, DeleteChild}
+use Rattle.rules.specs.Descriptor.{df}
+use Rattle.rules.specs.Life.{is_activated, is_deactivated, is_terminated, can_activate, activated_byte, deactivated_byte, terminated_byte}
+use Rattle.image.specs.Layout.{none}
+use Rattle.sound.specs.Table.{view_at}
+use Rattle.sound.specs.Kinship.{child_named, terminated_up}
+use Rattle.verdict.specs.declared.Verdict.{Verdict}
+use Rattle.verdict.specs.declared.Verdict.TheVariants.{Select, Delete, SetLife}
+use Rattle.verdict.specs.Words.{done, file_deactivated, file_terminated, security_not_satisfied, conditions_not_satisfied, not_allowed, not_found}
+use Rattle.judge_target.specs.Steps.{step, judged, Plan, plan}
+use Rattle.judge_target.specs.Target.{life_at, allowed_at, is_found, slot_in, selected}
 
 -- SELECT of a 04 file gives 6283, of a 0C file 6285, and still selects
-unfoldable pub selectWord : ℕ → ℕ
-selectWord life = cond (isDeactivated life) fileDeactivated (cond (isTerminated life) fileTerminated done)
+unfoldable pub select_word : ℕ → ℕ
+select_word life = cond (is_deactivated life) file_deactivated (cond (is_terminated life) file_terminated done)
 
 -- a DF becomes current with no EF; an EF becomes current EF
 unfoldable pub selecting : List ℕ → ℕ → ℕ → Verdict
 selecting img d s =
-    cond (eqb (viewAt img s .kind) df)
-    (Select s none (selectWord (lifeAt img s)))
-    (Select d s (selectWord (lifeAt img s)))
+    cond (eqb (view_at img s).kind df)
+    (Select s none (select_word (life_at img s)))
+    (Select d s (select_word (life_at img s)))
 
 -- SELECT skips steps J and K
 abbrev pub select : List ℕ → ℕ → ℕ → ℕ → Plan
 select img n d x =
     let file : Found = selected img n d x in
-    plan (step (isFound file) notFound ∷ []) (selecting img d (slotIn file))                        -- I
+    plan (step (is_found file) not_found ∷ []) (selecting img d (slot_in file))  -- I
 
 -- the child in slot s may be deleted: by its own b7 or directory d's b1
-unfoldable pub mayDelete : List ℕ → List ℕ → ℕ → ℕ → Sets → Bool
-mayDelete img pool d s x = allowedAt img pool s DeleteSelf x || allowedAt img pool d DeleteChild x
+unfoldable pub may_delete : List ℕ → List ℕ → ℕ → ℕ → Sets → Bool
+may_delete img pool d s x = allowed_at img pool s DeleteSelf x || allowed_at img pool d DeleteChild x
 
 -- the child goes, if it may be deleted
 abbrev pub deleting : List ℕ → List ℕ → ℕ → Sets → ℕ → Verdict
-deleting img pool d x s = judged (step (mayDelete img pool d s x) securityNotSatisfied ∷ []) (Delete s)
+deleting img pool d x s = judged (step (may_delete img pool d s x) security_not_satisfied ∷ []) (Delete s)
 
 -- DELETE: a child of the current DF; no life-cycle check
 abbrev pub delete : List ℕ → List ℕ → ℕ → ℕ → ℕ → Sets → Plan
 delete img pool n d id x =
-    let child : Found = childNamed n (viewAt img) d id in
+    let child : Found = child_named n (view_at img) d id in
     plan
-    (step (isFound child) notFound                                                                  -- I
-    ∷ step (mayDelete img pool d (slotIn child) x) securityNotSatisfied                                  -- J
+    (step (is_found child) not_found  -- I
+    ∷ step (may_delete img pool d (slot_in child) x) security_not_satisfied  -- J
     ∷ [])
-    (Delete (slotIn child))
+    (Delete (slot_in child))
 
 -- ACTIVATE of the file in slot t: creation, initialisation, deactivated to 05
 abbrev pub activate : List ℕ → List ℕ → ℕ → Sets → Plan
 activate img pool t x =
     plan
-    (step (allowedAt img pool t Activate x) securityNotSatisfied                                         -- J
-    ∷ step (not (terminatedUp img t)) conditionsNotSatisfied                                        -- K
-    ∷ step (canActivate (lifeAt img t)) conditionsNotSatisfied
+    (step (allowed_at img pool t Activate x) security_not_satisfied  -- J
+    ∷ step (not (terminated_up img t)) conditions_not_satisfied  -- K
+    ∷ step (can_activate (life_at img t)) conditions_not_satisfied
     ∷ [])
-    (SetLife t activatedByte)
+    (SetLife t activated_byte)
 
 -- DEACTIVATE: activated to 04
 abbrev pub deactivate : List ℕ → List ℕ → ℕ → Sets → Plan
 deactivate img pool t x =
     plan
-    (step (allowedAt img pool t Deactivate x) securityNotSatisfied                                       -- J
-    ∷ step (not (terminatedUp img t)) conditionsNotSatisfied                                        -- K
-    ∷ step (isActivated (lifeAt img t)) conditionsNotSatisfied
+    (step (allowed_at img pool t Deactivate x) security_not_satisfied  -- J
+    ∷ step (not (terminated_up img t)) conditions_not_satisfied  -- K
+    ∷ step (is_activated (life_at img t)) conditions_not_satisfied
     ∷ [])
-    (SetLife t deactivatedByte)
+    (SetLife t deactivated_byte)
 
 -- TERMINATE EF: the current EF, any state but 0C to 0C
-abbrev pub terminateTheEf : List ℕ → List ℕ → ℕ → Sets → Plan
-terminateTheEf img pool t x =
+abbrev pub terminate_the_ef : List ℕ → List ℕ → ℕ → Sets → Plan
+terminate_the_ef img pool t x =
     plan
-    (step (not (eqb t none)) notAllowed                                                             -- I
-    ∷ step (allowedAt img pool t Terminate x) securityNotSatisfied                                       -- J
-    ∷ step (not (terminatedUp img t)) conditionsNotSatisfied                                        -- K
+    (step (not (eqb t none)) not_allowed  -- I
+    ∷ step (allowed_at img pool t Terminate x) security_not_satisfied  -- J
+    ∷ step (not (terminated_up img t)) conditions_not_satisfied  -- K
     ∷ [])
-    (SetLife t terminatedByte)
+    (SetLife t terminated_byte)
 
 -- TERMINATE DF: the current DF, any state but 0C to 0C; the root is 6985
-abbrev pub terminateTheDf : List ℕ → List ℕ → ℕ → Sets → Plan
-terminateTheDf img pool t x =
+abbrev pub terminate_the_df : List ℕ → List ℕ → ℕ → Sets → Plan
+terminate_the_df img pool t x =
     plan
-    (step (allowedAt img pool t Terminate x) securityNotSatisfied                                        -- J
-    ∷ step (not (eqb t 0)) conditionsNotSatisfied                                                   -- K
-    ∷ step (not (terminatedUp img t)) conditionsNotSatisfied
+    (step (allowed_at img pool t Terminate x) security_not_satisfied  -- J
+    ∷ step (not (eqb t 0)) conditions_not_satisfied  -- K
+    ∷ step (not (terminated_up img t)) conditions_not_satisfied
     ∷ [])
-    (SetLife t terminatedByte)
+    (SetLife t terminated_byte)
 
 -- TERMINATE CARD USAGE: the root's b6; root to 0C
-abbrev pub terminateTheCard : List ℕ → List ℕ → Sets → Plan
-terminateTheCard img pool x = plan (step (allowedAt img pool 0 Terminate x) securityNotSatisfied ∷ []) (SetLife 0 terminatedByte)   -- J
+abbrev pub terminate_the_card : List ℕ → List ℕ → Sets → Plan
+terminate_the_card img pool x = plan (step (allowed_at img pool 0 Terminate x) security_not_satisfied ∷ []) (SetLife 0 terminated_byte)  -- J

@@ -1,29 +1,24 @@
 // The commands but CREATE and those on bodies, each by its own steps H to L (01, from "SELECT" on): the word of the first that
 // fails, or the effect that is due.
-ghost use mathlib.Core.Path.{_≡_};
-ghost use Prim.Native.Nat.{_<_, _≤_};
-ghost use Rattle·image.specs.Layout.{Within, none};
-ghost use Rattle·kinship.specs.Climb.{Stands};
-ghost use Rattle·judge_target.specs.Judgeable.{Judgeable};
-ghost use Rattle·judge_target.specs.Steps.{followed};
-ghost use Rattle·judge_target.specs.Target.{lifeAt};
-ghost use Rattle·judge_commands·specs.specs.Commands.{selectWord, selecting, select, mayDelete, deleting, delete, activate, deactivate};
-ghost use Rattle·judge_commands·specs.specs.Commands.{terminateTheEf, terminateTheDf, terminateTheCard};
+ghost use Rattle.std.specs.Prelude.{◌≡◌, ◌<◌, ◌≤◌};
+ghost use Rattle.image.specs.Layout.{Within, none};
+ghost use Rattle.kinship.specs.Climb.{Stands};
+ghost use Rattle.judge_target.specs.Judgeable.{Judgeable};
+ghost use Rattle.judge_target.specs.Steps.{followed};
+ghost use Rattle.judge_target.specs.Target.{life_at};
+ghost use Rattle.judge_commands.specs.Commands.{select_word, selecting, select, may_delete, deleting, delete, activate, deactivate};
+ghost use Rattle.judge_commands.specs.Commands.{terminate_the_ef, terminate_the_df, terminate_the_card};
+
 use image::fields;
 use judge_target::target;
-use kinship::climb;
-use kinship::search;
+use kinship::{climb, search};
 use laws::Found;
-use rules::Right;
-use rules::Sets;
-use rules::descriptor;
-use rules::life_cycle;
-use verdict::Verdict;
-use verdict::words;
+use rules::{Right, Sets, descriptor, life_cycle};
+use verdict::{Verdict, words};
 
 // The word of a selection, by the file's life cycle.
 fn select_word(life: u8) -> u16
-    ensures { λ r. ⌜ r ≡ selectWord life ⌝ }
+    ensures { result ≡ select_word life }
 {
     if life_cycle::is_deactivated(life) {
         return words::FILE_DEACTIVATED;
@@ -36,17 +31,17 @@ fn select_word(life: u8) -> u16
 
 // The word of selecting the file in slot s.
 fn word_at(image: &[u8], s: usize) -> u16
-    requires { ⌜ Within (now image) s ⌝ }
-    ensures { λ r. ⌜ r ≡ selectWord (lifeAt (now (image .entry)) s) ⌝ }
+    requires { Within image.now s }
+    ensures { result ≡ select_word (life_at image.now s) }
 {
     select_word(fields::life_cycle(image, s))
 }
 
 // What becomes current when the file in slot s is selected, with d the current DF.
 fn selecting_it(image: &[u8], n: usize, d: usize, s: usize) -> Verdict
-    requires { ⌜ Judgeable (now image) n d ⌝ }
-    requires { ⌜ s < n ⌝ }
-    ensures { λ r. ⌜ r ≡ selecting (now (image .entry)) d s ⌝ }
+    requires judgeable { Judgeable image.now n d }
+    requires s_lt_n { s < n }
+    ensures { result ≡ selecting image.now d s }
 {
     let word = word_at(image, s);
     if fields::kind(image, s) == descriptor::DF {
@@ -64,8 +59,8 @@ fn selecting_it(image: &[u8], n: usize, d: usize, s: usize) -> Verdict
 }
 
 pub fn select_file(image: &[u8], n: usize, d: usize, x: u16) -> Verdict
-    requires { ⌜ Judgeable (now image) n d ⌝ }
-    ensures { λ r. ⌜ r ≡ followed (select (now (image .entry)) n d x) ⌝ }
+    requires { Judgeable image.now n d }
+    ensures { result ≡ followed (select image.now n d x) }
 {
     match target::select(image, n, d, x) {
         Found::At(s) => selecting_it(image, n, d, s),
@@ -75,9 +70,9 @@ pub fn select_file(image: &[u8], n: usize, d: usize, x: u16) -> Verdict
 
 // Whether the child in slot s may be deleted: by its own rule, or by directory d's.
 fn may_delete<'a>(image: &'a [u8], pool: &'a [u8], n: usize, d: usize, s: usize, sets: Sets) -> bool
-    requires { ⌜ Judgeable (now image) n d ⌝ }
-    requires { ⌜ Stands (now image) n s ⌝ }
-    ensures { λ r. ⌜ r ≡ mayDelete (now (image .entry)) (now (pool .entry)) d s sets ⌝ }
+    requires judgeable { Judgeable image.now n d }
+    requires stands { Stands image.now n s }
+    ensures { result ≡ may_delete image.now pool.now d s sets }
 {
     if target::allowed(image, pool, n, d, s, Right::DeleteSelf, sets) {
         return true;
@@ -94,9 +89,9 @@ fn deleting_it<'a>(
     s: usize,
     sets: Sets,
 ) -> Verdict
-    requires { ⌜ Judgeable (now image) n d ⌝ }
-    requires { ⌜ Stands (now image) n s ⌝ }
-    ensures { λ r. ⌜ r ≡ deleting (now (image .entry)) (now (pool .entry)) d sets s ⌝ }
+    requires judgeable { Judgeable image.now n d }
+    requires stands { Stands image.now n s }
+    ensures { result ≡ deleting image.now pool.now d sets s }
 {
     if !may_delete(image, pool, n, d, s, sets) {
         return Verdict::Refuse(words::SECURITY_NOT_SATISFIED);
@@ -112,8 +107,8 @@ pub fn delete_file<'a>(
     x: u16,
     sets: Sets,
 ) -> Verdict
-    requires { ⌜ Judgeable (now image) n d ⌝ }
-    ensures { λ r. ⌜ r ≡ followed (delete (now (image .entry)) (now (pool .entry)) n d x sets) ⌝ }
+    requires { Judgeable image.now n d }
+    ensures { result ≡ followed (delete image.now pool.now n d x sets) }
 {
     match search::child_named(image, n, d, x) {
         Found::At(s) => deleting_it(image, pool, n, d, s, sets),
@@ -130,9 +125,9 @@ pub fn activate_file<'a>(
     t: usize,
     sets: Sets,
 ) -> Verdict
-    requires { ⌜ Judgeable (now image) n d ⌝ }
-    requires { ⌜ Stands (now image) n t ⌝ }
-    ensures { λ r. ⌜ r ≡ followed (activate (now (image .entry)) (now (pool .entry)) t sets) ⌝ }
+    requires judgeable { Judgeable image.now n d }
+    requires stands { Stands image.now n t }
+    ensures { result ≡ followed (activate image.now pool.now t sets) }
 {
     if !target::allowed(image, pool, n, d, t, Right::Activate, sets) {
         return Verdict::Refuse(words::SECURITY_NOT_SATISFIED);
@@ -158,9 +153,9 @@ pub fn deactivate_file<'a>(
     t: usize,
     sets: Sets,
 ) -> Verdict
-    requires { ⌜ Judgeable (now image) n d ⌝ }
-    requires { ⌜ Stands (now image) n t ⌝ }
-    ensures { λ r. ⌜ r ≡ followed (deactivate (now (image .entry)) (now (pool .entry)) t sets) ⌝ }
+    requires judgeable { Judgeable image.now n d }
+    requires stands { Stands image.now n t }
+    ensures { result ≡ followed (deactivate image.now pool.now t sets) }
 {
     if !target::allowed(image, pool, n, d, t, Right::Deactivate, sets) {
         return Verdict::Refuse(words::SECURITY_NOT_SATISFIED);
@@ -186,9 +181,9 @@ pub fn terminate_ef<'a>(
     t: usize,
     sets: Sets,
 ) -> Verdict
-    requires { ⌜ Judgeable (now image) n d ⌝ }
-    requires { ⌜ ((t ≡ none → ⊥) → Stands (now image) n t) ⌝ }
-    ensures { λ r. ⌜ r ≡ followed (terminateTheEf (now (image .entry)) (now (pool .entry)) t sets) ⌝ }
+    requires judgeable { Judgeable image.now n d }
+    requires stands { (t ≡ none → ⊥) → Stands image.now n t }
+    ensures { result ≡ followed (terminate_the_ef image.now pool.now t sets) }
 {
     if t == image::NO_SLOT {
         return Verdict::Refuse(words::NOT_ALLOWED);
@@ -207,8 +202,8 @@ pub fn terminate_ef<'a>(
 
 // TERMINATE DF, with d the current DF.
 pub fn terminate_df<'a>(image: &'a [u8], pool: &'a [u8], n: usize, d: usize, sets: Sets) -> Verdict
-    requires { ⌜ Judgeable (now image) n d ⌝ }
-    ensures { λ r. ⌜ r ≡ followed (terminateTheDf (now (image .entry)) (now (pool .entry)) d sets) ⌝ }
+    requires { Judgeable image.now n d }
+    ensures { result ≡ followed (terminate_the_df image.now pool.now d sets) }
 {
     if !target::allowed(image, pool, n, d, d, Right::Terminate, sets) {
         return Verdict::Refuse(words::SECURITY_NOT_SATISFIED);
@@ -233,8 +228,8 @@ pub fn terminate_card<'a>(
     d: usize,
     sets: Sets,
 ) -> Verdict
-    requires { ⌜ Judgeable (now image) n d ⌝ }
-    ensures { λ r. ⌜ r ≡ followed (terminateTheCard (now (image .entry)) (now (pool .entry)) sets) ⌝ }
+    requires { Judgeable image.now n d }
+    ensures { result ≡ followed (terminate_the_card image.now pool.now sets) }
 {
     if !target::allowed(image, pool, n, d, 0, Right::Terminate, sets) {
         return Verdict::Refuse(words::SECURITY_NOT_SATISFIED);

@@ -1,39 +1,37 @@
 -- CREATE FILE (01 "CREATE"): the steps H to L that it is judged by, and the effect that it then has. n is the slot
 -- count, d the current DF.
-use Prim.Native.Nat.{ℕ}
-use mathlib.Core.Bool.{Bool, not, _&&_}
-use mathlib.Core.List.{List, [], _∷_}
-use Rattle·rules.specs.declared.Sets.{Sets}
-use Rattle·rules.specs.declared.Right.{Right}
-use Rattle·rules.specs.Life.{isDeactivated}
-use Rattle·image.specs.Layout.{versionOf}
-use Rattle·sound.specs.Table.{viewAt}
-use Rattle·sound.specs.Kinship.{freeSlot, terminatedUp, identifierFree, nameFree, fitsRoom}
-use Rattle·create_data.specs.declared.Data.{Data}
-use Rattle·create_data.specs.Data.{dataOf}
-use Rattle·verdict.specs.Words.{securityNotSatisfied, conditionsNotSatisfied, wrongData, notEnoughMemory, identifierExists, nameExists}
-use Rattle·judge_target.specs.Steps.{Step, step, judged, Plan, plan}
-use Rattle·judge_target.specs.Target.{lifeAt, allowedAt, slotIn, describes, rightFor, newIdentifier, newSize, newName, creating}
+use Rattle.std.specs.Prelude.{ℕ, Bool, not, ◌&&◌, List, [], ◌∷◌}
+use Rattle.rules.specs.declared.Sets.{Sets}
+use Rattle.rules.specs.declared.Right.{Right}
+use Rattle.rules.specs.Life.{is_deactivated}
+use Rattle.image.specs.Layout.{version_of}
+use Rattle.sound.specs.Table.{view_at}
+use Rattle.sound.specs.Kinship.{free_slot, terminated_up, identifier_free, name_free, fits_room}
+use Rattle.create_data.specs.declared.Data.{Data}
+use Rattle.create_data.specs.Data.{data_of}
+use Rattle.verdict.specs.Words.{security_not_satisfied, conditions_not_satisfied, wrong_data, not_enough_memory, identifier_exists, name_exists}
+use Rattle.judge_target.specs.Steps.{Step, step, judged, Plan, plan}
+use Rattle.judge_target.specs.Target.{life_at, allowed_at, slot_in, describes, right_for, new_identifier, new_size, new_name, creating}
 
 -- directory d takes files: it isn't 04 or 0C, and none above is 0C
-unfoldable pub takesFiles : List ℕ → ℕ → Bool
-takesFiles img d = not (isDeactivated (lifeAt img d)) && not (terminatedUp img d)
+unfoldable pub takes_files : List ℕ → ℕ → Bool
+takes_files img d = not (is_deactivated (life_at img d)) && not (terminated_up img d)
 
 -- a new file is admitted to directory d: by b3 or b2 of its rule, its life cycle, then identifier, name, memory
 abbrev pub admission : List ℕ → List ℕ → ℕ → ℕ → Right → ℕ → List ℕ → ℕ → Sets → List Step
 admission img pool n d right identifier name size x =
-    step (allowedAt img pool d right x) securityNotSatisfied                                             -- J
-    ∷ step (takesFiles img d) conditionsNotSatisfied                                                -- K
-    ∷ step (identifierFree n (viewAt img) d identifier) identifierExists                            -- L
-    ∷ step (nameFree n (viewAt img) name) nameExists
-    ∷ step (fitsRoom n (viewAt img) d size) notEnoughMemory
+    step (allowed_at img pool d right x) security_not_satisfied  -- J
+    ∷ step (takes_files img d) conditions_not_satisfied  -- K
+    ∷ step (identifier_free n (view_at img) d identifier) identifier_exists  -- L
+    ∷ step (name_free n (view_at img) name) name_exists
+    ∷ step (fits_room n (view_at img) d size) not_enough_memory
     ∷ []
 
 -- CREATE; s is its data. The new file takes the lowest free slot
 abbrev pub create : List ℕ → List ℕ → ℕ → ℕ → List ℕ → Sets → Plan
 create img pool n d s x =
-    let new : Data = dataOf (versionOf img) s in
+    let new : Data = data_of (version_of img) s in
     plan
-    (step (describes new) wrongData                                                                    -- H
-    ∷ admission img pool n d (rightFor new) (newIdentifier new) (newName s new) (newSize new) x)         -- J to L
-    (creating img d (slotIn (freeSlot n (viewAt img))) new)
+    (step (describes new) wrong_data  -- H
+    ∷ admission img pool n d (right_for new) (new_identifier new) (new_name s new) (new_size new) x)  -- J to L
+    (creating img d (slot_in (free_slot n (view_at img))) new)

@@ -1,37 +1,27 @@
 // CREATE FILE by its own steps H to L (01 "CREATE"): its data, the rights of the current DF, its life cycle,
 // then identifier, name and memory.
-ghost use mathlib.Core.Path.{_≡_};
-ghost use Prim.Native.Nat.{_<_, _≤_};
-ghost use lib.ListN.{length};
-ghost use Rattle·template.specs.Objects.{bytesAt};
-ghost use Rattle·image.specs.Layout.{Sized};
-ghost use Rattle·sound.specs.Table.{viewAt};
-ghost use Rattle·sound.specs.Kinship.{freeSlot};
-ghost use Rattle·judge_target.specs.Judgeable.{Judgeable};
-ghost use Rattle·judge_target.specs.Steps.{judged, followed};
-ghost use Rattle·judge_target.specs.Target.{slotIn, newHead, newRecord};
-ghost use Rattle·judge_create·specs.specs.Creation.{takesFiles, admission, create};
-use create_data::Data;
-use create_data::NewFile;
-use image::Head;
-use image::fields;
+ghost use Rattle.std.specs.Prelude.{◌≡◌, ◌<◌, ◌≤◌, length};
+ghost use Rattle.template.specs.Objects.{bytes_at};
+ghost use Rattle.image.specs.Layout.{Sized};
+ghost use Rattle.sound.specs.Table.{view_at};
+ghost use Rattle.sound.specs.Kinship.{free_slot};
+ghost use Rattle.judge_target.specs.Judgeable.{Judgeable};
+ghost use Rattle.judge_target.specs.Steps.{judged, followed};
+ghost use Rattle.judge_target.specs.Target.{slot_in, new_head, new_record};
+ghost use Rattle.judge_create.specs.Creation.{takes_files, admission, create};
+
+use create_data::{Data, NewFile};
+use image::{Head, fields};
 use judge_target::target;
-use kinship::climb;
-use kinship::names;
-use kinship::room;
-use kinship::search;
+use kinship::{climb, names, room, search};
 use laws::Found;
-use rules::Right;
-use rules::Sets;
-use rules::descriptor;
-use verdict::NewRecord;
-use verdict::Verdict;
-use verdict::words;
+use rules::{Right, Sets, descriptor};
+use verdict::{NewRecord, Verdict, words};
 
 // Whether directory d takes files: it isn't deactivated, and neither it nor one above is terminated.
 fn takes_files(image: &[u8], n: usize, d: usize) -> bool
-    requires { ⌜ Judgeable (now image) n d ⌝ }
-    ensures { λ r. ⌜ r ≡ takesFiles (now (image .entry)) d ⌝ }
+    requires { Judgeable image.now n d }
+    ensures { result ≡ takes_files image.now d }
 {
     if target::is_deactivated(image, d) {
         return false;
@@ -40,6 +30,7 @@ fn takes_files(image: &[u8], n: usize, d: usize) -> bool
 }
 
 // What a new file is: the right to create it, its identifier and its size.
+#[derive(Drop)]
 pub struct Asked {
     pub right: Right,
     pub identifier: u16,
@@ -57,10 +48,10 @@ fn admitted<'a>(
     sets: Sets,
     effect: Verdict,
 ) -> Verdict
-    requires { ⌜ Judgeable (now image) n d ⌝ }
-    ensures { λ r. ⌜ r ≡ judged
-        (admission (now (image .entry)) (now (pool .entry)) n d (new .right) (new .identifier) (now (name .entry)) (new .size) sets)
-        effect ⌝ }
+    requires { Judgeable image.now n d }
+    ensures { result ≡ judged
+        (admission image.now pool.now n d new.right new.identifier name.now new.size sets)
+        effect }
 {
     let right = new.right;
     if !target::allowed(image, pool, n, d, d, right, sets) {
@@ -83,8 +74,8 @@ fn admitted<'a>(
 
 // The slot that a new file takes: the lowest free one. Where all steps hold there is one (sound, FullTable).
 fn new_slot(image: &[u8], n: usize) -> usize
-    requires { ⌜ Sized (now image) n ⌝ }
-    ensures { λ r. ⌜ r ≡ slotIn (freeSlot n (viewAt (now (image .entry)))) ⌝ }
+    requires { Sized image.now n }
+    ensures { result ≡ slot_in (free_slot n (view_at image.now)) }
 {
     match search::free_slot(image, n) {
         Found::At(s) => s,
@@ -94,8 +85,8 @@ fn new_slot(image: &[u8], n: usize) -> usize
 
 // The new record's numbers: in directory d, one level down.
 fn head_of(image: &[u8], n: usize, d: usize, kind: u8, new: NewFile) -> Head
-    requires { ⌜ Judgeable (now image) n d ⌝ }
-    ensures { λ r. ⌜ r ≡ newHead (now (image .entry)) d kind new ⌝ }
+    requires { Judgeable image.now n d }
+    ensures { result ≡ new_head image.now d kind new }
 {
     let level = fields::level(image, d);
     Head {
@@ -125,12 +116,12 @@ fn new_file<'a>(
     right: Right,
     new: NewFile,
 ) -> Verdict
-    requires { ⌜ Judgeable (now image) n d ⌝ }
-    requires { ⌜ (new .name .start ≤ new .name .end) × (new .name .end ≤ length (now sent)) ⌝ }
-    ensures { λ r. ⌜ r ≡ judged
-        (admission (now (image .entry)) (now (pool .entry)) n d right (new .identifier) (bytesAt (now (sent .entry)) (new .name))
-        (new .size) sets)
-        (Verdict.Create (newRecord (now (image .entry)) d s kind new)) ⌝ }
+    requires judgeable { Judgeable image.now n d }
+    requires start_le_end { (new.name.start ≤ new.name.end) × (new.name.end ≤ length sent.now) }
+    ensures { result ≡ judged
+        (admission image.now pool.now n d right new.identifier (bytes_at sent.now new.name)
+        new.size sets)
+        (Verdict.Create (new_record image.now d s kind new)) }
 {
     let head = head_of(image, n, d, kind, new);
     let asked = Asked {
@@ -159,8 +150,8 @@ pub fn create_file<'a>(
     sent: &[u8],
     sets: Sets,
 ) -> Verdict
-    requires { ⌜ Judgeable (now image) n d ⌝ }
-    ensures { λ r. ⌜ r ≡ followed (create (now (image .entry)) (now (pool .entry)) n d (now (sent .entry)) sets) ⌝ }
+    requires { Judgeable image.now n d }
+    ensures { result ≡ followed (create image.now pool.now n d sent.now sets) }
 {
     let s = new_slot(image, n);
     match create_data::read(sent, fields::version(image)) {

@@ -1,78 +1,75 @@
 -- What step J of a command decides, of three, and what a verdict says of security (02 Ticket 6). n is the slot count, d the current DF.
-use Prim.Native.Nat.{ℕ}
-use mathlib.Core.Bool.{Bool, true, false, cond, _&&_}
-use mathlib.Core.List.{List, [], _∷_}
-use lib.Dec.{eqb}
-use Rattle·rules.specs.declared.Right.{Right}
-use Rattle·rules.specs.declared.Right.the-variants.{DeleteSelf, Terminate, Activate, Deactivate, DeleteChild}
-use Rattle·rules.specs.declared.Sets.{Sets}
-use Rattle·image.specs.Layout.{versionOf, countOf, currentDfOf, currentEfOf, none}
-use Rattle·access.specs.declared.Decision.{Decision}
-use Rattle·access.specs.declared.Decision.the-variants.{Granted}
-use Rattle·access.specs.Decision.{either}
-use Rattle·sound.specs.Table.{viewAt}
-use Rattle·sound.specs.Kinship.{childNamed}
-use Rattle·create_data.specs.Data.{dataOf}
-use Rattle·verdict.specs.declared.State.{State}
-use Rattle·verdict.specs.declared.Verdict.{Verdict}
-use Rattle·verdict.specs.declared.Verdict.the-variants.{Refuse, Select, Create, Delete, SetLife, Read, Update}
-use Rattle·verdict.specs.Applied.{sentData}
-use Rattle·verdict.specs.Words.{securityNotSatisfied}
-use Rattle·apdu.specs.Apdu.{instruction, sentIdentifier, selectFile, createFile, deleteFile, activateFile, deactivateFile, terminateEf}
-use Rattle·apdu.specs.Apdu.{terminateDf, isBody, isRead}
-use Rattle·judge_target.specs.Steps.{Step}
-use Rattle·judge_target.specs.Target.{currentFile, decisionAt, slotIn, rightFor}
-use Rattle·judge_bodies.specs.Bodies.{rightTo}
+use Rattle.std.specs.Prelude.{ℕ, Bool, true, false, cond, ◌&&◌, List, [], ◌∷◌, eqb}
+use Rattle.rules.specs.declared.Right.{Right}
+use Rattle.rules.specs.declared.Right.TheVariants.{DeleteSelf, Terminate, Activate, Deactivate, DeleteChild}
+use Rattle.rules.specs.declared.Sets.{Sets}
+use Rattle.image.specs.Layout.{version_of, count_of, current_df_of, current_ef_of, none}
+use Rattle.access.specs.declared.Decision.{Decision}
+use Rattle.access.specs.declared.Decision.TheVariants.{Granted}
+use Rattle.access.specs.Decision.{either}
+use Rattle.sound.specs.Table.{view_at}
+use Rattle.sound.specs.Kinship.{child_named}
+use Rattle.create_data.specs.Data.{data_of}
+use Rattle.verdict.specs.declared.State.{State}
+use Rattle.verdict.specs.declared.Verdict.{Verdict}
+use Rattle.verdict.specs.declared.Verdict.TheVariants.{Refuse, Select, Create, Delete, SetLife, Read, Update}
+use Rattle.verdict.specs.Applied.{sent_data}
+use Rattle.verdict.specs.Words.{security_not_satisfied}
+use Rattle.apdu.specs.Apdu.{instruction, sent_identifier, select_file, create_file, delete_file, activate_file, deactivate_file, terminate_ef}
+use Rattle.apdu.specs.Apdu.{terminate_df, is_body, is_read}
+use Rattle.judge_target.specs.Steps.{Step}
+use Rattle.judge_target.specs.Target.{current_file, decision_at, slot_in, right_for}
+use Rattle.judge_bodies.specs.Bodies.{right_to}
 
 -- a command on the current EF; where there is none, step I refuses before
-unfoldable pub efDecision : List ℕ → List ℕ → Right → Sets → Decision
-efDecision img pool right x = cond (eqb (currentEfOf img) none) Granted (decisionAt img pool (currentEfOf img) right x)
+unfoldable pub ef_decision : List ℕ → List ℕ → Right → Sets → Decision
+ef_decision img pool right x = cond (eqb (current_ef_of img) none) Granted (decision_at img pool (current_ef_of img) right x)
 
 -- DELETE: by the child's own b7 or directory d's b1
 unfoldable pub deletion : List ℕ → List ℕ → ℕ → ℕ → ℕ → Sets → Decision
 deletion img pool n d id x =
-    either (decisionAt img pool (slotIn (childNamed n (viewAt img) d id)) DeleteSelf x) (decisionAt img pool d DeleteChild x)
+    either (decision_at img pool (slot_in (child_named n (view_at img) d id)) DeleteSelf x) (decision_at img pool d DeleteChild x)
 
 -- a life-cycle command i: the current EF, else the current DF; the current EF; the current DF d; the root
-unfoldable pub lifeDecision : List ℕ → List ℕ → ℕ → ℕ → Sets → Decision
-lifeDecision img pool d i x =
-    cond (eqb i activateFile) (decisionAt img pool (currentFile img) Activate x)
-    (cond (eqb i deactivateFile) (decisionAt img pool (currentFile img) Deactivate x)
-    (cond (eqb i terminateEf) (efDecision img pool Terminate x)
-    (cond (eqb i terminateDf) (decisionAt img pool d Terminate x)
-    (decisionAt img pool 0 Terminate x))))
+unfoldable pub life_decision : List ℕ → List ℕ → ℕ → ℕ → Sets → Decision
+life_decision img pool d i x =
+    cond (eqb i activate_file) (decision_at img pool (current_file img) Activate x)
+    (cond (eqb i deactivate_file) (decision_at img pool (current_file img) Deactivate x)
+    (cond (eqb i terminate_ef) (ef_decision img pool Terminate x)
+    (cond (eqb i terminate_df) (decision_at img pool d Terminate x)
+    (decision_at img pool 0 Terminate x))))
 
 -- what step J decides, by the instruction; SELECT has no step J
-unfoldable pub decisionFor : List ℕ → List ℕ → ℕ → ℕ → List ℕ → Sets → Decision
-decisionFor img pool n d c x =
-    cond (eqb (instruction c) selectFile) Granted
-    (cond (eqb (instruction c) createFile) (decisionAt img pool d (rightFor (dataOf (versionOf img) (sentData c))) x)
-    (cond (eqb (instruction c) deleteFile) (deletion img pool n d (sentIdentifier c) x)
-    (cond (isBody (instruction c)) (efDecision img pool (rightTo (isRead (instruction c))) x)
-    (lifeDecision img pool d (instruction c) x))))
+unfoldable pub decision_for : List ℕ → List ℕ → ℕ → ℕ → List ℕ → Sets → Decision
+decision_for img pool n d c x =
+    cond (eqb (instruction c) select_file) Granted
+    (cond (eqb (instruction c) create_file) (decision_at img pool d (right_for (data_of (version_of img) (sent_data c))) x)
+    (cond (eqb (instruction c) delete_file) (deletion img pool n d (sent_identifier c) x)
+    (cond (is_body (instruction c)) (ef_decision img pool (right_to (is_read (instruction c))) x)
+    (life_decision img pool d (instruction c) x))))
 
-unfoldable pub stepJ : List ℕ → List ℕ → List ℕ → Sets → Decision
-stepJ img pool c x = decisionFor img pool (countOf img) (currentDfOf img) c x
+unfoldable pub step_j : List ℕ → List ℕ → List ℕ → Sets → Decision
+step_j img pool c x = decision_for img pool (count_of img) (current_df_of img) c x
 
 -- a verdict is the refusal of step J
-abbrev pub isDenied : Verdict → Bool
-isDenied (Refuse word) = eqb word securityNotSatisfied
-isDenied (Select d e word) = false
-isDenied (Create x) = false
-isDenied (Delete s) = false
-isDenied (SetLife s life) = false
-isDenied (Read at n) = false
-isDenied (Update at) = false
+abbrev pub is_denied : Verdict → Bool
+is_denied (Refuse word) = eqb word security_not_satisfied
+is_denied (Select d e word) = false
+is_denied (Create x) = false
+is_denied (Delete s) = false
+is_denied (SetLife s life) = false
+is_denied (Read at n) = false
+is_denied (Update at) = false
 
 -- what a verdict says of security: granted, unless it is that refusal
-unfoldable pub denialOf : List ℕ → List ℕ → List ℕ → Sets → Verdict → Decision
-denialOf img pool c x v = cond (isDenied v) (stepJ img pool c x) Granted
+unfoldable pub denial_of : List ℕ → List ℕ → List ℕ → Sets → Verdict → Decision
+denial_of img pool c x v = cond (is_denied v) (step_j img pool c x) Granted
 
 -- step J of a list of steps holds: the one whose word is 6982
-abbrev pub holdsJ : List Step → Bool
-holdsJ [] = true
-holdsJ (s ∷ rest) = cond (eqb (s .word) securityNotSatisfied) (s .holds) true && holdsJ rest
+abbrev pub holds_j : List Step → Bool
+holds_j [] = true
+holds_j (s ∷ rest) = cond (eqb s.word security_not_satisfied) s.holds true && holds_j rest
 
 -- the same state, had other sets been authenticated
 abbrev pub under : State → Sets → State
-under st x = record { sets = x; channels = st .channels }
+under st x = record { sets = x; channels = st.channels }

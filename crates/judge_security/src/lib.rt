@@ -1,20 +1,18 @@
 // What a security refusal lacks (02 Ticket 6): the rules that step J of the refused command asked are asked once more, for a decision of
 // three. Judging itself needs only whether they grant; so a command that is not refused for security takes no longer.
-ghost use mathlib.Core.Path.{_≡_};
-ghost use mathlib.Core.Bool.{true};
-ghost use Prim.Native.Nat.{_<_, _≤_};
-ghost use lib.ListN.{length};
-ghost use Rattle·image.specs.Layout.{currentDfOf};
-ghost use Rattle·sound.specs.Sound.{Sound};
-ghost use Rattle·sound.specs.Table.{viewAt};
-ghost use Rattle·sound.specs.Kinship.{childNamed};
-ghost use Rattle·kinship.specs.Climb.{Stands};
-ghost use Rattle·create_data.specs.Data.{dataOf};
-ghost use Rattle·judge_target.specs.Judgeable.{Judgeable};
-ghost use Rattle·judge_target.specs.Target.{slotIn, rightFor};
-ghost use Rattle·apdu.specs.Apdu.{fitLength};
-ghost use Rattle·judge.specs.Judge.{judgeOf};
-ghost use Rattle·judge_security·specs.specs.Security.{isDenied, efDecision, deletion, lifeDecision, decisionFor, denialOf};
+ghost use Rattle.std.specs.Prelude.{◌≡◌, true, ◌<◌, ◌≤◌, length};
+ghost use Rattle.image.specs.Layout.{current_df_of};
+ghost use Rattle.sound.specs.Sound.{Sound};
+ghost use Rattle.sound.specs.Table.{view_at};
+ghost use Rattle.sound.specs.Kinship.{child_named};
+ghost use Rattle.kinship.specs.Climb.{Stands};
+ghost use Rattle.create_data.specs.Data.{data_of};
+ghost use Rattle.judge_target.specs.Judgeable.{Judgeable};
+ghost use Rattle.judge_target.specs.Target.{slot_in, right_for};
+ghost use Rattle.apdu.specs.Apdu.{fit_length};
+ghost use Rattle.judge.specs.Judge.{judge_of};
+ghost use Rattle.judge_security.specs.Security.{is_denied, ef_decision, deletion, life_decision, decision_for, denial_of};
+
 use access::Decision;
 use apdu::bodies;
 use create_data::Data;
@@ -22,15 +20,12 @@ use image::fields;
 use judge_target::target;
 use kinship::search;
 use laws::Found;
-use rules::Right;
-use rules::Sets;
-use verdict::State;
-use verdict::Verdict;
-use verdict::words;
+use rules::{Right, Sets};
+use verdict::{State, Verdict, words};
 
 // Whether a verdict is the refusal of step J.
 fn is_denied(due: Verdict) -> bool
-    ensures { λ r. ⌜ r ≡ isDenied due ⌝ }
+    ensures { result ≡ is_denied due }
 {
     match due {
         Verdict::Refuse(word) => word == words::SECURITY_NOT_SATISFIED,
@@ -45,7 +40,7 @@ fn is_denied(due: Verdict) -> bool
 
 // The right to create what CREATE's data describe, for a card of version v.
 fn new_right(sent: &[u8], v: u32) -> Right
-    ensures { λ r. ⌜ r ≡ rightFor (dataOf v (now (sent .entry))) ⌝ }
+    ensures { result ≡ right_for (data_of v sent.now) }
 {
     match create_data::read(sent, v) {
         Data::Df(new) => Right::CreateDf,
@@ -56,8 +51,8 @@ fn new_right(sent: &[u8], v: u32) -> Right
 
 // The slot of the child of d with identifier x, 0 where there is none.
 fn child(image: &[u8], n: usize, d: usize, x: u16) -> usize
-    requires { ⌜ Judgeable (now image) n d ⌝ }
-    ensures { λ r. ⌜ (r ≡ slotIn (childNamed n (viewAt (now (image .entry))) d x)) × Stands (now (image .entry)) n r ⌝ }
+    requires { Judgeable image.now n d }
+    ensures { (result ≡ slot_in (child_named n (view_at image.now) d x)) × Stands image.now n result }
 {
     match search::child_named(image, n, d, x) {
         Found::At(s) => s,
@@ -74,8 +69,8 @@ fn on_deletion<'a>(
     x: u16,
     sets: Sets,
 ) -> Decision
-    requires { ⌜ Judgeable (now image) n d ⌝ }
-    ensures { λ r. ⌜ r ≡ deletion (now (image .entry)) (now (pool .entry)) n d x sets ⌝ }
+    requires { Judgeable image.now n d }
+    ensures { result ≡ deletion image.now pool.now n d x sets }
 {
     let s = child(image, n, d, x);
     let own = target::decided(image, pool, n, d, s, Right::DeleteSelf, sets);
@@ -92,8 +87,8 @@ fn on_ef<'a>(
     right: Right,
     sets: Sets,
 ) -> Decision
-    requires { ⌜ Judgeable (now image) n d ⌝ }
-    ensures { λ r. ⌜ r ≡ efDecision (now (image .entry)) (now (pool .entry)) right sets ⌝ }
+    requires { Judgeable image.now n d }
+    ensures { result ≡ ef_decision image.now pool.now right sets }
 {
     let t = fields::current_ef(image);
     if t == image::NO_SLOT {
@@ -111,9 +106,9 @@ fn on_current<'a>(
     i: u8,
     sets: Sets,
 ) -> Decision
-    requires { ⌜ Judgeable (now image) n d ⌝ }
-    requires { ⌜ d ≡ currentDfOf (now image) ⌝ }
-    ensures { λ r. ⌜ r ≡ lifeDecision (now (image .entry)) (now (pool .entry)) d i sets ⌝ }
+    requires judgeable { Judgeable image.now n d }
+    requires d_value { d ≡ current_df_of image.now }
+    ensures { result ≡ life_decision image.now pool.now d i sets }
 {
     if i == apdu::ACTIVATE_FILE {
         return target::decided(
@@ -155,10 +150,10 @@ fn decided<'a>(
     command: &[u8],
     sets: Sets,
 ) -> Decision
-    requires { ⌜ Judgeable (now image) n d ⌝ }
-    requires { ⌜ d ≡ currentDfOf (now image) ⌝ }
-    requires { ⌜ (4 ≤ length (now command)) × (fitLength (now command) ≡ true) ⌝ }
-    ensures { λ r. ⌜ r ≡ decisionFor (now (image .entry)) (now (pool .entry)) n d (now (command .entry)) sets ⌝ }
+    requires judgeable { Judgeable image.now n d }
+    requires d_value { d ≡ current_df_of image.now }
+    requires in_bounds { (4 ≤ length command.now) × (fit_length command.now ≡ true) }
+    ensures { result ≡ decision_for image.now pool.now n d command.now sets }
 {
     let i = command[1];
     if i == apdu::SELECT_FILE {
@@ -192,9 +187,9 @@ pub fn denial<'a>(
     state: State,
     due: Verdict,
 ) -> Decision
-    requires { ⌜ Sound (now image) ⌝ }
-    requires { ⌜ due ≡ judgeOf (now image) (now pool) (now command) state ⌝ }
-    ensures { λ r. ⌜ r ≡ denialOf (now (image .entry)) (now (pool .entry)) (now (command .entry)) (state .sets) due ⌝ }
+    requires sound { Sound image.now }
+    requires due_value { due ≡ judge_of image.now pool.now command.now state }
+    ensures { result ≡ denial_of image.now pool.now command.now state.sets due }
 {
     if !is_denied(due) {
         return Decision::Granted;

@@ -1,88 +1,83 @@
 -- What a command is about: the current files, the file that SELECT finds, the new file of CREATE's data.
-use Prim.Native.Nat.{ℕ, _+_, _≤_}
-use mathlib.Core.Path.{_≡_}
-use lib.ListN.{getD}
-use mathlib.Core.Bool.{Bool, true, false, cond}
-use mathlib.Core.List.{List, []}
-use lib.Dec.{eqb}
-use Rattle·laws.specs.declared.Found.{Found}
-use Rattle·laws.specs.declared.Found.the-variants.{At, Nothing}
-use Rattle·laws.specs.Walks.{orElse}
-use Rattle·rules.specs.declared.Right.{Right}
-use Rattle·rules.specs.declared.Right.the-variants.{CreateDf, CreateEf}
-use Rattle·rules.specs.declared.Sets.{Sets}
-use Rattle·rules.specs.Descriptor.{df, ef}
-use Rattle·image.specs.declared.Head.{Head}
-use Rattle·image.specs.Layout.{Within, recAt, countOf, currentDfOf, currentEfOf, none, lifeCycleOf, formOf, ruleOf}
-use Rattle·access.specs.declared.Decision.{Decision}
-use Rattle·access.specs.Access.{referred, askedAs, grantedOf}
-use Rattle·access.specs.Decision.{decisionOf}
-use Rattle·sound.specs.Table.{View, viewAt}
-use Rattle·sound.specs.Kinship.{childNamed}
-use Rattle·kinship.specs.Search.{dfNamed}
-use Rattle·referred.specs.Deciding.{decidingRule}
-use Rattle·template.specs.Objects.{bytesAt}
-use Rattle·create_data.specs.declared.NewFile.{NewFile}
-use Rattle·create_data.specs.declared.Data.{Data}
-use Rattle·create_data.specs.declared.Data.the-variants.{Df, Ef, Bad}
-use Rattle·verdict.specs.declared.NewRecord.{NewRecord}
-use Rattle·verdict.specs.declared.Verdict.{Verdict}
-use Rattle·verdict.specs.declared.Verdict.the-variants.{Refuse, Create}
-use Rattle·verdict.specs.Words.{wrongData}
+use Rattle.std.specs.Prelude.{ℕ, ◌+◌, ◌≤◌, ◌≡◌, get_or, Bool, true, false, cond, List, [], eqb}
+use Rattle.laws.specs.declared.Found.{Found}
+use Rattle.laws.specs.declared.Found.TheVariants.{At, Nothing}
+use Rattle.laws.specs.Walks.{or_else}
+use Rattle.rules.specs.declared.Right.{Right}
+use Rattle.rules.specs.declared.Right.TheVariants.{CreateDf, CreateEf}
+use Rattle.rules.specs.declared.Sets.{Sets}
+use Rattle.rules.specs.Descriptor.{df, ef}
+use Rattle.image.specs.declared.Head.{Head}
+use Rattle.image.specs.Layout.{Within, rec_at, count_of, current_df_of, current_ef_of, none, life_cycle_of, form_of, rule_of}
+use Rattle.access.specs.declared.Decision.{Decision}
+use Rattle.access.specs.Access.{referred, asked_as, granted_of}
+use Rattle.access.specs.Decision.{decision_of}
+use Rattle.sound.specs.Table.{View, view_at}
+use Rattle.sound.specs.Kinship.{child_named}
+use Rattle.kinship.specs.Search.{df_named}
+use Rattle.referred.specs.Deciding.{deciding_rule}
+use Rattle.template.specs.Objects.{bytes_at}
+use Rattle.create_data.specs.declared.NewFile.{NewFile}
+use Rattle.create_data.specs.declared.Data.{Data}
+use Rattle.create_data.specs.declared.Data.TheVariants.{Df, Ef, Bad}
+use Rattle.verdict.specs.declared.NewRecord.{NewRecord}
+use Rattle.verdict.specs.declared.Verdict.{Verdict}
+use Rattle.verdict.specs.declared.Verdict.TheVariants.{Refuse, Create}
+use Rattle.verdict.specs.Words.{wrong_data}
 
 -- the current EF, else the current DF
-unfoldable pub currentFile : List ℕ → ℕ
-currentFile img = cond (eqb (currentEfOf img) none) (currentDfOf img) (currentEfOf img)
+unfoldable pub current_file : List ℕ → ℕ
+current_file img = cond (eqb (current_ef_of img) none) (current_df_of img) (current_ef_of img)
 
-abbrev pub lifeAt : List ℕ → ℕ → ℕ
-lifeAt img s = lifeCycleOf (recAt img s)
+abbrev pub life_at : List ℕ → ℕ → ℕ
+life_at img s = life_cycle_of (rec_at img s)
 
 -- the form in which the rule of the file in slot s is asked, and the rule that decides on it: its own, or the one that it names, as the
 -- pool has it at this moment (02 Ticket 7)
-abbrev pub formAt : List ℕ → ℕ → ℕ
-formAt img s = askedAs (formOf (recAt img s))
+abbrev pub form_at : List ℕ → ℕ → ℕ
+form_at img s = asked_as (form_of (rec_at img s))
 
-abbrev pub ruleAt : List ℕ → List ℕ → ℕ → List ℕ
-ruleAt img pool s = decidingRule (countOf img) img pool s
+abbrev pub rule_at : List ℕ → List ℕ → ℕ → List ℕ
+rule_at img pool s = deciding_rule (count_of img) img pool s
 
 -- that rule grants a right
-unfoldable pub allowedAt : List ℕ → List ℕ → ℕ → Right → Sets → Bool
-allowedAt img pool s right x = grantedOf (formAt img s) (ruleAt img pool s) right x
+unfoldable pub allowed_at : List ℕ → List ℕ → ℕ → Right → Sets → Bool
+allowed_at img pool s right x = granted_of (form_at img s) (rule_at img pool s) right x
 
 -- .. and what it decides, of three (02 Ticket 6)
-unfoldable pub decisionAt : List ℕ → List ℕ → ℕ → Right → Sets → Decision
-decisionAt img pool s right x = decisionOf (formAt img s) (ruleAt img pool s) right x
+unfoldable pub decision_at : List ℕ → List ℕ → ℕ → Right → Sets → Decision
+decision_at img pool s right x = decision_of (form_at img s) (rule_at img pool s) right x
 
 -- a rule in the file's own record is asked as it stands there, in the form that the record tells
 abbrev pub OwnRuleAsked : Type 0
-OwnRuleAsked = (img pool : List ℕ) (s : ℕ) → Within img s → getD (recAt img s) 33 0 ≤ 30 → (formOf (recAt img s) ≡ referred → ⊥)
+OwnRuleAsked = (img pool : List ℕ) (s : ℕ) → Within img s → get_or (rec_at img s) 33 0 ≤ 30 → (form_of (rec_at img s) ≡ referred → ⊥)
     → (right : Right) (x : Sets)
-    → (allowedAt img pool s right x ≡ grantedOf (formOf (recAt img s)) (ruleOf (recAt img s)) right x)
-    × (decisionAt img pool s right x ≡ decisionOf (formOf (recAt img s)) (ruleOf (recAt img s)) right x)
+    → (allowed_at img pool s right x ≡ granted_of (form_of (rec_at img s)) (rule_of (rec_at img s)) right x)
+    × (decision_at img pool s right x ≡ decision_of (form_of (rec_at img s)) (rule_of (rec_at img s)) right x)
 
 -- what a search found
-abbrev pub isFound : Found → Bool
-isFound Nothing = false
-isFound (At s) = true
+abbrev pub is_found : Found → Bool
+is_found Nothing = false
+is_found (At s) = true
 
-abbrev pub slotIn : Found → ℕ
-slotIn Nothing = 0
-slotIn (At s) = s
+abbrev pub slot_in : Found → ℕ
+slot_in Nothing = 0
+slot_in (At s) = s
 
 -- slot s, if its file has identifier x
 unfoldable pub itself : (ℕ → View) → ℕ → ℕ → Found
-itself v x s = cond (eqb (v s .identifier) x) (At s) Nothing
+itself v x s = cond (eqb (v s).identifier x) (At s) Nothing
 
 -- SELECT tries, with d the current DF: root, current DF, the current DF's parent, the current DF's children, DFs
 -- that are children of the current DF's parent; first match wins
 unfoldable pub selected : List ℕ → ℕ → ℕ → ℕ → Found
 selected img n d x =
-    let v : ℕ → View = viewAt img in
-    orElse (itself v x 0)
-    (orElse (itself v x d)
-    (orElse (itself v x (v d .parent))
-    (orElse (childNamed n v d x)
-    (dfNamed n v (v d .parent) x))))
+    let v : ℕ → View = view_at img in
+    or_else (itself v x 0)
+    (or_else (itself v x d)
+    (or_else (itself v x (v d).parent)
+    (or_else (child_named n v d x)
+    (df_named n v (v d).parent x))))
 
 -- the new file that CREATE's data s describe: whether they do, the right to create it, its identifier, size and name
 abbrev pub describes : Data → Bool
@@ -90,45 +85,45 @@ describes Bad = false
 describes (Df x) = true
 describes (Ef x) = true
 
-abbrev pub rightFor : Data → Right
-rightFor Bad = CreateEf
-rightFor (Df x) = CreateDf
-rightFor (Ef x) = CreateEf
+abbrev pub right_for : Data → Right
+right_for Bad = CreateEf
+right_for (Df x) = CreateDf
+right_for (Ef x) = CreateEf
 
-abbrev pub newIdentifier : Data → ℕ
-newIdentifier Bad = 0
-newIdentifier (Df x) = x .identifier
-newIdentifier (Ef x) = x .identifier
+abbrev pub new_identifier : Data → ℕ
+new_identifier Bad = 0
+new_identifier (Df x) = x.identifier
+new_identifier (Ef x) = x.identifier
 
-abbrev pub newSize : Data → ℕ
-newSize Bad = 0
-newSize (Df x) = x .size
-newSize (Ef x) = x .size
+abbrev pub new_size : Data → ℕ
+new_size Bad = 0
+new_size (Df x) = x.size
+new_size (Ef x) = x.size
 
-abbrev pub newName : List ℕ → Data → List ℕ
-newName s Bad = []
-newName s (Df x) = bytesAt s (x .name)
-newName s (Ef x) = bytesAt s (x .name)
+abbrev pub new_name : List ℕ → Data → List ℕ
+new_name s Bad = []
+new_name s (Df x) = bytes_at s x.name
+new_name s (Ef x) = bytes_at s x.name
 
 -- the new record's numbers: in directory d, one level down
-abbrev pub newHead : List ℕ → ℕ → ℕ → NewFile → Head
-newHead img d kind x = record {
+abbrev pub new_head : List ℕ → ℕ → ℕ → NewFile → Head
+new_head img d kind x = record {
   kind = kind;
-  descriptor = x .descriptor;
-  life = x .life;
-  form = x .form;
-  identifier = x .identifier;
+  descriptor = x.descriptor;
+  life = x.life;
+  form = x.form;
+  identifier = x.identifier;
   parent = d;
-  level = viewAt img d .level + 1;
-  «record_length» = x .«record_length»;
-  size = x .size;
+  level = (view_at img d).level + 1;
+  record_length = x.record_length;
+  size = x.size;
 }
 
 -- the new record of that kind in slot s of directory d
-abbrev pub newRecord : List ℕ → ℕ → ℕ → ℕ → NewFile → NewRecord
-newRecord img d s kind x = record { slot = s; head = newHead img d kind x; name = x .name; rule = x .rule }
+abbrev pub new_record : List ℕ → ℕ → ℕ → ℕ → NewFile → NewRecord
+new_record img d s kind x = record { slot = s; head = new_head img d kind x; name = x.name; rule = x.rule }
 
 abbrev pub creating : List ℕ → ℕ → ℕ → Data → Verdict
-creating img d s Bad = Refuse wrongData
-creating img d s (Df x) = Create (newRecord img d s df x)
-creating img d s (Ef x) = Create (newRecord img d s ef x)
+creating img d s Bad = Refuse wrong_data
+creating img d s (Df x) = Create (new_record img d s df x)
+creating img d s (Ef x) = Create (new_record img d s ef x)

@@ -1,24 +1,21 @@
 // What a command is about: the current file, the file that SELECT finds, what a file's rule grants.
-ghost use mathlib.Core.Path.{_≡_};
-ghost use Prim.Native.Nat.{_<_, _≤_};
-ghost use lib.ListN.{length};
-ghost use Rattle·laws.specs.Walks.{orElse};
-ghost use Rattle·sound.specs.Table.{viewAt};
-ghost use Rattle·rules.specs.Life.{canActivate, isActivated, isDeactivated};
-ghost use Rattle·image.specs.Layout.{Sized, Within};
-ghost use Rattle·sound.specs.Kinship.{childNamed, terminatedAt};
-ghost use Rattle·kinship.specs.Climb.{Stands};
-ghost use Rattle·kinship.specs.Search.{dfNamed};
-ghost use Rattle·judge_target·specs.specs.Judgeable.{Judgeable};
-ghost use Rattle·judge_target·specs.specs.Target.{currentFile, lifeAt, allowedAt, decisionAt, itself, selected};
+ghost use Rattle.std.specs.Prelude.{◌≡◌, ◌<◌, ◌≤◌, length};
+ghost use Rattle.laws.specs.Walks.{or_else};
+ghost use Rattle.sound.specs.Table.{view_at};
+ghost use Rattle.rules.specs.Life.{can_activate, is_activated, is_deactivated};
+ghost use Rattle.image.specs.Layout.{Sized, Within};
+ghost use Rattle.sound.specs.Kinship.{child_named, terminated_at};
+ghost use Rattle.kinship.specs.Climb.{Stands};
+ghost use Rattle.kinship.specs.Search.{df_named};
+ghost use Rattle.judge_target.specs.Judgeable.{Judgeable};
+ghost use Rattle.judge_target.specs.Target.{current_file, life_at, allowed_at, decision_at, itself, selected};
+
 use access::Decision;
 use image::fields;
 use kinship::search;
 use laws::Found;
 use referred::deciding;
-use rules::Right;
-use rules::Sets;
-use rules::life_cycle;
+use rules::{Right, Sets, life_cycle};
 
 // Whether the rule that decides on the file in slot s grants a right.
 pub fn allowed<'a>(
@@ -30,9 +27,9 @@ pub fn allowed<'a>(
     right: Right,
     sets: Sets,
 ) -> bool
-    requires { ⌜ Judgeable (now image) n d ⌝ }
-    requires { ⌜ Stands (now image) n s ⌝ }
-    ensures { λ r. ⌜ r ≡ allowedAt (now (image .entry)) (now (pool .entry)) s right sets ⌝ }
+    requires judgeable { Judgeable image.now n d }
+    requires stands { Stands image.now n s }
+    ensures { result ≡ allowed_at image.now pool.now s right sets }
 {
     let form = access::asked_as(fields::form(image, s));
     access::granted(form, deciding::deciding(image, pool, n, s), right, sets)
@@ -48,9 +45,9 @@ pub fn decided<'a>(
     right: Right,
     sets: Sets,
 ) -> Decision
-    requires { ⌜ Judgeable (now image) n d ⌝ }
-    requires { ⌜ Stands (now image) n s ⌝ }
-    ensures { λ r. ⌜ r ≡ decisionAt (now (image .entry)) (now (pool .entry)) s right sets ⌝ }
+    requires judgeable { Judgeable image.now n d }
+    requires stands { Stands image.now n s }
+    ensures { result ≡ decision_at image.now pool.now s right sets }
 {
     let form = access::asked_as(fields::form(image, s));
     access::decide(form, deciding::deciding(image, pool, n, s), right, sets)
@@ -58,8 +55,8 @@ pub fn decided<'a>(
 
 // The current EF, else the current DF.
 pub fn current_file(image: &[u8]) -> usize
-    requires { ⌜ 16 ≤ length (now image) ⌝ }
-    ensures { λ r. ⌜ r ≡ currentFile (now (image .entry)) ⌝ }
+    requires { 16 ≤ length image.now }
+    ensures { result ≡ current_file image.now }
 {
     let e = fields::current_ef(image);
     if e == image::NO_SLOT {
@@ -70,37 +67,37 @@ pub fn current_file(image: &[u8]) -> usize
 
 // The life cycle of the file in slot s is one that ACTIVATE takes; is activated; is deactivated.
 pub fn can_activate(image: &[u8], s: usize) -> bool
-    requires { ⌜ Within (now image) s ⌝ }
-    ensures { λ r. ⌜ r ≡ canActivate (lifeAt (now (image .entry)) s) ⌝ }
+    requires { Within image.now s }
+    ensures { result ≡ can_activate (life_at image.now s) }
 {
     life_cycle::can_activate(fields::life_cycle(image, s))
 }
 
 pub fn is_activated(image: &[u8], s: usize) -> bool
-    requires { ⌜ Within (now image) s ⌝ }
-    ensures { λ r. ⌜ r ≡ isActivated (lifeAt (now (image .entry)) s) ⌝ }
+    requires { Within image.now s }
+    ensures { result ≡ is_activated (life_at image.now s) }
 {
     life_cycle::is_activated(fields::life_cycle(image, s))
 }
 
 pub fn is_deactivated(image: &[u8], s: usize) -> bool
-    requires { ⌜ Within (now image) s ⌝ }
-    ensures { λ r. ⌜ r ≡ isDeactivated (lifeAt (now (image .entry)) s) ⌝ }
+    requires { Within image.now s }
+    ensures { result ≡ is_deactivated (life_at image.now s) }
 {
     life_cycle::is_deactivated(fields::life_cycle(image, s))
 }
 
 pub fn is_terminated(image: &[u8], s: usize) -> bool
-    requires { ⌜ Within (now image) s ⌝ }
-    ensures { λ r. ⌜ r ≡ terminatedAt (now (image .entry)) s ⌝ }
+    requires { Within image.now s }
+    ensures { result ≡ terminated_at image.now s }
 {
     life_cycle::is_terminated(fields::life_cycle(image, s))
 }
 
 // The last two tries of SELECT: the children of d, then the DFs among the children of p.
 fn near(image: &[u8], n: usize, d: usize, p: usize, x: u16) -> Found
-    requires { ⌜ Sized (now image) n ⌝ }
-    ensures { λ r. ⌜ r ≡ orElse (childNamed n (viewAt (now (image .entry))) d x) (dfNamed n (viewAt (now (image .entry))) p x) ⌝ }
+    requires { Sized image.now n }
+    ensures { result ≡ or_else (child_named n (view_at image.now) d x) (df_named n (view_at image.now) p x) }
 {
     match search::child_named(image, n, d, x) {
         Found::At(s) => Found::At(s),
@@ -110,10 +107,10 @@ fn near(image: &[u8], n: usize, d: usize, p: usize, x: u16) -> Found
 
 // The last three tries of SELECT: p, the parent of d, and what lies near.
 fn beside(image: &[u8], n: usize, d: usize, p: usize, x: u16) -> Found
-    requires { ⌜ Sized (now image) n ⌝ }
-    requires { ⌜ p < n ⌝ }
-    ensures { λ r. ⌜ r ≡ orElse (itself (viewAt (now (image .entry))) x p)
-        (orElse (childNamed n (viewAt (now (image .entry))) d x) (dfNamed n (viewAt (now (image .entry))) p x)) ⌝ }
+    requires sized { Sized image.now n }
+    requires p_lt_n { p < n }
+    ensures { result ≡ or_else (itself (view_at image.now) x p)
+        (or_else (child_named n (view_at image.now) d x) (df_named n (view_at image.now) p x)) }
 {
     if fields::identifier(image, p) == x {
         return Found::At(p);
@@ -123,16 +120,16 @@ fn beside(image: &[u8], n: usize, d: usize, p: usize, x: u16) -> Found
 
 // The parent of the current DF d.
 fn parent_of(image: &[u8], n: usize, d: usize) -> usize
-    requires { ⌜ Judgeable (now image) n d ⌝ }
-    ensures { λ r. ⌜ (r ≡ viewAt (now (image .entry)) d .parent) × (r < n) ⌝ }
+    requires { Judgeable image.now n d }
+    ensures { (result ≡ (view_at image.now d).parent) × (result < n) }
 {
     fields::parent(image, d)
 }
 
 // The file that SELECT finds by identifier x, with d the current DF.
 pub fn select(image: &[u8], n: usize, d: usize, x: u16) -> Found
-    requires { ⌜ Judgeable (now image) n d ⌝ }
-    ensures { λ r. ⌜ r ≡ selected (now (image .entry)) n d x ⌝ }
+    requires { Judgeable image.now n d }
+    ensures { result ≡ selected image.now n d x }
 {
     if fields::identifier(image, 0) == x {
         return Found::At(0);

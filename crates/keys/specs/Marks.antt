@@ -1,23 +1,18 @@
 -- A set of 16-bit keys as the bits of 1,024 words, and what a walk over records keeps in it.
-use mathlib.Core.Path.{_≡_}
-use mathlib.Core.List.{List}
-use mathlib.Core.Bool.{Bool, true}
-use Prim.Native.Nat.{ℕ, _/_, _%_, _^_, _<_}
-use lib.ListN.{length, getD, set}
-use lib.Dec.{eqb}
-use lib.Bits.{bitOr}
+use Rattle.std.specs.Prelude.{◌≡◌, List, Bool, true, ℕ, ◌/◌, ◌%◌, ◌^◌, ◌<◌, length, get_or, set, eqb}
+use Rattle.std.specs.Int.Bits.{bit_or}
 
 -- bit j of a word
-unfoldable pub bitIn : ℕ → ℕ → ℕ
-bitIn w j = w / 2 ^ j % 2
+unfoldable pub bit_in : ℕ → ℕ → ℕ
+bit_in w j = w / 2 ^ j % 2
 
 -- the set has key k
 unfoldable pub marked : List ℕ → ℕ → Bool
-marked l k = eqb (bitIn (getD l (k / 64) 0) (k % 64)) 1
+marked l k = eqb (bit_in (get_or l (k / 64) 0) (k % 64)) 1
 
 -- the set with key k
 unfoldable pub marking : List ℕ → ℕ → List ℕ
-marking l k = set l (k / 64) (bitOr (getD l (k / 64) 0) (2 ^ (k % 64)))
+marking l k = set l (k / 64) (bit_or (get_or l (k / 64) 0) (2 ^ (k % 64)))
 
 -- the set has the key of each record below s that counts
 pub record Keyed (counts : ℕ → Bool) (key : ℕ → ℕ) (s : ℕ) (seen : List ℕ) : Type 0 where

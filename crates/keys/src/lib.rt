@@ -2,12 +2,12 @@
 // no other crate. It answers no sentence of 01: it makes those quick that speak of every pair of records
 // ("Image": siblings, directories above, names). A record whose key is new can have no earlier one like it, and
 // need not look at those before it.
-ghost use mathlib.Core.Path.{_≡_};
-ghost use Rattle·keys·specs.specs.Marks.{marked, marking};
+ghost use Rattle.std.specs.Prelude.{◌≡◌};
+ghost use Rattle.keys.specs.Marks.{marked, marking};
 
 // Whether the set has the key.
 pub fn has(seen: &[u64; 1024], key: u16) -> bool
-    ensures { λ r. ⌜ r ≡ marked (now (seen .entry)) key ⌝ }
+    ensures { result ≡ marked seen.now key }
 {
     let word = seen[(key / 64) as usize];
     (word >> (key % 64)) % 2 == 1
@@ -15,7 +15,7 @@ pub fn has(seen: &[u64; 1024], key: u16) -> bool
 
 // Puts the key into the set.
 pub fn put(seen: &mut [u64; 1024], key: u16)
-    ensures { λ _. ⌜ now (seen .exit) ≡ marking (now (seen .entry)) key ⌝ }
+    ensures { seen.new ≡ marking seen.old key }
 {
     let at = (key / 64) as usize;
     seen[at] = seen[at] | (1u64 << (key % 64));

@@ -1,17 +1,18 @@
 // The way up from a file, step by step to the parent slot: is something terminated there, has something an
 // identifier (01 "CREATE" steps K and L, "DELETE", all life-cycle commands).
-ghost use mathlib.Core.Path.{_≡_};
-ghost use Rattle·sound.specs.Table.{viewAt};
-ghost use Rattle·sound.specs.Kinship.{terminatedUp, namedUp};
-ghost use Rattle·kinship·specs.specs.Climb.{Rooted, Stands};
+ghost use Rattle.std.specs.Prelude.{◌≡◌};
+ghost use Rattle.sound.specs.Table.{view_at};
+ghost use Rattle.sound.specs.Kinship.{terminated_up, named_up};
+ghost use Rattle.kinship.specs.Climb.{Rooted, Stands};
+
 use image::fields;
 use rules::life_cycle;
 
 // Whether the file in slot s or a directory above it is terminated.
 pub fn terminated_up(image: &[u8], n: usize, s: usize) -> bool
-    requires { ⌜ Rooted (now image) n ⌝ }
-    requires { ⌜ Stands (now image) n s ⌝ }
-    ensures { λ r. ⌜ r ≡ terminatedUp (now (image .entry)) s ⌝ }
+    requires rooted { Rooted image.now n }
+    requires stands { Stands image.now n s }
+    ensures { result ≡ terminated_up image.now s }
 {
     let depth = fields::level(image, s);
     let mut t = s;
@@ -28,9 +29,9 @@ pub fn terminated_up(image: &[u8], n: usize, s: usize) -> bool
 
 // Whether the directory in slot s or one above it has identifier x.
 pub fn named_up(image: &[u8], n: usize, x: u16, s: usize) -> bool
-    requires { ⌜ Rooted (now image) n ⌝ }
-    requires { ⌜ Stands (now image) n s ⌝ }
-    ensures { λ r. ⌜ r ≡ namedUp (viewAt (now (image .entry))) x s ⌝ }
+    requires rooted { Rooted image.now n }
+    requires stands { Stands image.now n s }
+    ensures { result ≡ named_up (view_at image.now) x s }
 {
     let level = fields::level(image, s);
     let mut t = s;

@@ -1,20 +1,20 @@
 // Identifiers and names: whether one is free for a new file (01 "CREATE" step L, 6A89 and 6A8A).
-ghost use mathlib.Core.Path.{_≡_};
-ghost use Rattle·laws.specs.Lists.{sameList};
-ghost use Rattle·sound.specs.Table.{viewAt};
-ghost use Rattle·sound.specs.Kinship.{identifierFree, nameFree};
-ghost use Rattle·kinship·specs.specs.Climb.{Rooted, Stands};
-ghost use Rattle·kinship·specs.specs.Search.{NamesFit};
-use crate::climb;
-use crate::search;
+ghost use Rattle.std.specs.Prelude.{◌≡◌};
+ghost use Rattle.laws.specs.Lists.{same_list};
+ghost use Rattle.sound.specs.Table.{view_at};
+ghost use Rattle.sound.specs.Kinship.{identifier_free, name_free};
+ghost use Rattle.kinship.specs.Climb.{Rooted, Stands};
+ghost use Rattle.kinship.specs.Search.{NamesFit};
+
+use crate::{climb, search};
 use image::fields;
 use laws::Found;
 
 // Whether no child of directory d has identifier x, nor d itself, nor a directory above it.
 pub fn identifier_free(image: &[u8], n: usize, d: usize, x: u16) -> bool
-    requires { ⌜ Rooted (now image) n ⌝ }
-    requires { ⌜ Stands (now image) n d ⌝ }
-    ensures { λ r. ⌜ r ≡ identifierFree n (viewAt (now (image .entry))) d x ⌝ }
+    requires rooted { Rooted image.now n }
+    requires stands { Stands image.now n d }
+    ensures { result ≡ identifier_free n (view_at image.now) d x }
 {
     match search::child_named(image, n, d, x) {
         Found::At(_) => false,
@@ -24,7 +24,7 @@ pub fn identifier_free(image: &[u8], n: usize, d: usize, x: u16) -> bool
 
 // Whether two stretches of bytes are the same, byte by byte.
 fn alike(a: &[u8], b: &[u8]) -> bool
-    ensures { λ r. ⌜ r ≡ sameList (now (a .entry)) (now (b .entry)) ⌝ }
+    ensures { result ≡ same_list a.now b.now }
 {
     if a.len() != b.len() {
         return false;
@@ -42,7 +42,7 @@ fn alike(a: &[u8], b: &[u8]) -> bool
 // Whether two stretches of bytes are the same. Names of one maker begin alike and end in a number, so the last byte is
 // asked first.
 pub fn same(a: &[u8], b: &[u8]) -> bool
-    ensures { λ r. ⌜ r ≡ sameList (now (a .entry)) (now (b .entry)) ⌝ }
+    ensures { result ≡ same_list a.now b.now }
 {
     if a.len() != b.len() {
         return false;
@@ -59,8 +59,8 @@ pub fn same(a: &[u8], b: &[u8]) -> bool
 
 // Whether no record has that name, if it is one.
 pub fn name_free(image: &[u8], n: usize, name: &[u8]) -> bool
-    requires { ⌜ NamesFit (now image) n ⌝ }
-    ensures { λ r. ⌜ r ≡ nameFree n (viewAt (now (image .entry))) (now (name .entry)) ⌝ }
+    requires { NamesFit image.now n }
+    ensures { result ≡ name_free n (view_at image.now) name.now }
 {
     if name.len() == 0 {
         return true;

@@ -1,21 +1,20 @@
 // Searches over all records: a child by its identifier, a DF by its identifier, the lowest free slot (01
 // "SELECT", "CREATE", "DELETE"). Most records that a search by identifier meets are foreign: it asks first what tells them, in one
 // word (02 Ticket 5).
-ghost use mathlib.Core.Path.{_≡_};
-ghost use Prim.Native.Nat.{_+_, _≤_};
-ghost use Rattle·image.specs.Layout.{Sized, Within};
-ghost use Rattle·sound.specs.Table.{isFile, viewAt};
-ghost use Rattle·sound.specs.Kinship.{isChild, isChildNamed, childNamed, freeSlot};
-ghost use Rattle·kinship·specs.specs.Search.{Foreign, PassedOver, isDfNamed, dfNamed};
-use image::fields;
-use image::kin;
+ghost use Rattle.std.specs.Prelude.{◌≡◌, ◌+◌, ◌≤◌};
+ghost use Rattle.image.specs.Layout.{Sized, Within};
+ghost use Rattle.sound.specs.Table.{is_file, view_at};
+ghost use Rattle.sound.specs.Kinship.{is_child, is_child_named, child_named, free_slot};
+ghost use Rattle.kinship.specs.Search.{Foreign, PassedOver, is_df_named, df_named};
+
+use image::{fields, kin};
 use laws::Found;
 use rules::descriptor;
 
 // A used record other than the root.
 pub fn is_file(image: &[u8], s: usize) -> bool
-    requires { ⌜ Within (now image) s ⌝ }
-    ensures { λ r. ⌜ r ≡ isFile (viewAt (now (image .entry))) s ⌝ }
+    requires { Within image.now s }
+    ensures { result ≡ is_file (view_at image.now) s }
 {
     if fields::kind(image, s) == image::FREE {
         return false;
@@ -26,8 +25,8 @@ pub fn is_file(image: &[u8], s: usize) -> bool
 // A child of directory d. The parent tells most that are none. But a free record says 0 there, as the root's children do, and a card may
 // have many: so for the root the kind is asked first.
 pub fn is_child(image: &[u8], d: usize, s: usize) -> bool
-    requires { ⌜ Within (now image) s ⌝ }
-    ensures { λ r. ⌜ r ≡ isChild (viewAt (now (image .entry))) d s ⌝ }
+    requires { Within image.now s }
+    ensures { result ≡ is_child (view_at image.now) d s }
 {
     if d == 0 {
         if !is_file(image, s) {
@@ -43,8 +42,8 @@ pub fn is_child(image: &[u8], d: usize, s: usize) -> bool
 
 // .. with identifier x. The word is read first: what was read tells that no parent is above 65,535.
 pub fn is_child_named(image: &[u8], d: usize, x: u16, s: usize) -> bool
-    requires { ⌜ Within (now image) s ⌝ }
-    ensures { λ r. ⌜ r ≡ isChildNamed (viewAt (now (image .entry))) d x s ⌝ }
+    requires { Within image.now s }
+    ensures { result ≡ is_child_named (view_at image.now) d x s }
 {
     let word = kin::word_at(image, s);
     if 65535 < d {
@@ -58,8 +57,8 @@ pub fn is_child_named(image: &[u8], d: usize, x: u16, s: usize) -> bool
 
 // Whether none of the four records from s on has that word.
 fn four_foreign(image: &[u8], word: u32, s: usize) -> bool
-    requires { ⌜ Within (now image) (s + 3) ⌝ }
-    ensures { λ r. ⌜ Foreign (now (image .entry)) word s (s + 4) r ⌝ }
+    requires { Within image.now (s + 3) }
+    ensures { Foreign image.now word s (s + 4) result }
 {
     if kin::word_at(image, s) == word {
         return false;
@@ -76,8 +75,8 @@ fn four_foreign(image: &[u8], word: u32, s: usize) -> bool
 // The next slot from `from` on that a search has to ask: the records between, passed over four at a time, are no children of directory d
 // with identifier x. Where nothing is found, all but the first and the last few are passed over so.
 fn next_kin(image: &[u8], n: usize, d: usize, x: u16, from: usize) -> usize
-    requires { ⌜ Sized (now image) n × (from ≤ n) ⌝ }
-    ensures { λ r. ⌜ PassedOver (viewAt (now (image .entry))) n d x from r ⌝ }
+    requires { Sized image.now n × (from ≤ n) }
+    ensures { PassedOver (view_at image.now) n d x from result }
 {
     if 65535 < d {
         return from;
@@ -95,8 +94,8 @@ fn next_kin(image: &[u8], n: usize, d: usize, x: u16, from: usize) -> usize
 
 // The child of directory d with identifier x; the root is nobody's.
 pub fn child_named(image: &[u8], n: usize, d: usize, x: u16) -> Found
-    requires { ⌜ Sized (now image) n ⌝ }
-    ensures { λ r. ⌜ r ≡ childNamed n (viewAt (now (image .entry))) d x ⌝ }
+    requires { Sized image.now n }
+    ensures { result ≡ child_named n (view_at image.now) d x }
 {
     let mut s = 1;
     while s < n {
@@ -109,8 +108,8 @@ pub fn child_named(image: &[u8], n: usize, d: usize, x: u16) -> Found
 }
 
 fn is_df_named(image: &[u8], d: usize, x: u16, s: usize) -> bool
-    requires { ⌜ Within (now image) s ⌝ }
-    ensures { λ r. ⌜ r ≡ isDfNamed (viewAt (now (image .entry))) d x s ⌝ }
+    requires { Within image.now s }
+    ensures { result ≡ is_df_named (view_at image.now) d x s }
 {
     if !is_child_named(image, d, x, s) {
         return false;
@@ -120,8 +119,8 @@ fn is_df_named(image: &[u8], d: usize, x: u16, s: usize) -> bool
 
 // The DF among the children of directory d with identifier x.
 pub fn df_named(image: &[u8], n: usize, d: usize, x: u16) -> Found
-    requires { ⌜ Sized (now image) n ⌝ }
-    ensures { λ r. ⌜ r ≡ dfNamed n (viewAt (now (image .entry))) d x ⌝ }
+    requires { Sized image.now n }
+    ensures { result ≡ df_named n (view_at image.now) d x }
 {
     let mut s = 1;
     while s < n {
@@ -135,8 +134,8 @@ pub fn df_named(image: &[u8], n: usize, d: usize, x: u16) -> Found
 
 // The lowest slot whose record is free: the loop breaks with it.
 pub fn free_slot(image: &[u8], n: usize) -> Found
-    requires { ⌜ Sized (now image) n ⌝ }
-    ensures { λ r. ⌜ r ≡ freeSlot n (viewAt (now (image .entry))) ⌝ }
+    requires { Sized image.now n }
+    ensures { result ≡ free_slot n (view_at image.now) }
 {
     let mut s = 0;
     loop {

@@ -1,8 +1,6 @@
--- The pieces that a test is made of, beside `eqb`, `leb`, `_&&_` and the walks; each has a law in
+-- The pieces that a test is made of, beside `eqb`, `leb`, `◌&&◌` and the walks; each has a law in
 -- proofs/Says that gives the fact it stands for.
-use mathlib.Core.Bool.{Bool, true, false, cond}
-use mathlib.Core.List.{List, [], _∷_}
-use Prim.Native.Nat.{ℕ, suc}
+use Rattle.std.specs.Prelude.{Bool, true, false, cond, List, [], ◌∷◌, ℕ, suc}
 
 -- the second test is made where the first holds
 unfoldable pub implies : Bool → Bool → Bool
@@ -18,6 +16,6 @@ both true b = b
 both false b = false
 
 -- the test f passes at each entry of a table and its place, counted from i
-abbrev pub everyEntry : (ℕ → ℕ → Bool) → ℕ → List ℕ → Bool
-everyEntry f i [] = true
-everyEntry f i (x ∷ xs) = both (f i x) (everyEntry f (suc i) xs)
+abbrev pub every_entry : (ℕ → ℕ → Bool) → ℕ → List ℕ → Bool
+every_entry f i [] = true
+every_entry f i (x ∷ xs) = both (f i x) (every_entry f (suc i) xs)

@@ -1,47 +1,44 @@
 -- Walks over the indices below a number: all, any, the first, the sum, the count.
 -- Each test or sum that 01 makes over records, slots or bytes is one of these five.
-use mathlib.Core.Path.{_≡_}
-use mathlib.Core.Bool.{Bool, true, false, cond, _&&_, _||_}
-use mathlib.Core.Logic.{_⊎_}
-use Prim.Native.Nat.{ℕ, zero, suc, _+_, _<_}
-use Rattle·laws·specs.specs.declared.Found.{Found}
-use Rattle·laws·specs.specs.declared.Found.the-variants.{At, Nothing}
+use Rattle.std.specs.Prelude.{◌≡◌, Bool, true, false, cond, ◌&&◌, ◌||◌, ◌⊎◌, ℕ, zero, suc, ◌+◌, ◌<◌}
+use Rattle.laws.specs.declared.Found.{Found}
+use Rattle.laws.specs.declared.Found.TheVariants.{At, Nothing}
 
 -- p holds of each index below n
-unfoldable pub allBelow : ℕ → (ℕ → Bool) → Bool
-allBelow zero p = true
-allBelow (suc n) p = allBelow n p && p n
+unfoldable pub all_below : ℕ → (ℕ → Bool) → Bool
+all_below zero p = true
+all_below (suc n) p = all_below n p && p n
 
 -- p holds of some index below n
-unfoldable pub anyBelow : ℕ → (ℕ → Bool) → Bool
-anyBelow zero p = false
-anyBelow (suc n) p = anyBelow n p || p n
+unfoldable pub any_below : ℕ → (ℕ → Bool) → Bool
+any_below zero p = false
+any_below (suc n) p = any_below n p || p n
 
 -- the first answer, or the second where the first is Nothing
-abbrev pub orElse : Found → Found → Found
-orElse (At i) b = At i
-orElse Nothing b = b
+abbrev pub or_else : Found → Found → Found
+or_else (At i) b = At i
+or_else Nothing b = b
 
 -- the lowest index below n of which p holds
-unfoldable pub firstBelow : ℕ → (ℕ → Bool) → Found
-firstBelow zero p = Nothing
-firstBelow (suc n) p = orElse (firstBelow n p) (cond (p n) (At n) Nothing)
+unfoldable pub first_below : ℕ → (ℕ → Bool) → Found
+first_below zero p = Nothing
+first_below (suc n) p = or_else (first_below n p) (cond (p n) (At n) Nothing)
 
 -- the sum of f over the indices below n
-unfoldable pub sumBelow : ℕ → (ℕ → ℕ) → ℕ
-sumBelow zero f = 0
-sumBelow (suc n) f = sumBelow n f + f n
+unfoldable pub sum_below : ℕ → (ℕ → ℕ) → ℕ
+sum_below zero f = 0
+sum_below (suc n) f = sum_below n f + f n
 
 -- n where the test holds, else 0
-abbrev pub ifSo : Bool → ℕ → ℕ
-ifSo true n = n
-ifSo false n = 0
+abbrev pub if_so : Bool → ℕ → ℕ
+if_so true n = n
+if_so false n = 0
 
 -- how many indices below n have p
-unfoldable pub countBelow : ℕ → (ℕ → Bool) → ℕ
-countBelow n p = sumBelow n (λ k. ifSo (p k) 1)
+unfoldable pub count_below : ℕ → (ℕ → Bool) → ℕ
+count_below n p = sum_below n (λ k. if_so (p k) 1)
 
--- what an answer of `firstBelow` says: i has p, and none below it has
+-- what an answer of `first_below` says: i has p, and none below it has
 pub record FirstAt (n : ℕ) (p : ℕ → Bool) (i : ℕ) : Type 0 where
   pub low : i < n
   pub here : p i ≡ true

@@ -5,6 +5,7 @@
 // about them, each stated once. It answers no sentence of 01 by itself.
 
 // What a search finds: the lowest index, or nothing.
+#[derive(Drop)]
 pub enum Found {
     At(usize),
     Nothing,

@@ -1,22 +1,19 @@
 // The maker: a fresh image in a lent buffer of any length, or the buffer as it came (01 "Making and
 // reporting", 02 Ticket 3).
-ghost use mathlib.Core.Path.{_≡_};
-ghost use Prim.Native.Nat.{_<_, _≤_};
-ghost use lib.ListN.{length};
-ghost use Rattle·laws.specs.Lists.{splice};
-ghost use Rattle·image.specs.Layout.{Sized, longestRule};
-ghost use Rattle·access.specs.Access.{fitsRecord};
-ghost use Rattle·sound.specs.Effects.{freshHeader, fresh};
-ghost use Rattle·maker·specs.specs.Making.{slotsIn, fitsLength, fitsBuffer, fitsTotal, MakerPromises};
-use crate::Edition;
-use crate::Made;
+ghost use Rattle.std.specs.Prelude.{◌≡◌, ◌<◌, ◌≤◌, length};
+ghost use Rattle.laws.specs.Lists.{splice};
+ghost use Rattle.image.specs.Layout.{Sized, longest_rule};
+ghost use Rattle.access.specs.Access.{fits_record};
+ghost use Rattle.sound.specs.Effects.{fresh_header, fresh};
+ghost use Rattle.maker.specs.Making.{slots_in, fits_length, fits_buffer, fits_total, MakerPromises};
+
+use crate::{Edition, Made};
 use image::Head;
-use rules::descriptor;
-use rules::life_cycle;
+use rules::{descriptor, life_cycle};
 
 // The number of slots that so many bytes may have.
 fn slots_in(long: usize) -> usize
-    ensures { λ r. ⌜ r ≡ slotsIn long ⌝ }
+    ensures { result ≡ slots_in long }
 {
     if long < 16 {
         return 0;
@@ -26,7 +23,7 @@ fn slots_in(long: usize) -> usize
 
 // Whether so many bytes are a header and 2 to 1,023 records.
 fn fits_length(long: usize) -> bool
-    ensures { λ r. ⌜ r ≡ fitsLength long ⌝ }
+    ensures { result ≡ fits_length long }
 {
     let n = slots_in(long);
     if n < 2 {
@@ -40,8 +37,8 @@ fn fits_length(long: usize) -> bool
 
 // Whether n slots can hold that total.
 fn fits_total(n: usize, total: u32) -> bool
-    requires { ⌜ (2 ≤ n) × (n ≤ 1023) ⌝ }
-    ensures { λ r. ⌜ r ≡ fitsTotal n total ⌝ }
+    requires { (2 ≤ n) × (n ≤ 1023) }
+    ensures { result ≡ fits_total n total }
 {
     if total < 1 {
         return false;
@@ -52,8 +49,8 @@ fn fits_total(n: usize, total: u32) -> bool
 
 // The header of a fresh card of a version and n slots.
 fn put_header(image: &mut [u8], v: u16, n: u16)
-    requires { ⌜ 16 ≤ length (now image) ⌝ }
-    ensures { λ _. ⌜ now (image .exit) ≡ splice (now (image .entry)) 0 (freshHeader v n) ⌝ }
+    requires { 16 ≤ length image.old }
+    ensures { image.new ≡ splice image.old 0 (fresh_header v n) }
 {
     numbers::put8(image, 0, 0x55);
     numbers::put8(image, 1, 0x46);
@@ -67,8 +64,8 @@ fn put_header(image: &mut [u8], v: u16, n: u16)
 
 // The header, the root, and free records after it: every byte of the buffer.
 fn put_fresh(image: &mut [u8], v: u32, n: usize, total: u32, form: u8, rule: &[u8])
-    requires { ⌜ Sized (now image) n × ((length (now rule) ≤ longestRule v) × (v < 65536)) ⌝ }
-    ensures { λ _. ⌜ now (image .exit) ≡ fresh v n total form (now (rule .entry)) ⌝ }
+    requires { Sized image.old n × ((length rule.now ≤ longest_rule v) × (v < 65536)) }
+    ensures { image.new ≡ fresh v n total form rule.now }
 {
     let name = &rule[0..0];
     let root = Head {
@@ -89,7 +86,7 @@ fn put_fresh(image: &mut [u8], v: u32, n: usize, total: u32, form: u8, rule: &[u
 
 // Whether so many bytes can be a card of that edition.
 fn fits_buffer(long: usize, e: Edition) -> bool
-    ensures { λ r. ⌜ r ≡ fitsBuffer long e ⌝ }
+    ensures { result ≡ fits_buffer long e }
 {
     if !fits_length(long) {
         return false;
@@ -99,7 +96,7 @@ fn fits_buffer(long: usize, e: Edition) -> bool
 
 // Whether a rule fits a record. A form that no byte holds is none.
 fn fits_rule(v: u32, form: u32, rule: &[u8]) -> bool
-    ensures { λ r. ⌜ r ≡ fitsRecord v form (now (rule .entry)) ⌝ }
+    ensures { result ≡ fits_record v form rule.now }
 {
     if form > 255 {
         return false;
@@ -109,7 +106,7 @@ fn fits_rule(v: u32, form: u32, rule: &[u8]) -> bool
 
 // Makes a fresh image of a buffer: a card of that edition, with a root of that total and rule.
 pub fn make(image: &mut [u8], edition: Edition, total: u32, form: u32, rule: &[u8]) -> Made
-    ensures { λ r. ⌜ MakerPromises (now (image .entry)) edition total form (now (rule .entry)) r (now (image .exit)) ⌝ }
+    ensures { MakerPromises image.old edition total form rule.now result image.new }
 {
     let long = image.len();
     if !fits_buffer(long, edition) {

@@ -5,11 +5,13 @@ pub mod fresh;
 pub mod report;
 
 // Which card is made: the version of its image.
+#[derive(Drop)]
 pub struct Edition {
     pub version: u32,
 }
 
 // What the maker answers; a version that is not known is answered like a length that no image has.
+#[derive(Drop)]
 pub enum Made {
     Done,
     BadLength,
@@ -18,6 +20,7 @@ pub enum Made {
 }
 
 // The numbers of the report: the current DF's total, its room, its direct children, all files beneath it.
+#[derive(Drop)]
 pub struct Figures {
     pub total: u32,
     pub room: u32,
@@ -26,6 +29,7 @@ pub struct Figures {
 }
 
 // What the report answers.
+#[derive(Drop)]
 pub enum Reported {
     Numbers(Figures),
     Unsound,

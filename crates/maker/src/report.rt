@@ -1,16 +1,16 @@
 // The report (01 "Making and reporting"): four numbers of a sound image, whose current DF they are about.
-ghost use mathlib.Core.Path.{_≡_};
-ghost use Rattle·image.specs.Layout.{Sized, countOf};
-ghost use Rattle·sound.specs.Sound.{Sound};
-ghost use Rattle·maker·specs.specs.Reporting.{figuresOf, ReportPromises};
-use crate::Figures;
-use crate::Reported;
+ghost use Rattle.std.specs.Prelude.{◌≡◌};
+ghost use Rattle.image.specs.Layout.{Sized, count_of};
+ghost use Rattle.sound.specs.Sound.{Sound};
+ghost use Rattle.maker.specs.Reporting.{figures_of, ReportPromises};
+
+use crate::{Figures, Reported};
 
 // The numbers of a sound image of n slots.
 fn figures(image: &[u8], n: usize) -> Figures
-    requires { ⌜ Sized (now image) n × (n ≡ countOf (now image)) ⌝ }
-    requires { ⌜ Sound (now image) ⌝ }
-    ensures { λ r. ⌜ r ≡ figuresOf (now (image .entry)) ⌝ }
+    requires sized { Sized image.now n × (n ≡ count_of image.now) }
+    requires sound { Sound image.now }
+    ensures { result ≡ figures_of image.now }
 {
     let d = image::fields::current_df(image);
     let total = image::fields::size(image, d) as u32;
@@ -27,7 +27,7 @@ fn figures(image: &[u8], n: usize) -> Figures
 
 // Reports on any bytes: the numbers of a sound image, or that it is not one.
 pub fn report(image: &[u8]) -> Reported
-    ensures { λ r. ⌜ ReportPromises (now (image .entry)) r ⌝ }
+    ensures { ReportPromises image.now result }
 {
     if !sound_test::sound(image) {
         return Reported::Unsound;

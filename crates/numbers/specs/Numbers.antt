@@ -1,15 +1,13 @@
 -- Numbers in a list of bytes, high byte first (01 "Image": numbers are big-endian).
-use mathlib.Core.List.{List, [], _∷_, _++_}
-use Prim.Native.Nat.{ℕ, _+_, _*_, _/_, _%_}
-use lib.ListN.{getD}
+use Rattle.std.specs.Prelude.{List, [], ◌∷◌, ◌++◌, ℕ, ◌+◌, ◌*◌, ◌/◌, ◌%◌, get_or}
 
 -- the 16-bit number at `at`
-unfoldable pub u16At : List ℕ → ℕ → ℕ
-u16At s at = getD s at 0 * 256 + getD s (at + 1) 0
+unfoldable pub u16_at : List ℕ → ℕ → ℕ
+u16_at s at = get_or s at 0 * 256 + get_or s (at + 1) 0
 
 -- the 32-bit number at `at`
-unfoldable pub u32At : List ℕ → ℕ → ℕ
-u32At s at = u16At s at * 65536 + u16At s (at + 2)
+unfoldable pub u32_at : List ℕ → ℕ → ℕ
+u32_at s at = u16_at s at * 65536 + u16_at s (at + 2)
 
 -- the two bytes of a 16-bit number
 abbrev pub be16 : ℕ → List ℕ

@@ -1,22 +1,19 @@
 -- The lines of a listing. Each begins with a place in the data, in two hex digits.
-use Prim.Native.Nat.{ℕ, _/_, _%_}
-use mathlib.Core.Bool.{cond}
-use mathlib.Core.List.{List, [], _∷_, _++_}
-use lib.Dec.{eqb}
-use Rattle·text.specs.Digits.{digitOf}
-use Rattle·rules.specs.Life.{lifeOf, creation, initialisation, activated, deactivated, terminated}
+use Rattle.std.specs.Prelude.{ℕ, ◌/◌, ◌%◌, cond, List, [], ◌∷◌, ◌++◌, eqb}
+use Rattle.text.specs.Digits.{digit_of}
+use Rattle.rules.specs.Life.{life_of, creation, initialisation, activated, deactivated, terminated}
 
 -- a byte in two digits
 abbrev pub hex : ℕ → List ℕ
-hex b = digitOf (b / 16) ∷ digitOf (b % 16) ∷ []
+hex b = digit_of (b / 16) ∷ digit_of (b % 16) ∷ []
 
 -- a place or a byte, and a word behind it
-unfoldable pub markLine : ℕ → List ℕ → List ℕ
-markLine at word = hex at ++ (32 ∷ []) ++ word
+unfoldable pub mark_line : ℕ → List ℕ → List ℕ
+mark_line at word = hex at ++ (32 ∷ []) ++ word
 
 -- an object's tag and length
-abbrev pub tagAndLength : ℕ → ℕ → List ℕ
-tagAndLength tag long = hex tag ++ (32 ∷ []) ++ hex long
+abbrev pub tag_and_length : ℕ → ℕ → List ℕ
+tag_and_length tag long = hex tag ++ (32 ∷ []) ++ hex long
 
 -- the words `END`, `BREAK`, `HEAD`, `DF`, `EF`, `DF 2`, `EF 2`, `DF 3`, `EF 3` and `6A80`, each to the end of its line
 abbrev pub end : List ℕ
@@ -34,24 +31,24 @@ df = 68 ∷ 70 ∷ 10 ∷ []
 abbrev pub ef : List ℕ
 ef = 69 ∷ 70 ∷ 10 ∷ []
 
-abbrev pub laterDf : List ℕ
-laterDf = 68 ∷ 70 ∷ 32 ∷ 50 ∷ 10 ∷ []
+abbrev pub later_df : List ℕ
+later_df = 68 ∷ 70 ∷ 32 ∷ 50 ∷ 10 ∷ []
 
-abbrev pub laterEf : List ℕ
-laterEf = 69 ∷ 70 ∷ 32 ∷ 50 ∷ 10 ∷ []
+abbrev pub later_ef : List ℕ
+later_ef = 69 ∷ 70 ∷ 32 ∷ 50 ∷ 10 ∷ []
 
-abbrev pub thirdDf : List ℕ
-thirdDf = 68 ∷ 70 ∷ 32 ∷ 51 ∷ 10 ∷ []
+abbrev pub third_df : List ℕ
+third_df = 68 ∷ 70 ∷ 32 ∷ 51 ∷ 10 ∷ []
 
-abbrev pub thirdEf : List ℕ
-thirdEf = 69 ∷ 70 ∷ 32 ∷ 51 ∷ 10 ∷ []
+abbrev pub third_ef : List ℕ
+third_ef = 69 ∷ 70 ∷ 32 ∷ 51 ∷ 10 ∷ []
 
 abbrev pub bad : List ℕ
 bad = 54 ∷ 65 ∷ 56 ∷ 48 ∷ 10 ∷ []
 
 -- the life cycles by their class: `creation`, `initialisation`, `activated`, `deactivated`, `terminated`, else `unknown`
-unfoldable pub lifeWord : ℕ → List ℕ
-lifeWord class =
+unfoldable pub life_word : ℕ → List ℕ
+life_word class =
     cond (eqb class creation) (99 ∷ 114 ∷ 101 ∷ 97 ∷ 116 ∷ 105 ∷ 111 ∷ 110 ∷ 10 ∷ [])
     (cond (eqb class initialisation) (105 ∷ 110 ∷ 105 ∷ 116 ∷ 105 ∷ 97 ∷ 108 ∷ 105 ∷ 115 ∷ 97 ∷ 116 ∷ 105 ∷ 111 ∷ 110 ∷ 10 ∷ [])
     (cond (eqb class activated) (97 ∷ 99 ∷ 116 ∷ 105 ∷ 118 ∷ 97 ∷ 116 ∷ 101 ∷ 100 ∷ 10 ∷ [])
@@ -60,5 +57,5 @@ lifeWord class =
     (117 ∷ 110 ∷ 107 ∷ 110 ∷ 111 ∷ 119 ∷ 110 ∷ 10 ∷ [])))))
 
 -- a life-cycle byte, and its life cycle in words
-unfoldable pub lifeLine : ℕ → List ℕ
-lifeLine b = markLine b (lifeWord (lifeOf b))
+unfoldable pub life_line : ℕ → List ℕ
+life_line b = mark_line b (life_word (life_of b))

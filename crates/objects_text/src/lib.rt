@@ -8,24 +8,21 @@
 // a card of version 2 takes and one of version 1 does not, for its rule (02 Ticket 3; up to 28 bytes of rule, one of version 3 takes it
 // too), `DF 3` and `EF 3` what only one of version 3 takes, for its rule stands in 8B (02 Ticket 7): the data do not say which card they
 // are for.
-ghost use mathlib.Core.Path.{_≡_};
-ghost use Prim.Native.Nat.{_+_, _<_, _≤_};
-ghost use lib.ListN.{length};
-ghost use Rattle·create_data.specs.Data.{dataOf};
-ghost use Rattle·text.specs.Written.{WroteAt, Wrote, Counted};
-ghost use Rattle·objects_text·specs.specs.Lines.{markLine, lifeLine};
-ghost use Rattle·objects_text·specs.specs.Listing.{wholeAt, restOf, lineAt, stopAt, linesFrom, headOf};
-ghost use Rattle·objects_text·specs.specs.Listing.{thirdWordOf, laterWordOf, readingOf, listOf};
-use create_data::Data;
-use create_data::judge;
+ghost use Rattle.std.specs.Prelude.{◌≡◌, ◌+◌, ◌<◌, ◌≤◌, length};
+ghost use Rattle.create_data.specs.Data.{data_of};
+ghost use Rattle.text.specs.Written.{WroteAt, Wrote, Counted};
+ghost use Rattle.objects_text.specs.Lines.{mark_line, life_line};
+ghost use Rattle.objects_text.specs.Listing.{whole_at, rest_of, line_at, stop_at, lines_from, head_of};
+ghost use Rattle.objects_text.specs.Listing.{third_word_of, later_word_of, reading_of, list_of};
+
+use create_data::{Data, judge};
 use rules::life_cycle;
-use template::Object;
-use template::gather;
+use template::{Object, gather};
 
 // Writes a place or a byte in two hex digits, and a word behind it.
 fn put_mark(out: &mut [u8], put: usize, at: u16, word: &[u8]) -> usize
-    requires { ⌜ (at < 256) × (put + 3 + length (now word) ≤ length (now out)) ⌝ }
-    ensures { λ r. ⌜ WroteAt put r (now (out .entry)) (now (out .exit)) (markLine at (now (word .entry))) ⌝ }
+    requires { (at < 256) × (put + 3 + length word.now ≤ length out.old) }
+    ensures { WroteAt put result out.old out.new (mark_line at word.now) }
 {
     let a = text::digit(at / 16);
     let b = text::digit(at % 16);
@@ -35,7 +32,7 @@ fn put_mark(out: &mut [u8], put: usize, at: u16, word: &[u8]) -> usize
 
 // Whether a whole object stands at a place.
 fn is_whole(s: &[u8], at: usize) -> bool
-    ensures { λ r. ⌜ r ≡ wholeAt (now (s .entry)) at ⌝ }
+    ensures { result ≡ whole_at s.now at }
 {
     match reader::object(s, at) {
         Object::Whole { .. } => true,
@@ -45,8 +42,8 @@ fn is_whole(s: &[u8], at: usize) -> bool
 
 // Writes a life-cycle byte, and its life cycle in words.
 fn put_life(out: &mut [u8], put: usize, x: u8) -> usize
-    requires { ⌜ put + 18 ≤ length (now out) ⌝ }
-    ensures { λ r. ⌜ WroteAt put r (now (out .entry)) (now (out .exit)) (lifeLine x) ⌝ }
+    requires { put + 18 ≤ length out.old }
+    ensures { WroteAt put result out.old out.new (life_line x) }
 {
     let byte = numbers::wide(x);
     let class = life_cycle::class(x);
@@ -70,8 +67,8 @@ fn put_life(out: &mut [u8], put: usize, x: u8) -> usize
 
 // Writes what stands behind an object's tag and length: of 8A its life cycle, if it is one byte; else the line ends.
 fn put_rest(s: &[u8], tag: u8, start: usize, end: usize, out: &mut [u8], put: usize) -> usize
-    requires { ⌜ (start ≤ end) × (end ≤ length (now s)) × (put + 19 ≤ length (now out)) ⌝ }
-    ensures { λ r. ⌜ WroteAt put r (now (out .entry)) (now (out .exit)) (restOf (now (s .entry)) tag start end) ⌝ }
+    requires { (start ≤ end) × (end ≤ length s.now) × (put + 19 ≤ length out.old) }
+    ensures { WroteAt put result out.old out.new (rest_of s.now tag start end) }
 {
     if tag != 0x8A {
         return text::put(out, put, b"\n");
@@ -85,8 +82,8 @@ fn put_rest(s: &[u8], tag: u8, start: usize, end: usize, out: &mut [u8], put: us
 
 // Writes the line of the object at a place: place, tag, length, and what stands behind. Nothing where none is whole.
 fn put_object(s: &[u8], at: usize, out: &mut [u8], put: usize) -> usize
-    requires { ⌜ (at < 256) × (put + 27 ≤ length (now out)) ⌝ }
-    ensures { λ r. ⌜ WroteAt put r (now (out .entry)) (now (out .exit)) (lineAt (now (s .entry)) at) ⌝ }
+    requires { (at < 256) × (put + 27 ≤ length out.old) }
+    ensures { WroteAt put result out.old out.new (line_at s.now at) }
 {
     let Object::Whole { tag, start, end } = reader::object(s, at) else {
         return put;
@@ -103,8 +100,8 @@ fn put_object(s: &[u8], at: usize, out: &mut [u8], put: usize) -> usize
 
 // Writes the line where the objects stop: `END` at the end of the data, else `BREAK`.
 fn put_stop(s: &[u8], at: usize, out: &mut [u8], put: usize) -> usize
-    requires { ⌜ (at < 256) × (put + 9 ≤ length (now out)) ⌝ }
-    ensures { λ r. ⌜ WroteAt put r (now (out .entry)) (now (out .exit)) (stopAt (now (s .entry)) at) ⌝ }
+    requires { (at < 256) × (put + 9 ≤ length out.old) }
+    ensures { WroteAt put result out.old out.new (stop_at s.now at) }
 {
     if at == s.len() {
         return put_mark(out, put, at as u16, b"END\n");
@@ -114,9 +111,9 @@ fn put_stop(s: &[u8], at: usize, out: &mut [u8], put: usize) -> usize
 
 // Writes the lines of the objects behind 62 LL, from `from` on, and the line where they stop.
 fn walk(s: &[u8], out: &mut [u8], from: usize) -> usize
-    requires { ⌜ (length (now s) < 256) × (from ≤ 10) × (2304 ≤ length (now out)) ⌝ }
-    ensures { λ r. ⌜ WroteAt from r (now (out .entry)) (now (out .exit)) (linesFrom (length (now (s .entry))) (now (s .entry)) 2)
-        × (r ≤ 2304) ⌝ }
+    requires { (length s.now < 256) × (from ≤ 10) × (2304 ≤ length out.old) }
+    ensures { WroteAt from result out.old out.new (lines_from (length s.now) s.now 2)
+        × (result ≤ 2304) }
 {
     let mut at = 2;
     let mut put = from;
@@ -129,8 +126,8 @@ fn walk(s: &[u8], out: &mut [u8], from: usize) -> usize
 
 // Writes `HEAD` behind place 00 where the data is no template; else nothing.
 fn put_head(s: &[u8], out: &mut [u8]) -> usize
-    requires { ⌜ 8 ≤ length (now out) ⌝ }
-    ensures { λ r. ⌜ Wrote r (now (out .entry)) (now (out .exit)) (headOf (now (s .entry))) ⌝ }
+    requires { 8 ≤ length out.old }
+    ensures { Wrote result out.old out.new (head_of s.now) }
 {
     if judge::is_template(s) {
         return 0;
@@ -140,8 +137,8 @@ fn put_head(s: &[u8], out: &mut [u8]) -> usize
 
 // Writes how a card of version 3 reads data that one of version 1 or 2 refuses.
 fn put_third(s: &[u8], at: u16, out: &mut [u8], put: usize) -> usize
-    requires { ⌜ (at < 256) × (put + 8 ≤ length (now out)) ⌝ }
-    ensures { λ r. ⌜ WroteAt put r (now (out .entry)) (now (out .exit)) (markLine at (thirdWordOf (dataOf 3 (now (s .entry))))) ⌝ }
+    requires { (at < 256) × (put + 8 ≤ length out.old) }
+    ensures { WroteAt put result out.old out.new (mark_line at (third_word_of (data_of 3 s.now))) }
 {
     match create_data::read(s, 3) {
         Data::Df(_) => put_mark(out, put, at, b"DF 3\n"),
@@ -152,9 +149,9 @@ fn put_third(s: &[u8], at: u16, out: &mut [u8], put: usize) -> usize
 
 // Writes how a card of version 2 reads data that one of version 1 refuses, and where it refuses them too, how one of version 3.
 fn put_later(s: &[u8], at: u16, out: &mut [u8], put: usize) -> usize
-    requires { ⌜ (at < 256) × (put + 8 ≤ length (now out)) ⌝ }
-    ensures { λ r. ⌜ WroteAt put r (now (out .entry)) (now (out .exit))
-        (markLine at (laterWordOf (dataOf 2 (now (s .entry))) (dataOf 3 (now (s .entry))))) ⌝ }
+    requires { (at < 256) × (put + 8 ≤ length out.old) }
+    ensures { WroteAt put result out.old out.new
+        (mark_line at (later_word_of (data_of 2 s.now) (data_of 3 s.now))) }
 {
     match create_data::read(s, 2) {
         Data::Df(_) => put_mark(out, put, at, b"DF 2\n"),
@@ -165,8 +162,8 @@ fn put_later(s: &[u8], at: u16, out: &mut [u8], put: usize) -> usize
 
 // Writes how CREATE reads the data: up to which place it takes the objects, and `DF`, `EF` or `6A80`.
 fn put_reading(s: &[u8], out: &mut [u8], put: usize) -> usize
-    requires { ⌜ (length (now s) < 256) × (put + 8 ≤ length (now out)) ⌝ }
-    ensures { λ r. ⌜ WroteAt put r (now (out .entry)) (now (out .exit)) (readingOf (now (s .entry))) ⌝ }
+    requires { (length s.now < 256) × (put + 8 ≤ length out.old) }
+    ensures { WroteAt put result out.old out.new (reading_of s.now) }
 {
     let o = gather::all(s);
     let at = o.next as u16;
@@ -179,8 +176,8 @@ fn put_reading(s: &[u8], out: &mut [u8], put: usize) -> usize
 
 // The text of data, at the start of out; gives its length.
 fn write(s: &[u8], out: &mut [u8]) -> usize
-    requires { ⌜ 2312 ≤ length (now out) ⌝ }
-    ensures { λ r. ⌜ Wrote r (now (out .entry)) (now (out .exit)) (listOf (now (s .entry))) ⌝ }
+    requires { 2312 ≤ length out.old }
+    ensures { Wrote result out.old out.new (list_of s.now) }
 {
     if 255 < s.len() {
         return text::put(out, 0, b"BIG\n");
@@ -194,8 +191,8 @@ fn write(s: &[u8], out: &mut [u8]) -> usize
 // object is an 8A of three, else nine, and an object has two bytes at least: so nine bytes for one of the data's 255, nine for
 // `BREAK` and eight for `6A80` are enough.
 pub fn list(s: &[u8], out: &mut [u8; 2312]) -> usize
-    ensures { λ r. ⌜ Wrote r (now (out .entry)) (now (out .exit)) (listOf (now (s .entry))) ⌝ }
-    ensures { λ r. ⌜ Counted r (now (out .exit)) ⌝ }
+    ensures wrote { Wrote result out.old out.new (list_of s.now) }
+    ensures counted { Counted result out.new }
 {
     write(s, out)
 }

@@ -1,12 +1,8 @@
 -- The starts of bodies in a set of keys (crate keys): what the test of all bodies keeps, so that it looks at no pairs.
-use mathlib.Core.Path.{_≡_}
-use mathlib.Core.List.{List}
-use mathlib.Core.Bool.{Bool, true, false}
-use Prim.Native.Nat.{ℕ, _+_, _<_, _≤_}
-use lib.ListN.{length}
-use Rattle·keys.specs.Marks.{marked}
-use Rattle·pool·specs.specs.Bodies.{startAt, bodyAt}
-use Rattle·pool·specs.specs.Index.{StartsAt}
+use Rattle.std.specs.Prelude.{◌≡◌, List, Bool, true, false, ℕ, ◌+◌, ◌<◌, ◌≤◌, length}
+use Rattle.keys.specs.Marks.{marked}
+use Rattle.pool.specs.Bodies.{start_at, body_at}
+use Rattle.pool.specs.Index.{StartsAt}
 
 -- what an answer says: A where it is yes, B where it is no
 pub data When (r : Bool) (A B : Type 0) : Type 0 where
@@ -34,11 +30,11 @@ pub record Entered (s : ℕ) (a z : ℕ → ℕ) (len : ℕ) (seen : List ℕ) :
 
 -- the bodies of an image
 abbrev pub EnteredIn : List ℕ → ℕ → ℕ → List ℕ → Type 0
-EnteredIn img s len seen = Entered s (startAt img) (bodyAt img) len seen
+EnteredIn img s len seen = Entered s (start_at img) (body_at img) len seen
 
 -- no body starts within that of s
 pub record Alone (a z : ℕ → ℕ) (seen : List ℕ) (s : ℕ) : Type 0 where
   pub none : 0 < z s → (k : ℕ) → a s < k → k < a s + z s → marked seen k ≡ false
 
 abbrev pub AloneIn : List ℕ → List ℕ → ℕ → Type 0
-AloneIn img seen s = Alone (startAt img) (bodyAt img) seen s
+AloneIn img seen s = Alone (start_at img) (body_at img) seen s

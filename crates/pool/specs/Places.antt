@@ -1,46 +1,43 @@
 -- Room for a new body of m bytes (02 Ticket 4: "A new body is all FF, in the lowest gap that fits. If no gap fits, bodies are moved down
 -- first"): then it lies above them all. The count of bytes moved is Ticket 8's.
-use mathlib.Core.Path.{_≡_}
-use mathlib.Core.List.{List}
-use Prim.Native.Nat.{ℕ}
-use lib.ListN.{length, replicate}
-use Rattle·laws.specs.declared.Found.{Found}
-use Rattle·laws.specs.declared.Found.the-variants.{At, Nothing}
-use Rattle·laws.specs.Lists.{splice}
-use Rattle·laws.specs.Walks.{sumBelow}
-use Rattle·pool·specs.specs.declared.Room.{Room}
-use Rattle·pool·specs.specs.Bodies.{startAt, bodyAt}
-use Rattle·pool·specs.specs.Gaps.{lowestGap}
-use Rattle·pool·specs.specs.Packed.{movedBytes, packedImage, packedPool}
+use Rattle.std.specs.Prelude.{◌≡◌, List, ℕ, length, replicate}
+use Rattle.laws.specs.declared.Found.{Found}
+use Rattle.laws.specs.declared.Found.TheVariants.{At, Nothing}
+use Rattle.laws.specs.Lists.{splice}
+use Rattle.laws.specs.Walks.{sum_below}
+use Rattle.pool.specs.declared.Room.{Room}
+use Rattle.pool.specs.Bodies.{start_at, body_at}
+use Rattle.pool.specs.Gaps.{lowest_gap}
+use Rattle.pool.specs.Packed.{moved_bytes, packed_image, packed_pool}
 
 -- the gap that fits before any body is moved
-unfoldable pub gapFor : ℕ → List ℕ → ℕ → ℕ → Found
-gapFor n img len m = lowestGap n (startAt img) (bodyAt img) len m
+unfoldable pub gap_for : ℕ → List ℕ → ℕ → ℕ → Found
+gap_for n img len m = lowest_gap n (start_at img) (body_at img) len m
 
 -- where the new body starts, the count, the image and the pool before it is written
-abbrev pub placeAt : Found → ℕ → List ℕ → ℕ
-placeAt (At p) n img = p
-placeAt Nothing n img = sumBelow n (bodyAt img)
+abbrev pub place_at : Found → ℕ → List ℕ → ℕ
+place_at (At p) n img = p
+place_at Nothing n img = sum_below n (body_at img)
 
-abbrev pub placeMoved : Found → ℕ → List ℕ → ℕ
-placeMoved (At p) n img = 0
-placeMoved Nothing n img = movedBytes n (startAt img) (bodyAt img)
+abbrev pub place_moved : Found → ℕ → List ℕ → ℕ
+place_moved (At p) n img = 0
+place_moved Nothing n img = moved_bytes n (start_at img) (body_at img)
 
-abbrev pub placeImage : Found → ℕ → List ℕ → List ℕ
-placeImage (At p) n img = img
-placeImage Nothing n img = packedImage n img
+abbrev pub place_image : Found → ℕ → List ℕ → List ℕ
+place_image (At p) n img = img
+place_image Nothing n img = packed_image n img
 
-abbrev pub placePool : Found → ℕ → List ℕ → List ℕ → List ℕ
-placePool (At p) n img pool = pool
-placePool Nothing n img pool = packedPool n (startAt img) (bodyAt img) pool
+abbrev pub place_pool : Found → ℕ → List ℕ → List ℕ → List ℕ
+place_pool (At p) n img pool = pool
+place_pool Nothing n img pool = packed_pool n (start_at img) (body_at img) pool
 
 -- all of it, with g the gap: the answer, the image and the pool
-pub record Placed (g : Found) (n m : ℕ) (img pool : List ℕ) (r : Room) (newImage newPool : List ℕ) : Type 0 where
-  pub start : r .start ≡ placeAt g n img
-  pub moved : r .moved ≡ placeMoved g n img
-  pub image : newImage ≡ placeImage g n img
-  pub bytes : newPool ≡ splice (placePool g n img pool) (placeAt g n img) (replicate m 255)
+pub record Placed (g : Found) (n m : ℕ) (img pool : List ℕ) (r : Room) (new_image new_pool : List ℕ) : Type 0 where
+  pub start : r.start ≡ place_at g n img
+  pub moved : r.moved ≡ place_moved g n img
+  pub image : new_image ≡ place_image g n img
+  pub bytes : new_pool ≡ splice (place_pool g n img pool) (place_at g n img) (replicate m 255)
 
 -- what CREATE asks for
 abbrev pub Made : ℕ → ℕ → List ℕ → List ℕ → Room → List ℕ → List ℕ → Type 0
-Made n m img pool r newImage newPool = Placed (gapFor n img (length pool) m) n m img pool r newImage newPool
+Made n m img pool r new_image new_pool = Placed (gap_for n img (length pool) m) n m img pool r new_image new_pool

@@ -1,19 +1,18 @@
 // Whether the bodies lie in the pool, apart (02 Ticket 4: "Sound bodies lie in the pool, apart"), with no look at pairs: a set has all
 // starts, no two alike, and then no body may have a start within it. It costs a few words for each body and a pass over a 64th of the pool.
-ghost use mathlib.Core.Path.{_≡_};
-ghost use Prim.Native.Nat.{_+_, _<_};
-ghost use Rattle·image.specs.Layout.{Sized};
-ghost use Rattle·pool·specs.specs.Bodies.{startAt, bodyAt};
-ghost use Rattle·pool·specs.specs.Laid.{laid as isLaid, LaidIn};
-ghost use Rattle·pool·specs.specs.Entered.{When, EnteredIn, AloneIn};
-use crate::body;
-use crate::stretch;
+ghost use Rattle.std.specs.Prelude.{◌≡◌, ◌+◌, ◌<◌};
+ghost use Rattle.image.specs.Layout.{Sized};
+ghost use Rattle.pool.specs.Bodies.{start_at, body_at};
+ghost use Rattle.pool.specs.Laid.{laid as is_laid, LaidIn};
+ghost use Rattle.pool.specs.Entered.{When, EnteredIn, AloneIn};
+
+use crate::{body, stretch};
 
 // Puts the start of the body of s into the set; no where it leaves the pool, or another starts there.
 fn enter(seen: &mut [u64; 1024], image: &[u8], n: usize, len: usize, s: usize) -> bool
-    requires { ⌜ Sized (now image) n × (s < n) ⌝ }
-    requires { ⌜ EnteredIn (now image) s len (now seen) ⌝ }
-    ensures { λ r. ⌜ When r (EnteredIn (now (image .entry)) (s + 1) len (now (seen .exit))) (LaidIn (now (image .entry)) n len → ⊥) ⌝ }
+    requires sized { Sized image.now n × (s < n) }
+    requires entered_in { EnteredIn image.now s len seen.old }
+    ensures { When result (EnteredIn image.now (s + 1) len seen.new) (LaidIn image.now n len → ⊥) }
 {
     let size = body::size(image, s);
     if size == 0 {
@@ -33,9 +32,9 @@ fn enter(seen: &mut [u64; 1024], image: &[u8], n: usize, len: usize, s: usize) -
 
 // .. of all slots.
 fn enter_all(seen: &mut [u64; 1024], image: &[u8], n: usize, len: usize) -> bool
-    requires { ⌜ Sized (now image) n ⌝ }
-    requires { ⌜ EnteredIn (now image) 0 len (now seen) ⌝ }
-    ensures { λ r. ⌜ When r (EnteredIn (now (image .entry)) n len (now (seen .exit))) (LaidIn (now (image .entry)) n len → ⊥) ⌝ }
+    requires sized { Sized image.now n }
+    requires entered_in { EnteredIn image.now 0 len seen.old }
+    ensures { When result (EnteredIn image.now n len seen.new) (LaidIn image.now n len → ⊥) }
 {
     let mut s = 0;
     while s < n {
@@ -49,9 +48,9 @@ fn enter_all(seen: &mut [u64; 1024], image: &[u8], n: usize, len: usize) -> bool
 
 // Whether no body starts within that of s.
 fn alone(seen: &[u64; 1024], image: &[u8], n: usize, len: usize, s: usize) -> bool
-    requires { ⌜ Sized (now image) n × ((s < n) × (len < 65536)) ⌝ }
-    requires { ⌜ EnteredIn (now image) n len (now seen) ⌝ }
-    ensures { λ r. ⌜ When r (AloneIn (now (image .entry)) (now (seen .entry)) s) (LaidIn (now (image .entry)) n len → ⊥) ⌝ }
+    requires sized { Sized image.now n × ((s < n) × (len < 65536)) }
+    requires entered_in { EnteredIn image.now n len seen.now }
+    ensures { When result (AloneIn image.now seen.now s) (LaidIn image.now n len → ⊥) }
 {
     let size = body::size(image, s);
     if size == 0 {
@@ -66,9 +65,9 @@ fn alone(seen: &[u64; 1024], image: &[u8], n: usize, len: usize, s: usize) -> bo
 
 // .. within any.
 fn alone_all(seen: &[u64; 1024], image: &[u8], n: usize, len: usize) -> bool
-    requires { ⌜ Sized (now image) n × (len < 65536) ⌝ }
-    requires { ⌜ EnteredIn (now image) n len (now seen) ⌝ }
-    ensures { λ r. ⌜ r ≡ isLaid n (startAt (now (image .entry))) (bodyAt (now (image .entry))) len ⌝ }
+    requires sized { Sized image.now n × (len < 65536) }
+    requires entered_in { EnteredIn image.now n len seen.now }
+    ensures { result ≡ is_laid n (start_at image.now) (body_at image.now) len }
 {
     let mut s = 0;
     while s < n {
@@ -82,8 +81,8 @@ fn alone_all(seen: &[u64; 1024], image: &[u8], n: usize, len: usize) -> bool
 
 // Whether all bodies lie in the pool, apart.
 pub fn laid(image: &[u8], n: usize, len: usize) -> bool
-    requires { ⌜ Sized (now image) n × (len < 65536) ⌝ }
-    ensures { λ r. ⌜ r ≡ isLaid n (startAt (now (image .entry))) (bodyAt (now (image .entry))) len ⌝ }
+    requires { Sized image.now n × (len < 65536) }
+    ensures { result ≡ is_laid n (start_at image.now) (body_at image.now) len }
 {
     let mut seen = [0u64; 1024];
     if !enter_all(&mut seen, image, n, len) {

@@ -14,6 +14,7 @@ pub mod stretch;
 pub mod wipe;
 
 // Where a new body starts, and how many bytes were moved for it.
+#[derive(Drop)]
 pub struct Room {
     pub start: usize,
     pub moved: usize,
@@ -21,6 +22,7 @@ pub struct Room {
 
 // What lies ahead of a byte of the pool: no body starts before `end`; there starts that of slot `mark` - 1, or, where the mark is 0,
 // the cell or the pool ends.
+#[derive(Drop)]
 pub struct Ahead {
     pub end: usize,
     pub mark: usize,

@@ -1,24 +1,20 @@
 // Bodies are moved down, in the order of their starts, until no gap is left below any (02 Ticket 4: "bodies are moved down first, in
 // order"; "vacated bytes become 00"); how many bytes that moved (Ticket 8: PACK and CREATE "report the bytes moved").
-ghost use mathlib.Core.Path.{_≡_};
-ghost use mathlib.Core.Bool.{not};
-ghost use Prim.Native.Nat.{_+_, _<_, _≤_};
-ghost use lib.Dec.{eqb};
-ghost use lib.ListN.{length};
-ghost use Rattle·laws.specs.Walks.{ifSo};
-ghost use Rattle·image.specs.Layout.{Sized};
-ghost use Rattle·pool·specs.specs.Bodies.{startAt, bodyAt};
-ghost use Rattle·pool·specs.specs.Laid.{Laid};
-ghost use Rattle·pool·specs.specs.Index.{Chained};
-ghost use Rattle·pool·specs.specs.Packed.{moveDown, movedBytes, packedImage, packedPool};
-use crate::body;
-use crate::index;
+ghost use Rattle.std.specs.Prelude.{◌≡◌, not, ◌+◌, ◌<◌, ◌≤◌, eqb, length};
+ghost use Rattle.laws.specs.Walks.{if_so};
+ghost use Rattle.image.specs.Layout.{Sized};
+ghost use Rattle.pool.specs.Bodies.{start_at, body_at};
+ghost use Rattle.pool.specs.Laid.{Laid};
+ghost use Rattle.pool.specs.Index.{Chained};
+ghost use Rattle.pool.specs.Packed.{move_down, moved_bytes, packed_image, packed_pool};
+
+use crate::{body, index};
 use image::write;
 
 // Moves `size` bytes down, byte by byte; those that are left become 00.
 fn move_down(pool: &mut [u8], from: usize, to: usize, size: usize)
-    requires { ⌜ (to ≤ from) × (from + size ≤ length (now pool)) ⌝ }
-    ensures { λ _. ⌜ now (pool .exit) ≡ moveDown (now (pool .entry)) from to size ⌝ }
+    requires { (to ≤ from) × (from + size ≤ length pool.old) }
+    ensures { pool.new ≡ move_down pool.old from to size }
 {
     if from == to {
         return;
@@ -34,7 +30,7 @@ fn move_down(pool: &mut [u8], from: usize, to: usize, size: usize)
 
 // How many bytes a body of `size` counts for.
 fn counted(from: usize, to: usize, size: usize) -> usize
-    ensures { λ r. ⌜ (r ≡ ifSo (not (eqb from to)) size) × (r ≤ size) ⌝ }
+    ensures { (result ≡ if_so (not (eqb from to)) size) × (result ≤ size) }
 {
     if from == to {
         return 0;
@@ -44,12 +40,12 @@ fn counted(from: usize, to: usize, size: usize) -> usize
 
 // .. by the index. Bodies that start below p lie below `to` already.
 fn by_index(index: &[u16; 3072], image: &mut [u8], n: usize, pool: &mut [u8]) -> usize
-    requires { ⌜ Sized (now image) n × (length (now pool) < 65536) ⌝ }
-    requires { ⌜ Laid n (startAt (now image)) (bodyAt (now image)) (length (now pool)) ⌝ }
-    requires { ⌜ Chained n (startAt (now image)) (bodyAt (now image)) (now index) ⌝ }
-    ensures { λ r. ⌜ r ≡ movedBytes n (startAt (now (image .entry))) (bodyAt (now (image .entry))) ⌝ }
-    ensures { λ _. ⌜ now (image .exit) ≡ packedImage n (now (image .entry)) ⌝ }
-    ensures { λ _. ⌜ now (pool .exit) ≡ packedPool n (startAt (now (image .entry))) (bodyAt (now (image .entry))) (now (pool .entry)) ⌝ }
+    requires sized { Sized image.old n × (length pool.old < 65536) }
+    requires laid { Laid n (start_at image.old) (body_at image.old) (length pool.old) }
+    requires chained { Chained n (start_at image.old) (body_at image.old) index.now }
+    ensures value { result ≡ moved_bytes n (start_at image.old) (body_at image.old) }
+    ensures image_after { image.new ≡ packed_image n image.old }
+    ensures pool_after { pool.new ≡ packed_pool n (start_at image.old) (body_at image.old) pool.old }
 {
     let len = pool.len();
     let mut moved = 0;
@@ -73,11 +69,11 @@ fn by_index(index: &[u16; 3072], image: &mut [u8], n: usize, pool: &mut [u8]) ->
 
 // Moves all bodies down; gives the number of bytes moved.
 pub fn pack(image: &mut [u8], n: usize, pool: &mut [u8]) -> usize
-    requires { ⌜ Sized (now image) n × (length (now pool) < 65536) ⌝ }
-    requires { ⌜ Laid n (startAt (now image)) (bodyAt (now image)) (length (now pool)) ⌝ }
-    ensures { λ r. ⌜ r ≡ movedBytes n (startAt (now (image .entry))) (bodyAt (now (image .entry))) ⌝ }
-    ensures { λ _. ⌜ now (image .exit) ≡ packedImage n (now (image .entry)) ⌝ }
-    ensures { λ _. ⌜ now (pool .exit) ≡ packedPool n (startAt (now (image .entry))) (bodyAt (now (image .entry))) (now (pool .entry)) ⌝ }
+    requires sized { Sized image.old n × (length pool.old < 65536) }
+    requires laid { Laid n (start_at image.old) (body_at image.old) (length pool.old) }
+    ensures value { result ≡ moved_bytes n (start_at image.old) (body_at image.old) }
+    ensures image_after { image.new ≡ packed_image n image.old }
+    ensures pool_after { pool.new ≡ packed_pool n (start_at image.old) (body_at image.old) pool.old }
 {
     let mut index = [0u16; 3072];
     index::fill(&mut index, image, n);

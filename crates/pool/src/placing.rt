@@ -1,24 +1,20 @@
 // Room for a new body (02 Ticket 4: "A new body is all FF, in the lowest gap that fits. If no gap fits, bodies are moved down first, in
 // order"), and the count of bytes moved for it (Ticket 8).
-ghost use mathlib.Core.Path.{_≡_};
-ghost use Prim.Native.Nat.{_+_, _<_, _≤_};
-ghost use lib.ListN.{length, replicate};
-ghost use Rattle·laws.specs.Lists.{splice};
-ghost use Rattle·laws.specs.Walks.{sumBelow};
-ghost use Rattle·image.specs.Layout.{Sized};
-ghost use Rattle·pool·specs.specs.Bodies.{startAt, bodyAt};
-ghost use Rattle·pool·specs.specs.Laid.{Laid};
-ghost use Rattle·pool·specs.specs.Places.{Made};
-use crate::Room;
-use crate::body;
-use crate::gap;
-use crate::moving;
+ghost use Rattle.std.specs.Prelude.{◌≡◌, ◌+◌, ◌<◌, ◌≤◌, length, replicate};
+ghost use Rattle.laws.specs.Lists.{splice};
+ghost use Rattle.laws.specs.Walks.{sum_below};
+ghost use Rattle.image.specs.Layout.{Sized};
+ghost use Rattle.pool.specs.Bodies.{start_at, body_at};
+ghost use Rattle.pool.specs.Laid.{Laid};
+ghost use Rattle.pool.specs.Places.{Made};
+
+use crate::{Room, body, gap, moving};
 use laws::Found;
 
 // Writes m bytes FF from `at` on.
 fn fill(pool: &mut [u8], at: usize, m: usize)
-    requires { ⌜ at + m ≤ length (now pool) ⌝ }
-    ensures { λ _. ⌜ now (pool .exit) ≡ splice (now (pool .entry)) at (replicate m 255) ⌝ }
+    requires { at + m ≤ length pool.old }
+    ensures { pool.new ≡ splice pool.old at (replicate m 255) }
 {
     let mut j = 0;
     while j < m {
@@ -29,8 +25,8 @@ fn fill(pool: &mut [u8], at: usize, m: usize)
 
 // The sum of the sizes of all bodies.
 pub fn total(image: &[u8], n: usize) -> usize
-    requires { ⌜ Sized (now image) n ⌝ }
-    ensures { λ r. ⌜ r ≡ sumBelow n (bodyAt (now (image .entry))) ⌝ }
+    requires { Sized image.now n }
+    ensures { result ≡ sum_below n (body_at image.now) }
 {
     let mut sum = 0;
     let mut s = 0;
@@ -43,10 +39,10 @@ pub fn total(image: &[u8], n: usize) -> usize
 
 // Makes room for a body of m bytes and writes it, all FF. That it fits is the caller's: the sum of sizes decides.
 pub fn make(image: &mut [u8], n: usize, pool: &mut [u8], m: usize) -> Room
-    requires { ⌜ Sized (now image) n × ((length (now pool) < 65536) × (0 < m)) ⌝ }
-    requires { ⌜ Laid n (startAt (now image)) (bodyAt (now image)) (length (now pool)) ⌝ }
-    requires { ⌜ sumBelow n (bodyAt (now image)) + m ≤ length (now pool) ⌝ }
-    ensures { λ r. ⌜ Made n m (now (image .entry)) (now (pool .entry)) r (now (image .exit)) (now (pool .exit)) ⌝ }
+    requires sized { Sized image.old n × ((length pool.old < 65536) × (0 < m)) }
+    requires laid { Laid n (start_at image.old) (body_at image.old) (length pool.old) }
+    requires m_in_bounds { sum_below n (body_at image.old) + m ≤ length pool.old }
+    ensures { Made n m image.old pool.old result image.new pool.new }
 {
     let len = pool.len();
     let found = gap::lowest_gap(image, n, len, m);

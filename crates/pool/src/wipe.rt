@@ -1,19 +1,18 @@
 // DELETE's part in the pool (02 Ticket 4: "Deleted and vacated bytes become 00"): the body of every slot that is marked is zeroed, and no
 // other byte changes. The image is read as it came: it is to be cleared only after this.
-ghost use mathlib.Core.Path.{_≡_};
-ghost use lib.Dec.{eqb};
-ghost use lib.ListN.{length, getD};
-ghost use Rattle·image.specs.Layout.{Sized, Within};
-ghost use Rattle·pool·specs.specs.Bodies.{startAt, bodyAt};
-ghost use Rattle·pool·specs.specs.Laid.{Laid};
-ghost use Rattle·pool·specs.specs.Wiped.{EndsIn, wipeIf, wiped};
+ghost use Rattle.std.specs.Prelude.{◌≡◌, eqb, length, get_or};
+ghost use Rattle.image.specs.Layout.{Sized, Within};
+ghost use Rattle.pool.specs.Bodies.{start_at, body_at};
+ghost use Rattle.pool.specs.Laid.{Laid};
+ghost use Rattle.pool.specs.Wiped.{EndsIn, wipe_if, wiped};
+
 use crate::body;
 
 // Zeroes the body of slot s, if it goes and has one.
 pub fn wipe_if(image: &[u8], pool: &mut [u8], s: usize, goes: bool)
-    requires { ⌜ Within (now image) s ⌝ }
-    requires { ⌜ EndsIn (startAt (now image)) (bodyAt (now image)) (length (now pool)) s ⌝ }
-    ensures { λ _. ⌜ now (pool .exit) ≡ wipeIf goes (startAt (now (image .entry))) (bodyAt (now (image .entry))) (now (pool .entry)) s ⌝ }
+    requires within { Within image.now s }
+    requires ends_in { EndsIn (start_at image.now) (body_at image.now) (length pool.old) s }
+    ensures { pool.new ≡ wipe_if goes (start_at image.now) (body_at image.now) pool.old s }
 {
     if !goes {
         return;
@@ -27,9 +26,9 @@ pub fn wipe_if(image: &[u8], pool: &mut [u8], s: usize, goes: bool)
 
 // The body of each slot below n that is marked with 1 is zeroed.
 pub fn wipe(image: &[u8], n: usize, pool: &mut [u8], marks: &[u8; 1023])
-    requires { ⌜ Sized (now image) n ⌝ }
-    requires { ⌜ Laid n (startAt (now image)) (bodyAt (now image)) (length (now pool)) ⌝ }
-    ensures { λ _. ⌜ now (pool .exit) ≡ wiped n (λ k. eqb (getD (now (marks .entry)) k 0) 1) (now (image .entry)) (now (pool .entry)) ⌝ }
+    requires sized { Sized image.now n }
+    requires laid { Laid n (start_at image.now) (body_at image.now) (length pool.old) }
+    ensures { pool.new ≡ wiped n (λ k. eqb (get_or marks.now k 0) 1) image.now pool.old }
 {
     let mut s = 0;
     while s < n {

@@ -1,17 +1,17 @@
 -- Where a reader goes, by what stands at its place.
-use mathlib.Core.Path.{_≡_, sym, _∙_, ap}
+use mathlib.Core.Path.{◌≡◌, sym, ◌∙◌, ap}
 use mathlib.Core.List.{List}
 use Prim.Native.Nat.{ℕ}
-use Rattle·template.specs.declared.Object.{Object}
-use Rattle·template.specs.declared.Object.the-variants.{Whole, Broken}
-use Rattle·template.specs.Objects.{objectAt}
-use Rattle·reader·specs.specs.Places.{endOr, placeAfter}
+use Rattle.template.specs.declared.Object.{Object}
+use Rattle.template.specs.declared.Object.TheVariants.{Whole, Broken}
+use Rattle.template.specs.Objects.{object_at}
+use Rattle.reader.specs.Places.{end_or, place_after}
 
-module _ (s : List ℕ) (at : ℕ) (r : Object) (e : r ≡ objectAt s at) where
-  pub after-whole : (tag start end : ℕ) → r ≡ Whole tag start end → end ≡ placeAfter s at
-  unfolding placeAfter
-  after-whole tag start end q = ap (endOr at) (sym q ∙ e)
+module _ (s : List ℕ) (at : ℕ) (r : Object) (e : r ≡ object_at s at) where
+  pub after-whole : (tag start end : ℕ) → r ≡ Whole tag start end → end ≡ place_after s at
+  unfolding place_after
+  after-whole tag start end q = ap (end_or at) (sym q ∙ e)
 
-  pub after-broken : r ≡ Broken → at ≡ placeAfter s at
-  unfolding placeAfter
-  after-broken q = ap (endOr at) (sym q ∙ e)
+  pub after-broken : r ≡ Broken → at ≡ place_after s at
+  unfolding place_after
+  after-broken q = ap (end_or at) (sym q ∙ e)

@@ -1,15 +1,14 @@
 -- Where a reader goes from a place of a template: behind the object that stands there, or nowhere
 -- (01 "CREATE", data).
-use Prim.Native.Nat.{ℕ}
-use mathlib.Core.List.{List}
-use Rattle·template.specs.declared.Object.{Object}
-use Rattle·template.specs.declared.Object.the-variants.{Whole, Broken}
-use Rattle·template.specs.Objects.{objectAt}
+use Rattle.std.specs.Prelude.{ℕ, List}
+use Rattle.template.specs.declared.Object.{Object}
+use Rattle.template.specs.declared.Object.TheVariants.{Whole, Broken}
+use Rattle.template.specs.Objects.{object_at}
 
 -- where an object ends, if it is whole
-abbrev pub endOr : ℕ → Object → ℕ
-endOr at Broken = at
-endOr at (Whole tag start end) = end
+abbrev pub end_or : ℕ → Object → ℕ
+end_or at Broken = at
+end_or at (Whole tag start end) = end
 
-unfoldable pub placeAfter : List ℕ → ℕ → ℕ
-placeAfter s at = endOr at (objectAt s at)
+unfoldable pub place_after : List ℕ → ℕ → ℕ
+place_after s at = end_or at (object_at s at)

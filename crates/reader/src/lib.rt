@@ -4,13 +4,14 @@
 // Thin: each function over the struct takes it apart and calls a function on slice and place, or puts one together.
 // The borrow checker covers none of them, so each is proved by hand; the work stands in functions on a plain slice,
 // which it covers. Callers use `object` and `after`, whose parameters are plain.
-ghost use mathlib.Core.Path.{_≡_};
-ghost use Rattle·template.specs.Objects.{objectAt};
-ghost use Rattle·reader·specs.specs.Places.{placeAfter};
-use template::Object;
-use template::gather;
+ghost use Rattle.std.specs.Prelude.{◌≡◌};
+ghost use Rattle.template.specs.Objects.{object_at};
+ghost use Rattle.reader.specs.Places.{place_after};
+
+use template::{Object, gather};
 
 // A template and a place in it, where the next object stands.
+#[derive(Drop)]
 pub struct Reader<'a> {
     pub template: &'a [u8],
     pub place: usize,
@@ -18,7 +19,7 @@ pub struct Reader<'a> {
 
 // The work: where the object at a place ends; the place itself where no whole object stands there.
 pub fn end_at(s: &[u8], at: usize) -> usize
-    ensures { λ r. ⌜ r ≡ placeAfter (now (s .entry)) at ⌝ }
+    ensures { result ≡ place_after s.now at }
 {
     match gather::object_at(s, at) {
         Object::Whole { end, .. } => end,
@@ -28,28 +29,28 @@ pub fn end_at(s: &[u8], at: usize) -> usize
 
 // A reader of a template that stands at a place.
 pub fn new<'a>(template: &'a [u8], place: usize) -> Reader<'a>
-    ensures { λ r. ⌜ (r .template ≡ template .entry) × (r .place ≡ place) ⌝ }
+    ensures { (result.template ≡ template.entry) × (result.place ≡ place) }
 {
     Reader { template, place }
 }
 
 // Where it stands.
 pub fn place<'a>(r: Reader<'a>) -> usize
-    ensures { λ n. ⌜ n ≡ r .entry .place ⌝ }
+    ensures { result ≡ r.entry.place }
 {
     r.place
 }
 
 // The object where it stands.
 pub fn next<'a>(r: Reader<'a>) -> Object
-    ensures { λ o. ⌜ o ≡ objectAt (now (r .entry .template)) (r .entry .place) ⌝ }
+    ensures { result ≡ object_at r.entry.template.now r.entry.place }
 {
     gather::object_at(r.template, r.place)
 }
 
 // The reader moved on past that object. It stays where no whole object stands.
 pub fn past<'a>(r: Reader<'a>) -> Reader<'a>
-    ensures { λ q. ⌜ (q .template ≡ r .entry .template) × (q .place ≡ placeAfter (now (r .entry .template)) (r .entry .place)) ⌝ }
+    ensures { (result.template ≡ r.entry.template) × (result.place ≡ place_after r.entry.template.now r.entry.place) }
 {
     let end = end_at(r.template, r.place);
     Reader {
@@ -60,14 +61,14 @@ pub fn past<'a>(r: Reader<'a>) -> Reader<'a>
 
 // The object at a place of a template, through the reader.
 pub fn object(s: &[u8], at: usize) -> Object
-    ensures { λ r. ⌜ r ≡ objectAt (now (s .entry)) at ⌝ }
+    ensures { result ≡ object_at s.now at }
 {
     next(new(s, at))
 }
 
 // The place after the object that stands at `from`, through the reader.
 pub fn after(s: &[u8], from: usize) -> usize
-    ensures { λ r. ⌜ r ≡ placeAfter (now (s .entry)) from ⌝ }
+    ensures { result ≡ place_after s.now from }
 {
     place(past(new(s, from)))
 }

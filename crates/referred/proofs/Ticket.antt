@@ -1,42 +1,42 @@
 -- 02 Ticket 7, sentence by sentence (specs/Ticket).
-use mathlib.Core.Path.{_≡_, refl, sym, _∙_, ap}
-use mathlib.Core.Bool.{Bool, true, false, cond, _&&_, and-false, false≢true}
-use mathlib.Core.List.{List, [], _∷_}
-use mathlib.Core.Logic.{⊎-elim}
-use Prim.Native.Nat.{ℕ, zero, suc, _+_, _*_, _-_, _/_, _<_, _≤_}
-use native.Mathlib.Nat.{not-suc-le-zero, le-div-iff-mul-le, div-lt-iff-lt-mul}
+use mathlib.Core.Path.{◌≡◌, refl, sym, ◌∙◌, ap}
+use mathlib.Core.Bool.{Bool, true, false, cond, ◌&&◌, and_false, false≢true}
+use mathlib.Core.List.{List, [], ◌∷◌}
+use mathlib.Core.Logic.{⊎_elim}
+use Prim.Native.Nat.{ℕ, zero, suc, ◌+◌, ◌*◌, ◌-◌, ◌/◌, ◌<◌, ◌≤◌}
+use native.Mathlib.Nat.{not-suc-le-zero, le-div_iff_mul-le, div-lt_iff_lt-mul}
 use native.Mathlib.Omega.{arith}
 use lib.Dec.{eqb, ltb}
-use lib.ListN.{length, getD, take, drop, length-append}
-use lib.Seq.{take-append-seam, take-take, getD-take, getD-drop}
-use borrow.Author.Tests.{eqb-true, eq-eqb, ne-eqb, lt-leb, le-leb, lt-ltb, le-ltb}
-use Rattle·laws.specs.declared.Found.{Found}
-use Rattle·laws.specs.declared.Found.the-variants.{At, Nothing}
-use Rattle·laws.specs.Lists.{part}
-use Rattle·laws.specs.Walks.{firstBelow, orElse}
-use Rattle·laws.proofs.Firsts.{first-is}
-use Rattle·laws.proofs.Says.{and-says, all-says}
-use Rattle·laws.proofs.Walks.{split-lt, all-each}
-use Rattle·numbers.specs.Numbers.{u16At}
-use Rattle·rules.specs.Descriptor.{structureOf, ef}
-use Rattle·image.specs.Layout.{Within, base, recAt, kindOf, descriptorOf, formOf, ruleOf, recordLengthOf, sizeOf, fieldAt}
-use Rattle·image.proofs.Places.{byte-in, field-in}
-use Rattle·expanded.specs.Expanded.{expandedFormed}
-use Rattle·access.specs.Access.{referred}
-use Rattle·pool.specs.Records.{hasRecord}
-use Rattle·sound.specs.Table.{View, viewAt, up}
-use Rattle·sound.specs.Kinship.{childNamed}
-use Rattle·referred·specs.specs.declared.Place.the-variants.{Nowhere, InPool}
-use Rattle·referred·specs.specs.Padding.{isFF, isPadding, endsAt, orZero, unpaddedEnd, Padded}
-use Rattle·referred·specs.specs.Nearest.{firstFound, nearestOf, fileUp}
-use Rattle·referred·specs.specs.Deciding.{namedFileOf, namedRecordOf, isLinear, recordStart, rowAt, inPool, heldPlace}
-use Rattle·referred·specs.specs.Deciding.{referredPlace, ownPlace, placeOf, partOf, decidingRule}
-use Rattle·referred·specs.specs.Ticket as ticket
-use Rattle·referred·specs.specs.Ticket.{NearestAt, Names}
-use Rattle·referred·proofs.proofs.Unpadded as padding
-use Rattle·referred·proofs.proofs.Unpadded.{end-is, ends-padded, none-formed}
-use Rattle·referred·proofs.proofs.Places.{take-short}
-use Rattle·referred·proofs.proofs.Climbing.{found-at}
+use lib.ListN.{length, get_or, take, drop, length-append}
+use lib.Seq.{take-append_seam, take-take, get_or-take, get_or-drop}
+use borrow.Author.Tests.{eqb-true, eq-eqb, ne_eqb, lt-leb, le-leb, lt-ltb, le-ltb}
+use Rattle.laws.specs.declared.Found.{Found}
+use Rattle.laws.specs.declared.Found.TheVariants.{At, Nothing}
+use Rattle.laws.specs.Lists.{part}
+use Rattle.laws.specs.Walks.{first_below, or_else}
+use Rattle.laws.proofs.Firsts.{first_is}
+use Rattle.laws.proofs.Says.{and-says, all-says}
+use Rattle.laws.proofs.Walks.{split_lt, all_each}
+use Rattle.numbers.specs.Numbers.{u16_at}
+use Rattle.rules.specs.Descriptor.{structure_of, ef}
+use Rattle.image.specs.Layout.{Within, base, rec_at, kind_of, descriptor_of, form_of, rule_of, record_length_of, size_of, field_at}
+use Rattle.image.proofs.Places.{byte_in, field_in}
+use Rattle.expanded.specs.Expanded.{expanded_formed}
+use Rattle.access.specs.Access.{referred}
+use Rattle.pool.specs.Records.{has_record}
+use Rattle.sound.specs.Table.{View, view_at, up}
+use Rattle.sound.specs.Kinship.{child_named}
+use Rattle.referred.specs.declared.Place.TheVariants.{Nowhere, InPool}
+use Rattle.referred.specs.Padding.{is_ff, is_padding, ends_at, or_zero, unpadded_end, Padded}
+use Rattle.referred.specs.Nearest.{first_found, nearest_of, file_up}
+use Rattle.referred.specs.Deciding.{named_file_of, named_record_of, is_linear, record_start, row_at, in_pool, held_place}
+use Rattle.referred.specs.Deciding.{referred_place, own_place, place_of, part_of, deciding_rule}
+use Rattle.referred.specs.Ticket as ticket
+use Rattle.referred.specs.Ticket.{NearestAt, Names}
+use Rattle.referred.proofs.Unpadded as padding
+use Rattle.referred.proofs.Unpadded.{end_is, ends_padded, none-formed}
+use Rattle.referred.proofs.Places.{take_short}
+use Rattle.referred.proofs.Climbing.{found_at}
 
 -- what the first answer says
 record FoundAt (f : ℕ → Found) (n t : ℕ) : Type 0 where
@@ -45,85 +45,85 @@ record FoundAt (f : ℕ → Found) (n t : ℕ) : Type 0 where
   here : f at ≡ At t
   before : (k : ℕ) → k < at → f k ≡ Nothing
 
-none-found : (f : ℕ → Found) (n : ℕ) → firstFound n f ≡ Nothing → (k : ℕ) → k < n → f k ≡ Nothing
-unfolding firstFound
-none-found f zero e k l = absurd (not-suc-le-zero l)
-none-found f (suc n) e k l =
-    ⊎-elim (λ q. rw q (here (firstFound n f) (f n) e)) (λ m. none-found f n (lower (firstFound n f) (f n) e) k m) (split-lt l)
+none_found : (f : ℕ → Found) (n : ℕ) → first_found n f ≡ Nothing → (k : ℕ) → k < n → f k ≡ Nothing
+unfolding first_found
+none_found f zero e k l = absurd (not-suc-le-zero l)
+none_found f (suc n) e k l =
+    ⊎_elim (λ q. rw q (here (first_found n f) (f n) e)) (λ m. none_found f n (lower (first_found n f) (f n) e) k m) (split_lt l)
   where
-    here : (a b : Found) → orElse a b ≡ Nothing → b ≡ Nothing
-    here (At i) b e′ = cc
-    here Nothing b e′ = e′
+    here : (a b : Found) → or_else a b ≡ Nothing → b ≡ Nothing
+    here (At i) b e' = cc
+    here Nothing b e' = e'
 
-    lower : (a b : Found) → orElse a b ≡ Nothing → a ≡ Nothing
-    lower (At i) b e′ = e′
-    lower Nothing b e′ = refl
+    lower : (a b : Found) → or_else a b ≡ Nothing → a ≡ Nothing
+    lower (At i) b e' = e'
+    lower Nothing b e' = refl
 
-none-before : (f : ℕ → Found) (n : ℕ) → ((k : ℕ) → k < n → f k ≡ Nothing) → firstFound n f ≡ Nothing
-unfolding firstFound
-none-before f zero h = refl
-none-before f (suc n) h = rw (none-before f n (λ k l. h k (omega arith)), h n (omega arith))
+none_before : (f : ℕ → Found) (n : ℕ) → ((k : ℕ) → k < n → f k ≡ Nothing) → first_found n f ≡ Nothing
+unfolding first_found
+none_before f zero h = refl
+none_before f (suc n) h = rw (none_before f n (λ k l. h k (omega arith)), h n (omega arith))
 
-found-says : (f : ℕ → Found) (n t : ℕ) → firstFound n f ≡ At t → FoundAt f n t
-unfolding firstFound
-found-says f zero t e = let z : _≡_ {A = ℕ} 0 1 = cc in absurd (omega arith)
-found-says f (suc n) t e = go (firstFound n f) refl e (found-says f n t)
+found-says : (f : ℕ → Found) (n t : ℕ) → first_found n f ≡ At t → FoundAt f n t
+unfolding first_found
+found-says f zero t e = let z : ◌≡◌ {A = ℕ} 0 1 = cc in absurd (omega arith)
+found-says f (suc n) t e = go (first_found n f) refl e (found-says f n t)
   where
-    go : (a : Found) → firstFound n f ≡ a → orElse a (f n) ≡ At t → (firstFound n f ≡ At t → FoundAt f n t) → FoundAt f (suc n) t
+    go : (a : Found) → first_found n f ≡ a → or_else a (f n) ≡ At t → (first_found n f ≡ At t → FoundAt f n t) → FoundAt f (suc n) t
     go (At j) q r rec =
         let g = rec (q ∙ r) in
-        record { at = g .at; low = omega (arith, g .low); here = g .here; before = g .before }
-    go Nothing q r rec = record { at = n; low = omega arith; here = r; before = none-found f n q }
+        record { at = g.at; low = omega (arith, g.low); here = g.here; before = g.before }
+    go Nothing q r rec = record { at = n; low = omega arith; here = r; before = none_found f n q }
 
 -- the file is looked for in the directory, then in each directory above; the nearest counts
 module _ (n : ℕ) (v : ℕ → View) (d x : ℕ) where
-  nearest-is : (t : ℕ) → nearestOf n v d x ≡ At t → NearestAt n v d x t
-  unfolding nearestOf fileUp
-  nearest-is t e =
-      let g = found-says (λ k. childNamed n v (up v k d) x) (suc (v d .level)) t e in
-      record { steps = g .at; above = omega (arith, g .low); here = g .here; nearest = g .before }
+  nearest_is : (t : ℕ) → nearest_of n v d x ≡ At t → NearestAt n v d x t
+  unfolding nearest_of file_up
+  nearest_is t e =
+      let g = found-says (λ k. child_named n v (up v k d) x) (suc (v d).level) t e in
+      record { steps = g.at; above = omega (arith, g.low); here = g.here; nearest = g.before }
 
-  is-nearest : (t : ℕ) → NearestAt n v d x t → nearestOf n v d x ≡ At t
-  unfolding nearestOf fileUp
-  is-nearest t g =
-      found-at (λ k. childNamed n v (up v k d) x) (suc (v d .level)) (g .steps) t (omega (arith, g .above))
-      (none-before (λ k. childNamed n v (up v k d) x) (g .steps) (g .nearest)) (g .here)
+  is_nearest : (t : ℕ) → NearestAt n v d x t → nearest_of n v d x ≡ At t
+  unfolding nearest_of file_up
+  is_nearest t g =
+      found_at (λ k. child_named n v (up v k d) x) (suc (v d).level) g.steps t (omega (arith, g.above))
+      (none_before (λ k. child_named n v (up v k d) x) g.steps g.nearest) g.here
 
-  none-near : nearestOf n v d x ≡ Nothing → (k : ℕ) → k ≤ v d .level → childNamed n v (up v k d) x ≡ Nothing
-  unfolding nearestOf fileUp
-  none-near e k h = none-found (λ j. childNamed n v (up v j d) x) (suc (v d .level)) e k (omega (arith, h))
+  none_near : nearest_of n v d x ≡ Nothing → (k : ℕ) → k ≤ (v d).level → child_named n v (up v k d) x ≡ Nothing
+  unfolding nearest_of file_up
+  none_near e k h = none_found (λ j. child_named n v (up v j d) x) (suc (v d).level) e k (omega (arith, h))
 
-  near-none : ((k : ℕ) → k ≤ v d .level → childNamed n v (up v k d) x ≡ Nothing) → nearestOf n v d x ≡ Nothing
-  unfolding nearestOf fileUp
-  near-none f = none-before (λ k. childNamed n v (up v k d) x) (suc (v d .level)) (λ k l. f k (omega (arith, l)))
+  near_none : ((k : ℕ) → k ≤ (v d).level → child_named n v (up v k d) x ≡ Nothing) → nearest_of n v d x ≡ Nothing
+  unfolding nearest_of file_up
+  near_none f = none_before (λ k. child_named n v (up v k d) x) (suc (v d).level) (λ k l. f k (omega (arith, l)))
 
 pub nearest-counts : ticket.NearestCounts
-nearest-counts n v d x = ((λ t. (nearest-is n v d x t, is-nearest n v d x t)), (none-near n v d x, near-none n v d x))
+nearest-counts n v d x = ((λ t. (nearest_is n v d x t, is_nearest n v d x t)), (none_near n v d x, near_none n v d x))
 
 -- a compact or an expanded rule stands in the record itself
 pub own-rule : ticket.OwnRule
-unfolding placeOf decidingRule ownPlace ruleOf part
+unfolding place_of deciding_rule own_place rule_of part
 own-rule n img pool s z =
-    let off : eqb (formOf (recAt img s)) referred ≡ false = ne-eqb (formOf (recAt img s)) referred z in
+    let off : eqb (form_of (rec_at img s)) referred ≡ false = ne_eqb (form_of (rec_at img s)) referred z in
     (rw off, λ w short. rw off (own w short))
   where
-    own : Within img s → getD (recAt img s) 33 0 ≤ 30
-        → take (base s + 34 + getD (recAt img s) 33 0 - (base s + 34)) (drop (base s + 34) img) ≡ fieldAt (recAt img s) 33
-    own w short = field-in img s 33 w (omega arith) short (getD (recAt img s) 33 0) (byte-in img s 33 (omega arith))
+    own : Within img s → get_or (rec_at img s) 33 0 ≤ 30
+        → take (base s + 34 + get_or (rec_at img s) 33 0 - (base s + 34)) (drop (base s + 34) img) ≡ field_at (rec_at img s) 33
+    own w short = field_in img s 33 w (omega arith) short (get_or (rec_at img s) 33 0) (byte_in img s 33 (omega arith))
 
-none-placed : (n : ℕ) (img pool : List ℕ) (s : ℕ) → formOf (recAt img s) ≡ referred
-    → nearestOf n (viewAt img) (viewAt img s .parent) (namedFileOf (recAt img s)) ≡ Nothing → placeOf n img pool s ≡ Nowhere
-unfolding placeOf referredPlace
-none-placed n img pool s e f = rw (eq-eqb (formOf (recAt img s)) referred e, f)
+none-placed : (n : ℕ) (img pool : List ℕ) (s : ℕ) → form_of (rec_at img s) ≡ referred
+    → nearest_of n (view_at img) (view_at img s).parent (named_file_of (rec_at img s)) ≡ Nothing → place_of n img pool s ≡ Nowhere
+unfolding place_of referred_place
+none-placed n img pool s e f = rw (eq-eqb (form_of (rec_at img s)) referred e, f)
 
 -- a record without a rule: nowhere does one end
-no-end : (s : List ℕ) → ((r : List ℕ) → Padded s r → ⊥) → unpaddedEnd s ≡ 0
-unfolding unpaddedEnd
-no-end s f = go (firstBelow (suc (length s)) (endsAt s)) refl
+no_end : (s : List ℕ) → ((r : List ℕ) → Padded s r → ⊥) → unpadded_end s ≡ 0
+unfolding unpadded_end
+no_end s f = go (first_below (suc (length s)) (ends_at s)) refl
   where
-    go : (g : Found) → firstBelow (suc (length s)) (endsAt s) ≡ g → orZero g ≡ 0
+    go : (g : Found) → first_below (suc (length s)) (ends_at s) ≡ g → or_zero g ≡ 0
     go Nothing q = refl
-    go (At j) q = absurd (f (take j s) (ends-padded s j (first-is (suc (length s)) (endsAt s) j q .here)))
+    go (At j) q = absurd (f (take j s) (ends_padded s j (first_is (suc (length s)) (ends_at s) j q).here))
 
 empty : (r : List ℕ) → length r ≡ 0 → r ≡ []
 empty [] e = refl
@@ -132,131 +132,135 @@ empty (x ∷ r) e = absurd (omega (arith, e))
 -- the file that is named is in slot t
 module _ (n : ℕ) (img pool : List ℕ) (s t : ℕ) (names : Names n img s t) where
   abbrev k : ℕ
-  k = namedRecordOf (recAt img s)
+  k = named_record_of (rec_at img s)
 
-  pub taken : placeOf n img pool s ≡ cond (eqb t s) Nowhere (heldPlace img pool t k)
-  unfolding placeOf referredPlace
-  taken = rw (eq-eqb (formOf (recAt img s)) referred (names .form),
-      is-nearest n (viewAt img) (viewAt img s .parent) (namedFileOf (recAt img s)) t (names .found))
+  pub taken : place_of n img pool s ≡ cond (eqb t s) Nowhere (held_place img pool t k)
+  unfolding place_of referred_place
+  taken = rw (
+    eq-eqb (form_of (rec_at img s)) referred names.form,
+    is_nearest n (view_at img) (view_at img s).parent (named_file_of (rec_at img s)) t names.found,
+  )
 
-  held : heldPlace img pool t k ≡ Nowhere → placeOf n img pool s ≡ Nowhere
+  held : held_place img pool t k ≡ Nowhere → place_of n img pool s ≡ Nowhere
   held e = taken ∙ go (eqb t s)
     where
-      go : (b : Bool) → cond b Nowhere (heldPlace img pool t k) ≡ Nowhere
+      go : (b : Bool) → cond b Nowhere (held_place img pool t k) ≡ Nowhere
       go true = refl
       go false = e
 
-  number-off : hasRecord img t k ≡ false → heldPlace img pool t k ≡ Nowhere
-  unfolding heldPlace
-  number-off e = rw (e, and-false (isLinear (recAt img t)))
+  number_off : has_record img t k ≡ false → held_place img pool t k ≡ Nowhere
+  unfolding held_place
+  number_off e = rw (e, and_false (is_linear (rec_at img t)))
 
   -- no other file than a linear fixed EF
-  other-off : isLinear (recAt img t) ≡ false → heldPlace img pool t k ≡ Nowhere
-  unfolding heldPlace
-  other-off e = rw e
+  other_off : is_linear (rec_at img t) ≡ false → held_place img pool t k ≡ Nowhere
+  unfolding held_place
+  other_off e = rw e
 
-  zeroth-off : k ≡ 0 → hasRecord img t k ≡ false
-  unfolding hasRecord
-  zeroth-off e = rw (le-ltb 0 k (omega (arith, e)))
+  zeroth_off : k ≡ 0 → has_record img t k ≡ false
+  unfolding has_record
+  zeroth_off e = rw (le-ltb 0 k (omega (arith, e)))
 
-  module _ (long : 0 < recordLengthOf (recAt img t)) where
-    past-off : sizeOf (recAt img t) / recordLengthOf (recAt img t) < k → hasRecord img t k ≡ false
-    unfolding hasRecord
-    past-off h =
-        rw (lt-leb (k * recordLengthOf (recAt img t)) (sizeOf (recAt img t)) (div-lt-iff-lt-mul long .0 h), and-false (ltb 0 k))
+  module _ (long : 0 < record_length_of (rec_at img t)) where
+    past_off : size_of (rec_at img t) / record_length_of (rec_at img t) < k → has_record img t k ≡ false
+    unfolding has_record
+    past_off h =
+        rw (lt-leb (k * record_length_of (rec_at img t)) (size_of (rec_at img t)) ((div-lt_iff_lt-mul long).0 h), and_false (ltb 0 k))
 
-    there-on : 1 ≤ k → k ≤ sizeOf (recAt img t) / recordLengthOf (recAt img t) → hasRecord img t k ≡ true
-    unfolding hasRecord
+    there-on : 1 ≤ k → k ≤ size_of (rec_at img t) / record_length_of (rec_at img t) → has_record img t k ≡ true
+    unfolding has_record
     there-on a b =
-        rw (lt-ltb 0 k a, le-leb (k * recordLengthOf (recAt img t)) (sizeOf (recAt img t)) (le-div-iff-mul-le long .0 b))
+        rw (lt-ltb 0 k a, le-leb (k * record_length_of (rec_at img t)) (size_of (rec_at img t)) ((le-div_iff_mul-le long).0 b))
 
   -- no rule and padding
-  malformed-off : ((r : List ℕ) → Padded (rowAt img pool t k) r → ⊥) → heldPlace img pool t k ≡ Nowhere
-  unfolding heldPlace
-  malformed-off f = go (isLinear (recAt img t) && hasRecord img t k)
+  malformed_off : ((r : List ℕ) → Padded (row_at img pool t k) r → ⊥) → held_place img pool t k ≡ Nowhere
+  unfolding held_place
+  malformed_off f = go (is_linear (rec_at img t) && has_record img t k)
     where
-      end : unpaddedEnd (rowAt img pool t k) ≡ 0
-      end = no-end (rowAt img pool t k) f
+      end : unpadded_end (row_at img pool t k) ≡ 0
+      end = no_end (row_at img pool t k) f
 
-      go : (b : Bool) → cond b (inPool (recordStart img t k) (unpaddedEnd (rowAt img pool t k))) Nowhere ≡ Nowhere
-      go true = rw (eq-eqb (unpaddedEnd (rowAt img pool t k)) 0 end)
+      go : (b : Bool) → cond b (in_pool (record_start img t k) (unpadded_end (row_at img pool t k))) Nowhere ≡ Nowhere
+      go true = rw (eq-eqb (unpadded_end (row_at img pool t k)) 0 end)
       go false = refl
 
   -- a rule and padding
-  module _ (r : List ℕ) (other : t ≡ s → ⊥) (linear : isLinear (recAt img t) ≡ true) (has : hasRecord img t k ≡ true)
-      (p : Padded (rowAt img pool t k) r) where
-    ends : unpaddedEnd (rowAt img pool t k) ≡ length r
-    ends = ap unpaddedEnd (p .whole) ∙ end-is r (p .padding) (p .formed) (p .only)
+  module _ (r : List ℕ) (other : t ≡ s → ⊥) (linear : is_linear (rec_at img t) ≡ true) (has : has_record img t k ≡ true)
+      (p : Padded (row_at img pool t k) r) where
+    ends : unpadded_end (row_at img pool t k) ≡ length r
+    ends = ap unpadded_end p.whole ∙ end_is r p.padding p.formed p.only
 
     some : length r ≡ 0 → ⊥
-    some e = false≢true (sym none-formed ∙ ap expandedFormed (sym (empty r e)) ∙ p .formed)
+    some e = false≢true (sym none-formed ∙ ap expanded_formed (sym (empty r e)) ∙ p.formed)
 
-    placed : placeOf n img pool s ≡ InPool (recordStart img t k) (recordStart img t k + length r)
-    unfolding heldPlace
-    placed = taken ∙ rw (ne-eqb t s other, linear, has, ends, ne-eqb (length r) 0 some)
+    placed : place_of n img pool s ≡ InPool (record_start img t k) (record_start img t k + length r)
+    unfolding held_place
+    placed = taken ∙ rw (ne_eqb t s other, linear, has, ends, ne_eqb (length r) 0 some)
 
     -- the part of the pool is the beginning of the record
-    rules : decidingRule n img pool s ≡ r
-    unfolding decidingRule rowAt part
+    rules : deciding_rule n img pool s ≡ r
+    unfolding deciding_rule row_at part
     rules =
-        let e : recordStart img t k + length r - recordStart img t k ≡ length r = omega arith in
-        ap (partOf img pool) placed ∙ ap (λ (j : ℕ). take j (drop (recordStart img t k) pool)) e ∙ sym start
+        let e : record_start img t k + length r - record_start img t k ≡ length r = omega arith in
+        ap (part_of img pool) placed ∙ ap (λ (j : ℕ). take j (drop (record_start img t k) pool)) e ∙ sym start
       where
         row : List ℕ
-        row = take (recordLengthOf (recAt img t)) (drop (recordStart img t k) pool)
+        row = take (record_length_of (rec_at img t)) (drop (record_start img t k) pool)
 
-        short : length r ≤ recordLengthOf (recAt img t)
-        short = omega (arith, ap length (p .whole), length-append r (p .padding), take-short (recordLengthOf (recAt img t)) (drop (recordStart img t k) pool) .0)
+        short : length r ≤ record_length_of (rec_at img t)
+        short = omega (arith, ap length p.whole, length-append r p.padding, (take_short (record_length_of (rec_at img t)) (drop (record_start img t k) pool)).0)
 
-        start : r ≡ take (length r) (drop (recordStart img t k) pool)
+        start : r ≡ take (length r) (drop (record_start img t k) pool)
         start =
-            sym (take-append-seam r (p .padding)) ∙ ap (take (length r)) (sym (p .whole))
-            ∙ take-take (length r) (recordLengthOf (recAt img t)) (drop (recordStart img t k) pool) short
+            sym (take-append_seam r p.padding) ∙ ap (take (length r)) (sym p.whole)
+            ∙ take-take (length r) (record_length_of (rec_at img t)) (drop (record_start img t k) pool) short
 
 pub denials : ticket.Denials
 denials = record {
-  missing = λ n img pool s e f. none-placed n img pool s e (near-none n (viewAt img) (viewAt img s .parent) (namedFileOf (recAt img s)) f);
+  missing = λ n img pool s e f. none-placed n img pool s e (near_none n (view_at img) (view_at img s).parent (named_file_of (rec_at img s)) f);
   itself = λ n img pool s h. taken n img pool s s h ∙ rw (eq-eqb s s refl);
-  other = λ n img pool s t h e. held n img pool s t h (other-off n img pool s t h e);
-  zeroth = λ n img pool s t h e. held n img pool s t h (number-off n img pool s t h (zeroth-off n img pool s t h e));
-  past = λ n img pool s t h l e. held n img pool s t h (number-off n img pool s t h (past-off n img pool s t h l e));
-  malformed = λ n img pool s t h f. held n img pool s t h (malformed-off n img pool s t h f);
+  other = λ n img pool s t h e. held n img pool s t h (other_off n img pool s t h e);
+  zeroth = λ n img pool s t h e. held n img pool s t h (number_off n img pool s t h (zeroth_off n img pool s t h e));
+  past = λ n img pool s t h l e. held n img pool s t h (number_off n img pool s t h (past_off n img pool s t h l e));
+  malformed = λ n img pool s t h f. held n img pool s t h (malformed_off n img pool s t h f);
 }
 
 pub denied-empty : ticket.DeniedEmpty
-unfolding decidingRule
-denied-empty n img pool s e = ap (partOf img pool) e
+unfolding deciding_rule
+denied-empty n img pool s e = ap (part_of img pool) e
 
 pub decides : ticket.Decides
 decides n img pool s t r names other linear long first last p =
     let has = there-on n img pool s t names long first last in
     (placed n img pool s t names r other linear has p, rules n img pool s t names r other linear has p)
 
-pub reference-read : ticket.ReferenceRead
-unfolding namedFileOf namedRecordOf ruleOf fieldAt part u16At
-reference-read r a b k e = (rw (byte 0 (omega (arith, long)), byte 1 (omega (arith, long)), e), rw (byte 2 (omega (arith, long)), e))
+pub reference_read : ticket.ReferenceRead
+unfolding named_file_of named_record_of rule_of field_at part u16_at
+reference_read r a b k e = (rw (byte 0 (omega (arith, long)), byte 1 (omega (arith, long)), e), rw (byte 2 (omega (arith, long)), e))
   where
     z : ℕ
-    z = getD r 33 0
+    z = get_or r 33 0
 
     long : 3 ≤ z
-    long = omega (arith, ap length e, take-short z (drop 34 r) .0)
+    long = omega (arith, ap length e, (take_short z (drop 34 r)).0)
 
-    byte : (i : ℕ) → i < 3 → getD r (34 + i) 0 ≡ getD (take z (drop 34 r)) i 0
-    byte i h = sym (getD-drop 34 r i 0) ∙ sym (getD-take z (drop 34 r) i 0 (omega (arith, h, long)))
+    byte : (i : ℕ) → i < 3 → get_or r (34 + i) 0 ≡ get_or (take z (drop 34 r)) i 0
+    byte i h = sym (get_or-drop 34 r i 0) ∙ sym (get_or-take z (drop 34 r) i 0 (omega (arith, h, long)))
 
-pub linear-fixed : ticket.LinearFixed
-unfolding isLinear
-linear-fixed r = (
-    (λ e. let two = and-says (eqb (kindOf r) ef) (eqb (structureOf (descriptorOf r)) 0b010) .0 e in
-    (eqb-true (kindOf r) ef (two .0), eqb-true (structureOf (descriptorOf r)) 0b010 (two .1))),
-    (λ h. rw (eq-eqb (kindOf r) ef (h .0), eq-eqb (structureOf (descriptorOf r)) 0b010 (h .1))))
+pub linear_fixed : ticket.LinearFixed
+unfolding is_linear
+linear_fixed r = (
+  (λ e. let two = (and-says (eqb (kind_of r) ef) (eqb (structure_of (descriptor_of r)) 0b010)).0 e in
+      (eqb-true (kind_of r) ef two.0, eqb-true (structure_of (descriptor_of r)) 0b010 two.1)),
+  (λ h. rw (eq-eqb (kind_of r) ef h.0, eq-eqb (structure_of (descriptor_of r)) 0b010 h.1)),
+)
 
 pub padding-FF : ticket.PaddingFF
-unfolding isPadding isFF
+unfolding is_padding is_ff
 padding-FF s = (
-    (λ e i h. eqb-true (getD s i 0) 0xFF (all-each (λ j. eqb (getD s j 0) 0xFF) (length s) i h e)),
-    (λ f. all-says (length s) (λ j. eqb (getD s j 0) 0xFF) .1 (λ i h. eq-eqb (getD s i 0) 0xFF (f i h))))
+  (λ e i h. eqb-true (get_or s i 0) 0xFF (all_each (λ j. eqb (get_or s j 0) 0xFF) (length s) i h e)),
+  (λ f. (all-says (length s) (λ j. eqb (get_or s j 0) 0xFF)).1 (λ i h. eq-eqb (get_or s i 0) 0xFF (f i h))),
+)
 
 pub one-rule : ticket.OneRule
 one-rule s r q a b = padding.one-rule s r q a b

@@ -1,28 +1,25 @@
 -- Both sides of each line of 02 Ticket 7, computed: where the rule of a padded record ends, and where the rule that decides stands on cards
 -- of five slots. Proved in proofs/Lines, `ends-told`, `places-told`.
-use Prim.Native.Nat.{ℕ, _/_, _%_}
-use mathlib.Core.Path.{_≡_}
-use mathlib.Core.List.{List, [], _∷_, _++_}
-use lib.ListN.{replicate}
-use Rattle·access.specs.Access.{compact, referred}
-use Rattle·referred·specs.specs.declared.Place.{Place}
-use Rattle·referred·specs.specs.declared.Place.the-variants.{Nowhere, InImage, InPool}
-use Rattle·referred·specs.specs.Padding.{unpaddedEnd}
-use Rattle·referred·specs.specs.Deciding.{placeOf, decidingRule}
-use Rattle·referred·specs.specs.Ticket.{Names}
+use Rattle.std.specs.Prelude.{ℕ, ◌/◌, ◌%◌, ◌≡◌, List, [], ◌∷◌, ◌++◌, replicate}
+use Rattle.access.specs.Access.{compact, referred}
+use Rattle.referred.specs.declared.Place.{Place}
+use Rattle.referred.specs.declared.Place.TheVariants.{Nowhere, InImage, InPool}
+use Rattle.referred.specs.Padding.{unpadded_end}
+use Rattle.referred.specs.Deciding.{place_of, deciding_rule}
+use Rattle.referred.specs.Ticket.{Names}
 
 -- an SC byte FF and padding; the same without; two conditions; FF only; a rule cut by padding; something after padding; no byte; 00 as
 -- padding
 abbrev pub EndsTold : Type 0
 EndsTold =
-    (unpaddedEnd (0x80 ∷ 0x01 ∷ 0x08 ∷ 0x9E ∷ 0x01 ∷ 0xFF ∷ 0xFF ∷ 0xFF ∷ [])
-    ∷ unpaddedEnd (0x80 ∷ 0x01 ∷ 0x08 ∷ 0x9E ∷ 0x01 ∷ 0xFF ∷ [])
-    ∷ unpaddedEnd (0x80 ∷ 0x01 ∷ 0x40 ∷ 0x90 ∷ 0x00 ∷ 0x97 ∷ 0x00 ∷ 0xFF ∷ [])
-    ∷ unpaddedEnd (0xFF ∷ 0xFF ∷ 0xFF ∷ [])
-    ∷ unpaddedEnd (0x80 ∷ 0x01 ∷ 0x7F ∷ 0x9E ∷ 0xFF ∷ 0xFF ∷ [])
-    ∷ unpaddedEnd (0x80 ∷ 0x01 ∷ 0x7F ∷ 0x90 ∷ 0x00 ∷ 0xFF ∷ 0x90 ∷ 0x00 ∷ [])
-    ∷ unpaddedEnd []
-    ∷ unpaddedEnd (0x80 ∷ 0x01 ∷ 0x7F ∷ 0x90 ∷ 0x00 ∷ 0x00 ∷ [])
+    (unpadded_end (0x80 ∷ 0x01 ∷ 0x08 ∷ 0x9E ∷ 0x01 ∷ 0xFF ∷ 0xFF ∷ 0xFF ∷ [])
+    ∷ unpadded_end (0x80 ∷ 0x01 ∷ 0x08 ∷ 0x9E ∷ 0x01 ∷ 0xFF ∷ [])
+    ∷ unpadded_end (0x80 ∷ 0x01 ∷ 0x40 ∷ 0x90 ∷ 0x00 ∷ 0x97 ∷ 0x00 ∷ 0xFF ∷ [])
+    ∷ unpadded_end (0xFF ∷ 0xFF ∷ 0xFF ∷ [])
+    ∷ unpadded_end (0x80 ∷ 0x01 ∷ 0x7F ∷ 0x9E ∷ 0xFF ∷ 0xFF ∷ [])
+    ∷ unpadded_end (0x80 ∷ 0x01 ∷ 0x7F ∷ 0x90 ∷ 0x00 ∷ 0xFF ∷ 0x90 ∷ 0x00 ∷ [])
+    ∷ unpadded_end []
+    ∷ unpadded_end (0x80 ∷ 0x01 ∷ 0x7F ∷ 0x90 ∷ 0x00 ∷ 0x00 ∷ [])
     ∷ [])
     ≡ 6 ∷ 6 ∷ 7 ∷ 0 ∷ 0 ∷ 0 ∷ 0 ∷ 0 ∷ []
 
@@ -40,11 +37,11 @@ file kind descriptor life form id parent level each size k start =
 
 -- 6F06 in the root, of two records of 8 bytes from byte 4 of the pool on, by its descriptor and its life cycle; and 6F06 in 7F10, of one of
 -- 5 bytes from byte 20 on, without padding, by its kind and descriptor
-abbrev pub rulesAs : ℕ → ℕ → ℕ → List ℕ
-rulesAs descriptor life k = file 2 descriptor life referred 0x6F06 0 1 8 16 k 4
+abbrev pub rules_as : ℕ → ℕ → ℕ → List ℕ
+rules_as descriptor life k = file 2 descriptor life referred 0x6F06 0 1 8 16 k 4
 
-abbrev pub nearerAs : ℕ → ℕ → List ℕ
-nearerAs kind descriptor = file kind descriptor 0x05 compact 0x6F06 1 2 5 5 1 20
+abbrev pub nearer_as : ℕ → ℕ → List ℕ
+nearer_as kind descriptor = file kind descriptor 0x05 compact 0x6F06 1 2 5 5 1 20
 
 abbrev pub nothing : List ℕ
 nothing = replicate 64 0
@@ -66,42 +63,42 @@ pool =
     ++ (0x80 ∷ 0x01 ∷ 0x01 ∷ 0x97 ∷ 0x00 ∷ [])
 
 abbrev pub on : ℕ → List ℕ → ℕ → Place
-on s fourth k = placeOf 5 (card (rulesAs 0x02 0x05 k) fourth k) pool s
+on s fourth k = place_of 5 (card (rules_as 0x02 0x05 k) fourth k) pool s
 
 -- on the EF: records 1 and 2, 0 and 3; nearer a linear fixed file, its record 1 and 2; nearer a transparent, a cyclic one and a DF
 abbrev pub OfTheEf : Type 0
 OfTheEf =
     (on 3 nothing 1 ∷ on 3 nothing 2 ∷ on 3 nothing 0 ∷ on 3 nothing 3
-    ∷ on 3 (nearerAs 2 0x02) 1 ∷ on 3 (nearerAs 2 0x02) 2
-    ∷ on 3 (nearerAs 2 0x01) 1 ∷ on 3 (nearerAs 2 0x06) 1 ∷ on 3 (nearerAs 1 0x38) 1
+    ∷ on 3 (nearer_as 2 0x02) 1 ∷ on 3 (nearer_as 2 0x02) 2
+    ∷ on 3 (nearer_as 2 0x01) 1 ∷ on 3 (nearer_as 2 0x06) 1 ∷ on 3 (nearer_as 1 0x38) 1
     ∷ [])
     ≡ InPool 4 9 ∷ InPool 12 18 ∷ Nowhere ∷ Nowhere ∷ InPool 20 25 ∷ Nowhere ∷ Nowhere ∷ Nowhere ∷ Nowhere ∷ []
 
 -- on the root and on 7F10, in which a 6F06 is not asked for 7F10's own; on the rule file itself; on a rule of its own
 abbrev pub OfOthers : Type 0
 OfOthers =
-    (on 0 (nearerAs 2 0x02) 1 ∷ on 1 (nearerAs 2 0x02) 1 ∷ on 2 nothing 1 ∷ on 4 (nearerAs 2 0x02) 1 ∷ [])
+    (on 0 (nearer_as 2 0x02) 1 ∷ on 1 (nearer_as 2 0x02) 1 ∷ on 2 nothing 1 ∷ on 4 (nearer_as 2 0x02) 1 ∷ [])
     ≡ InPool 4 9 ∷ InPool 4 9 ∷ Nowhere ∷ InImage 306 309 ∷ []
 
 -- the rule file deactivated, terminated, of an internal type, shareable; cyclic and transparent
 abbrev pub ByTheFile : Type 0
 ByTheFile =
-    (placeOf 5 (card (rulesAs 0x02 0x04 1) nothing 1) pool 3 ∷ placeOf 5 (card (rulesAs 0x02 0x0C 1) nothing 1) pool 3
-    ∷ placeOf 5 (card (rulesAs 0x0A 0x05 1) nothing 1) pool 3 ∷ placeOf 5 (card (rulesAs 0x42 0x05 1) nothing 1) pool 3
-    ∷ placeOf 5 (card (rulesAs 0x06 0x05 1) nothing 1) pool 3 ∷ placeOf 5 (card (rulesAs 0x01 0x05 1) nothing 1) pool 3
+    (place_of 5 (card (rules_as 0x02 0x04 1) nothing 1) pool 3 ∷ place_of 5 (card (rules_as 0x02 0x0C 1) nothing 1) pool 3
+    ∷ place_of 5 (card (rules_as 0x0A 0x05 1) nothing 1) pool 3 ∷ place_of 5 (card (rules_as 0x42 0x05 1) nothing 1) pool 3
+    ∷ place_of 5 (card (rules_as 0x06 0x05 1) nothing 1) pool 3 ∷ place_of 5 (card (rules_as 0x01 0x05 1) nothing 1) pool 3
     ∷ [])
     ≡ InPool 4 9 ∷ InPool 4 9 ∷ InPool 4 9 ∷ InPool 4 9 ∷ Nowhere ∷ Nowhere ∷ []
 
 -- the rule itself, of record 2: its last byte is FF, and no padding
 abbrev pub TheRule : Type 0
-TheRule = decidingRule 5 (card (rulesAs 0x02 0x05 2) nothing 2) pool 3 ≡ 0x80 ∷ 0x01 ∷ 0x7F ∷ 0x9E ∷ 0x01 ∷ 0xFF ∷ []
+TheRule = deciding_rule 5 (card (rules_as 0x02 0x05 2) nothing 2) pool 3 ≡ 0x80 ∷ 0x01 ∷ 0x7F ∷ 0x9E ∷ 0x01 ∷ 0xFF ∷ []
 
 -- the file that the EF's rule names, as the ticket's sentences speak of it: in the root, or nearer
 abbrev pub NamesTold : Type 0
 NamesTold =
-    Names 5 (card (rulesAs 0x02 0x05 1) nothing 1) 3 2
-    × Names 5 (card (rulesAs 0x02 0x05 1) (nearerAs 2 0x02) 1) 3 4
-    × Names 5 (card (rulesAs 0x02 0x05 1) nothing 1) 2 2
+    Names 5 (card (rules_as 0x02 0x05 1) nothing 1) 3 2
+    × Names 5 (card (rules_as 0x02 0x05 1) (nearer_as 2 0x02) 1) 3 4
+    × Names 5 (card (rules_as 0x02 0x05 1) nothing 1) 2 2
 
 abbrev pub PlacesTold : Type 0
 PlacesTold = OfTheEf × OfOthers × ByTheFile × TheRule

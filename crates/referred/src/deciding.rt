@@ -1,16 +1,13 @@
 // The rule that decides on a file (02 Ticket 7): where it stands, and the rule as a part of the image or of the pool. Nothing is kept: each
 // command reads the rule file as it is at that moment.
-ghost use mathlib.Core.Path.{_≡_};
-ghost use Prim.Native.Nat.{_<_, _≤_};
-ghost use lib.ListN.{getD};
-ghost use Rattle·laws.specs.Lists.{part};
-ghost use Rattle·image.specs.Layout.{Within, recAt};
-ghost use Rattle·kinship.specs.Climb.{Rooted, Stands};
-ghost use Rattle·referred·specs.specs.Deciding.{namedFileOf, namedRecordOf, isLinear, recordStart, heldPlace, referredPlace};
-ghost use Rattle·referred·specs.specs.Deciding.{ownPlace, placeOf, Bounded, decidingRule};
-use crate::Place;
-use crate::nearest;
-use crate::padding;
+ghost use Rattle.std.specs.Prelude.{◌≡◌, ◌<◌, ◌≤◌, get_or};
+ghost use Rattle.laws.specs.Lists.{part};
+ghost use Rattle.image.specs.Layout.{Within, rec_at};
+ghost use Rattle.kinship.specs.Climb.{Rooted, Stands};
+ghost use Rattle.referred.specs.Deciding.{named_file_of, named_record_of, is_linear, record_start, held_place, referred_place};
+ghost use Rattle.referred.specs.Deciding.{own_place, place_of, Bounded, deciding_rule};
+
+use crate::{Place, nearest, padding};
 use image::fields;
 use laws::Found;
 use pool::records;
@@ -18,24 +15,24 @@ use rules::descriptor;
 
 // The identifier of the file that the rule of slot s names.
 fn named_file(image: &[u8], s: usize) -> u16
-    requires { ⌜ Within (now image) s ⌝ }
-    ensures { λ r. ⌜ r ≡ namedFileOf (recAt (now (image .entry)) s) ⌝ }
+    requires { Within image.now s }
+    ensures { result ≡ named_file_of (rec_at image.now s) }
 {
     numbers::u16_at(image, 16 + 64 * s + 34)
 }
 
 // The number of the record that it names.
 fn named_record(image: &[u8], s: usize) -> usize
-    requires { ⌜ Within (now image) s ⌝ }
-    ensures { λ r. ⌜ (r ≡ namedRecordOf (recAt (now (image .entry)) s)) × (r < 256) ⌝ }
+    requires { Within image.now s }
+    ensures { (result ≡ named_record_of (rec_at image.now s)) × (result < 256) }
 {
     numbers::wide(image[16 + 64 * s + 36]) as usize
 }
 
 // Whether the file in slot t is a linear fixed EF; its life cycle is not regarded.
 fn is_linear(image: &[u8], t: usize) -> bool
-    requires { ⌜ Within (now image) t ⌝ }
-    ensures { λ r. ⌜ r ≡ isLinear (recAt (now (image .entry)) t) ⌝ }
+    requires { Within image.now t }
+    ensures { result ≡ is_linear (rec_at image.now t) }
 {
     if fields::kind(image, t) != descriptor::EF {
         return false;
@@ -45,8 +42,8 @@ fn is_linear(image: &[u8], t: usize) -> bool
 
 // Where record k of the file in slot t begins in the pool.
 fn record_start(image: &[u8], t: usize, k: usize) -> usize
-    requires { ⌜ Within (now image) t × ((1 ≤ k) × (k < 256)) ⌝ }
-    ensures { λ r. ⌜ (r ≡ recordStart (now (image .entry)) t k) × (r < 33554432) ⌝ }
+    requires { Within image.now t × ((1 ≤ k) × (k < 256)) }
+    ensures { (result ≡ record_start image.now t k) × (result < 33554432) }
 {
     let length = fields::record_length(image, t) as usize;
     fields::start(image, t) + (k - 1) * length
@@ -54,8 +51,8 @@ fn record_start(image: &[u8], t: usize, k: usize) -> usize
 
 // So many bytes of the pool from a place on, as far as it goes: nothing here rests on the pool's length.
 fn stretch(pool: &[u8], from: usize, count: usize) -> &[u8]
-    requires { ⌜ (from < 33554432) × (count < 65536) ⌝ }
-    ensures { λ r. ⌜ now r ≡ part (now (pool .entry)) from count ⌝ }
+    requires { (from < 33554432) × (count < 65536) }
+    ensures { result.now ≡ part pool.now from count }
 {
     if pool.len() <= from {
         return &pool[..0];
@@ -69,8 +66,8 @@ fn stretch(pool: &[u8], from: usize, count: usize) -> &[u8]
 
 // Where the rule in record k of the file in slot t stands.
 fn held(image: &[u8], pool: &[u8], t: usize, k: usize) -> Place
-    requires { ⌜ Within (now image) t × (k < 256) ⌝ }
-    ensures { λ r. ⌜ (r ≡ heldPlace (now (image .entry)) (now (pool .entry)) t k) × Bounded r ⌝ }
+    requires { Within image.now t × (k < 256) }
+    ensures { (result ≡ held_place image.now pool.now t k) × Bounded result }
 {
     if !is_linear(image, t) {
         return Place::Nowhere;
@@ -92,9 +89,9 @@ fn held(image: &[u8], pool: &[u8], t: usize, k: usize) -> Place
 
 // Where the rule stands that slot s names: the file is looked for in the directory that holds the ruled file, then in each above.
 fn referred(image: &[u8], pool: &[u8], n: usize, s: usize) -> Place
-    requires { ⌜ Rooted (now image) n ⌝ }
-    requires { ⌜ Stands (now image) n s ⌝ }
-    ensures { λ r. ⌜ (r ≡ referredPlace n (now (image .entry)) (now (pool .entry)) s) × Bounded r ⌝ }
+    requires rooted { Rooted image.now n }
+    requires stands { Stands image.now n s }
+    ensures { (result ≡ referred_place n image.now pool.now s) × Bounded result }
 {
     let up = fields::parent(image, s);
     let x = named_file(image, s);
@@ -110,8 +107,8 @@ fn referred(image: &[u8], pool: &[u8], n: usize, s: usize) -> Place
 
 // Where the rule of slot s stands in its own record.
 fn own(image: &[u8], s: usize) -> Place
-    requires { ⌜ Within (now image) s ⌝ }
-    ensures { λ r. ⌜ (r ≡ ownPlace (now (image .entry)) s) × Bounded r ⌝ }
+    requires { Within image.now s }
+    ensures { (result ≡ own_place image.now s) × Bounded result }
 {
     let from = 16 + 64 * s + 34;
     let length = numbers::wide(image[16 + 64 * s + 33]) as usize;
@@ -123,9 +120,9 @@ fn own(image: &[u8], s: usize) -> Place
 
 // Where the rule that decides on slot s stands.
 pub fn place(image: &[u8], pool: &[u8], n: usize, s: usize) -> Place
-    requires { ⌜ Rooted (now image) n ⌝ }
-    requires { ⌜ Stands (now image) n s ⌝ }
-    ensures { λ r. ⌜ (r ≡ placeOf n (now (image .entry)) (now (pool .entry)) s) × Bounded r ⌝ }
+    requires rooted { Rooted image.now n }
+    requires stands { Stands image.now n s }
+    ensures { (result ≡ place_of n image.now pool.now s) × Bounded result }
 {
     if fields::form(image, s) == access::REFERRED {
         return referred(image, pool, n, s);
@@ -135,9 +132,9 @@ pub fn place(image: &[u8], pool: &[u8], n: usize, s: usize) -> Place
 
 // The rule that decides on slot s, as a part of the image or of the pool; empty where the search denies.
 pub fn deciding<'a>(image: &'a [u8], pool: &'a [u8], n: usize, s: usize) -> &'a [u8]
-    requires { ⌜ Rooted (now image) n ⌝ }
-    requires { ⌜ Stands (now image) n s × (getD (recAt (now image) s) 33 0 ≤ 30) ⌝ }
-    ensures { λ r. ⌜ now r ≡ decidingRule n (now (image .entry)) (now (pool .entry)) s ⌝ }
+    requires rooted { Rooted image.now n }
+    requires stands { Stands image.now n s × (get_or (rec_at image.now s) 33 0 ≤ 30) }
+    ensures { result.now ≡ deciding_rule n image.now pool.now s }
 {
     match place(image, pool, n, s) {
         Place::Nowhere => &pool[..0],

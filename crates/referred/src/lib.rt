@@ -6,6 +6,7 @@ pub mod nearest;
 pub mod padding;
 
 // Where a rule stands: nowhere, or from one byte of the image, or of the pool, up to another.
+#[derive(Drop)]
 pub enum Place {
     Nowhere,
     InImage { from: usize, to: usize },

@@ -1,23 +1,22 @@
 // The nearest file of an identifier, from a directory upwards (02 Ticket 7): one pass marks the directories that hold such a file, the walk
 // up looks at marks alone, and the children of one directory are asked. So the longest way up takes no longer than a few passes.
-ghost use mathlib.Core.Path.{_≡_};
-ghost use Prim.Native.Nat.{_+_, _<_};
-ghost use lib.ListN.{length};
-ghost use Rattle·sound.specs.Table.{viewAt};
-ghost use Rattle·sound.specs.Kinship.{childNamed};
-ghost use Rattle·kinship.specs.Climb.{Rooted, Stands};
-ghost use Rattle·referred·specs.specs.Marks.{Marked};
-ghost use Rattle·referred·specs.specs.Nearest.{nearestOf};
+ghost use Rattle.std.specs.Prelude.{◌≡◌, ◌+◌, ◌<◌, length};
+ghost use Rattle.sound.specs.Table.{view_at};
+ghost use Rattle.sound.specs.Kinship.{child_named};
+ghost use Rattle.kinship.specs.Climb.{Rooted, Stands};
+ghost use Rattle.referred.specs.Marks.{Marked};
+ghost use Rattle.referred.specs.Nearest.{nearest_of};
+
 use image::fields;
 use kinship::search;
 use laws::Found;
 
 // Marks the directory of the file in slot s, if it has identifier x.
 fn mark(image: &[u8], n: usize, x: u16, s: usize, marks: &mut [u8])
-    requires { ⌜ Rooted (now image) n ⌝ }
-    requires { ⌜ s < n ⌝ }
-    requires { ⌜ Marked (now image) x (now marks) s ⌝ }
-    ensures { λ _. ⌜ Marked (now (image .entry)) x (now (marks .exit)) (s + 1) ⌝ }
+    requires rooted { Rooted image.now n }
+    requires s_lt_n { s < n }
+    requires marked { Marked image.now x marks.old s }
+    ensures { Marked image.now x marks.new (s + 1) }
 {
     if !search::is_file(image, s) {
         return;
@@ -31,9 +30,9 @@ fn mark(image: &[u8], n: usize, x: u16, s: usize, marks: &mut [u8])
 
 // Marks the directory of each file with identifier x.
 fn mark_all(image: &[u8], n: usize, x: u16, marks: &mut [u8])
-    requires { ⌜ Rooted (now image) n ⌝ }
-    requires { ⌜ length (now marks) ≡ 1024 ⌝ }
-    ensures { λ _. ⌜ Marked (now (image .entry)) x (now (marks .exit)) n ⌝ }
+    requires rooted { Rooted image.now n }
+    requires marks_len { length marks.old ≡ 1024 }
+    ensures { Marked image.now x marks.new n }
 {
     let mut s = 0;
     while s < n {
@@ -44,10 +43,10 @@ fn mark_all(image: &[u8], n: usize, x: u16, marks: &mut [u8])
 
 // The file with identifier x in directory t, where it has a mark.
 fn child_marked(image: &[u8], n: usize, t: usize, x: u16, marks: &[u8]) -> Found
-    requires { ⌜ Rooted (now image) n ⌝ }
-    requires { ⌜ t < n ⌝ }
-    requires { ⌜ Marked (now image) x (now marks) n ⌝ }
-    ensures { λ r. ⌜ r ≡ childNamed n (viewAt (now (image .entry))) t x ⌝ }
+    requires rooted { Rooted image.now n }
+    requires t_lt_n { t < n }
+    requires marked { Marked image.now x marks.now n }
+    ensures { result ≡ child_named n (view_at image.now) t x }
 {
     if marks[t] != 1 {
         return Found::Nothing;
@@ -57,10 +56,10 @@ fn child_marked(image: &[u8], n: usize, t: usize, x: u16, marks: &[u8]) -> Found
 
 // The walk up, by marks.
 fn climb(image: &[u8], n: usize, d: usize, x: u16, marks: &[u8]) -> Found
-    requires { ⌜ Rooted (now image) n ⌝ }
-    requires { ⌜ Stands (now image) n d ⌝ }
-    requires { ⌜ Marked (now image) x (now marks) n ⌝ }
-    ensures { λ r. ⌜ r ≡ nearestOf n (viewAt (now (image .entry))) d x ⌝ }
+    requires rooted { Rooted image.now n }
+    requires stands { Stands image.now n d }
+    requires marked { Marked image.now x marks.now n }
+    ensures { result ≡ nearest_of n (view_at image.now) d x }
 {
     let level = fields::level(image, d);
     let mut t = d;
@@ -78,9 +77,9 @@ fn climb(image: &[u8], n: usize, d: usize, x: u16, marks: &[u8]) -> Found
 
 // The file with identifier x in directory d, else in the nearest directory above it that has one.
 pub fn nearest(image: &[u8], n: usize, d: usize, x: u16) -> Found
-    requires { ⌜ Rooted (now image) n ⌝ }
-    requires { ⌜ Stands (now image) n d ⌝ }
-    ensures { λ r. ⌜ r ≡ nearestOf n (viewAt (now (image .entry))) d x ⌝ }
+    requires rooted { Rooted image.now n }
+    requires stands { Stands image.now n d }
+    ensures { result ≡ nearest_of n (view_at image.now) d x }
 {
     let mut marks = [0; 1024];
     mark_all(image, n, x, &mut marks);

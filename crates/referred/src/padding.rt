@@ -1,17 +1,15 @@
 // The rule in a record of a rule file (02 Ticket 7): an expanded rule, FF bytes after it being padding.
 // `row` is the record: that word is taken.
-ghost use mathlib.Core.Path.{_≡_};
-ghost use Prim.Native.Nat.{_≤_};
-ghost use lib.ListN.{length};
-ghost use Rattle·referred·specs.specs.Padding.{isPadding, OnlyEnd, unpaddedEnd};
-use expanded::object;
-use expanded::rule;
+ghost use Rattle.std.specs.Prelude.{◌≡◌, ◌≤◌, length};
+ghost use Rattle.referred.specs.Padding.{is_padding, OnlyEnd, unpadded_end};
+
+use expanded::{object, rule};
 
 const FILL: u8 = 0xFF;
 
 // Only FF bytes.
 fn is_padding(s: &[u8]) -> bool
-    ensures { λ r. ⌜ r ≡ isPadding (now (s .entry)) ⌝ }
+    ensures { result ≡ is_padding s.now }
 {
     let mut i = 0;
     while i < s.len() {
@@ -25,7 +23,7 @@ fn is_padding(s: &[u8]) -> bool
 
 // The only place where the rule can end: from object to object, up to an FF where a tag should stand.
 fn last_place(row: &[u8]) -> usize
-    ensures { λ r. ⌜ OnlyEnd (now (row .entry)) r ⌝ }
+    ensures { OnlyEnd row.now result }
 {
     let mut at: usize = 0;
     while at < row.len() {
@@ -43,7 +41,7 @@ fn last_place(row: &[u8]) -> usize
 
 // Where the rule ends, 0 where the record has none.
 pub fn unpadded_end(row: &[u8]) -> usize
-    ensures { λ r. ⌜ (r ≡ unpaddedEnd (now (row .entry))) × (r ≤ length (now (row .entry))) ⌝ }
+    ensures { (result ≡ unpadded_end row.now) × (result ≤ length row.now) }
 {
     let at = last_place(row);
     if !rule::well_formed(&row[..at]) {

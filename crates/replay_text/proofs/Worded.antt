@@ -1,50 +1,50 @@
 -- A command on a sound image without bodies is answered by a word: any pool will do there, and the response is long enough.
-use mathlib.Core.Path.{_≡_, _∙_, sym, ap}
+use mathlib.Core.Path.{◌≡◌, ◌∙◌, sym, ap}
 use mathlib.Core.Bool.{true, false, true≢false}
 use mathlib.Core.List.{List, []}
-use mathlib.Core.Logic.{⊎-elim}
-use Prim.Native.Nat.{ℕ, _≤_}
+use mathlib.Core.Logic.{⊎_elim}
+use Prim.Native.Nat.{ℕ, ◌≤◌}
 use lib.ListN.{replicate}
 use native.Mathlib.Omega.{arith}
-use Rattle·image.specs.Layout.{hasBodies, versionOf}
-use Rattle·image.proofs.Versions.{longest-within}
-use Rattle·sound.specs.Sound.{soundb}
-use Rattle·sound.proofs.Says.{sound-says}
-use Rattle·card.specs.Command.{answerNumber, longestAnswer}
-use Rattle·card.proofs.Answered.{only-these-words, wrong-pool-refused, stays-sound}
-use Rattle·card.proofs.Silent.{long-enough}
-use Rattle·card.proofs.Versions.{version-stays}
-use Rattle·access.specs.Access.{compact}
-use Rattle·maker.proofs.Buffers.{sound-made, version-made}
-use Rattle·replay_text·specs.specs.Replay.{full, lent, sentAt, wordAt, imageAt, AlwaysWorded, firstEdition, rootRule, FreshPlayed}
+use Rattle.image.specs.Layout.{has_bodies, version_of}
+use Rattle.image.proofs.Versions.{longest_within}
+use Rattle.sound.specs.Sound.{soundb}
+use Rattle.sound.proofs.Says.{sound-says}
+use Rattle.card.specs.Command.{answer_number, longest_answer}
+use Rattle.card.proofs.Answered.{only-these_words, wrong-pool-refused, stays_sound}
+use Rattle.card.proofs.Silent.{long_enough}
+use Rattle.card.proofs.Versions.{version_stays}
+use Rattle.access.specs.Access.{compact}
+use Rattle.maker.proofs.Buffers.{sound-made, version-made}
+use Rattle.replay_text.specs.Replay.{full, lent, sent_at, word_at, image_at, AlwaysWorded, first_edition, root_rule, FreshPlayed}
 
-no-bodies : (v : ℕ) → hasBodies v ≡ false → longestAnswer v ≤ lent
-unfolding longestAnswer
-no-bodies v e = rw e (omega (arith, longest-within v))
+no-bodies : (v : ℕ) → has_bodies v ≡ false → longest_answer v ≤ lent
+unfolding longest_answer
+no-bodies v e = rw e (omega (arith, longest_within v))
 
-pub always-worded : AlwaysWorded
-unfolding wordAt imageAt
-always-worded s at img (e, plain) = (
-  ⊎-elim (λ k. k .1)
-      (⊎-elim
-      (λ short. absurd (long-enough img [] c full lent (λ b. absurd (none b)) (no-bodies (versionOf img) plain) short))
-      (λ wrong. absurd (wrong-pool-refused img [] c full (replicate lent 0) e .1 (λ b. absurd (none b)) (ap answerNumber wrong))))
-      (only-these-words img [] c full lent e),
+pub always_worded : AlwaysWorded
+unfolding word_at image_at
+always_worded s at img (e, plain) = (
+  ⊎_elim (λ k. k.1)
+      (⊎_elim
+      (λ short. absurd (long_enough img [] c full lent (λ b. absurd (none b)) (no-bodies (version_of img) plain) short))
+      (λ wrong. absurd ((wrong-pool-refused img [] c full (replicate lent 0) e).1 (λ b. absurd (none b)) (ap answer_number wrong))))
+      (only-these_words img [] c full lent e),
   (
-    sound-says (imageAt s at img) .1 (stays-sound img [] c full lent (sound-says img .0 e)),
-    ap hasBodies (version-stays img [] c full lent) ∙ plain,
+    (sound-says (image_at s at img)).1 (stays_sound img [] c full lent ((sound-says img).0 e)),
+    ap has_bodies (version_stays img [] c full lent) ∙ plain,
   ),
 )
   where
     c : List ℕ
-    c = sentAt s at
+    c = sent_at s at
 
-    none : hasBodies (versionOf img) ≡ true → ⊥
+    none : has_bodies (version_of img) ≡ true → ⊥
     none b = true≢false (sym b ∙ plain)
 
 pub fresh-played : FreshPlayed
-unfolding hasBodies
+unfolding has_bodies
 fresh-played img total e = (
-  sound-says _ .1 (sound-made img firstEdition total compact rootRule e),
-  ap hasBodies (version-made img firstEdition total compact rootRule e),
+  (sound-says _).1 (sound-made img first_edition total compact root_rule e),
+  ap has_bodies (version-made img first_edition total compact root_rule e),
 )

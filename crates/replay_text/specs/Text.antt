@@ -1,11 +1,10 @@
 -- What replay writes (01 "Replay"): a line of four capital hex digits a command, and the lines that are no word (`BIG` is text's).
-use Prim.Native.Nat.{ℕ, _/_, _%_}
-use mathlib.Core.List.{List, [], _∷_}
-use Rattle·text.specs.Digits.{digitOf}
+use Rattle.std.specs.Prelude.{ℕ, ◌/◌, ◌%◌, List, [], ◌∷◌}
+use Rattle.text.specs.Digits.{digit_of}
 
 -- four digits and a newline
-unfoldable pub lineOf : ℕ → List ℕ
-lineOf w = digitOf (w / 4096) ∷ digitOf (w / 256 % 16) ∷ digitOf (w / 16 % 16) ∷ digitOf (w % 16) ∷ 10 ∷ []
+unfoldable pub line_of : ℕ → List ℕ
+line_of w = digit_of (w / 4096) ∷ digit_of (w / 256 % 16) ∷ digit_of (w / 16 % 16) ∷ digit_of (w % 16) ∷ 10 ∷ []
 
 -- `BAD` and `CUT`, each a line
 abbrev pub bad : List ℕ

@@ -1,26 +1,22 @@
 // A stream of commands, carried out on a fresh card, and the text that is written about it (01 "Replay"). The program
 // `replay` only reads a stream and writes that text.
-ghost use mathlib.Core.Path.{_≡_};
-ghost use mathlib.Core.Bool.{false};
-ghost use mathlib.Core.List.{[]};
-ghost use Prim.Native.Nat.{_+_, _*_, _<_, _≤_};
-ghost use lib.ListN.{length};
-ghost use Rattle·laws.specs.Lists.{splice};
-ghost use Rattle·card.specs.Command.{replyOf, imageOf, answerWord};
-ghost use Rattle·text.specs.Written.{Wrote, Counted};
-ghost use Rattle·replay_text·specs.specs.Text.{lineOf, bad, cut};
-ghost use Rattle·replay_text·specs.specs.Replay.{full, lent, goodHeader, cutShort, sentAt, endOf, wordAt, imageAt, runOf};
-ghost use Rattle·replay_text·specs.specs.Replay.{performOf, replayOf};
+ghost use Rattle.std.specs.Prelude.{◌≡◌, false, [], ◌+◌, ◌*◌, ◌<◌, ◌≤◌, length};
+ghost use Rattle.laws.specs.Lists.{splice};
+ghost use Rattle.card.specs.Command.{reply_of, image_of, answer_word};
+ghost use Rattle.text.specs.Written.{Wrote, Counted};
+ghost use Rattle.replay_text.specs.Text.{line_of, bad, cut};
+ghost use Rattle.replay_text.specs.Replay.{full, lent, good_header, cut_short, sent_at, end_of, word_at, image_at, run_of};
+ghost use Rattle.replay_text.specs.Replay.{perform_of, replay_of};
+
 use card::Reply;
-use maker::Edition;
-use maker::Made;
+use maker::{Edition, Made};
 use rules::Sets;
 use verdict::State;
 
 // Writes a word's line at `at`.
 fn put_line(out: &mut [u8], at: usize, word: u16)
-    requires { ⌜ at + 5 ≤ length (now out) ⌝ }
-    ensures { λ _. ⌜ now (out .exit) ≡ splice (now (out .entry)) at (lineOf word) ⌝ }
+    requires { at + 5 ≤ length out.old }
+    ensures { out.new ≡ splice out.old at (line_of word) }
 {
     let a = text::digit(word / 4096);
     let b = text::digit(word / 256 % 16);
@@ -31,16 +27,16 @@ fn put_line(out: &mut [u8], at: usize, word: u16)
 
 // Writes `CUT` at `at`.
 fn put_cut(out: &mut [u8], at: usize)
-    requires { ⌜ at + 4 ≤ length (now out) ⌝ }
-    ensures { λ _. ⌜ now (out .exit) ≡ splice (now (out .entry)) at cut ⌝ }
+    requires { at + 4 ≤ length out.old }
+    ensures { out.new ≡ splice out.old at cut }
 {
     numbers::copy_in(out, at, &[67, 85, 84, 10]);
 }
 
 // Where the command ends whose length stands at `at`.
 fn end_of(s: &[u8], at: usize) -> usize
-    requires { ⌜ at + 2 ≤ length (now s) ⌝ }
-    ensures { λ r. ⌜ r ≡ endOf (now (s .entry)) at ⌝ }
+    requires { at + 2 ≤ length s.now }
+    ensures { result ≡ end_of s.now at }
 {
     let long = numbers::u16_at(s, at) as usize;
     at + 2 + long
@@ -48,8 +44,8 @@ fn end_of(s: &[u8], at: usize) -> usize
 
 // Whether the length at `at`, or the command after it, is cut short.
 fn cut_short(s: &[u8], at: usize) -> bool
-    requires { ⌜ at < length (now s) ⌝ }
-    ensures { λ r. ⌜ r ≡ cutShort (now (s .entry)) at ⌝ }
+    requires { at < length s.now }
+    ensures { result ≡ cut_short s.now at }
 {
     if s.len() < at + 2 {
         return true;
@@ -60,8 +56,8 @@ fn cut_short(s: &[u8], at: usize) -> bool
 
 // The command whose length stands at `at`, as a part of the stream.
 fn sent(s: &[u8], at: usize) -> &[u8]
-    requires { ⌜ cutShort (now s) at ≡ false ⌝ }
-    ensures { λ r. ⌜ now r ≡ sentAt (now (s .entry)) at ⌝ }
+    requires { cut_short s.now at ≡ false }
+    ensures { result.now ≡ sent_at s.now at }
 {
     let to = end_of(s, at);
     let from = at + 2;
@@ -70,8 +66,8 @@ fn sent(s: &[u8], at: usize) -> &[u8]
 
 // Carries out one command, with an empty pool, full sets and no other channel, and gives its word. What it tells is not shown.
 fn step(image: &mut [u8], command: &[u8]) -> u16
-    ensures { λ r. ⌜ (r ≡ answerWord (replyOf (now (image .entry)) [] (now (command .entry)) full lent))
-        × (now (image .exit) ≡ imageOf (now (image .entry)) [] (now (command .entry)) full lent) ⌝ }
+    ensures { (result ≡ answer_word (reply_of image.old [] command.now full lent))
+        × (image.new ≡ image_of image.old [] command.now full lent) }
 {
     let mut response = [0u8; 67];
     let sets = Sets {
@@ -99,9 +95,9 @@ fn step(image: &mut [u8], command: &[u8]) -> u16
 
 // Carries out the command at `at` and writes the line of its word at `put`.
 fn turn(s: &[u8], at: usize, image: &mut [u8], out: &mut [u8], put: usize)
-    requires { ⌜ (cutShort (now s) at ≡ false) × (put + 5 ≤ length (now out)) ⌝ }
-    ensures { λ _. ⌜ (now (image .exit) ≡ imageAt (now (s .entry)) at (now (image .entry)))
-        × (now (out .exit) ≡ splice (now (out .entry)) put (lineOf (wordAt (now (s .entry)) at (now (image .entry))))) ⌝ }
+    requires { (cut_short s.now at ≡ false) × (put + 5 ≤ length out.old) }
+    ensures { (image.new ≡ image_at s.now at image.old)
+        × (out.new ≡ splice out.old put (line_of (word_at s.now at image.old))) }
 {
     let command = sent(s, at);
     let word = step(image, command);
@@ -111,9 +107,9 @@ fn turn(s: &[u8], at: usize, image: &mut [u8], out: &mut [u8], put: usize)
 // Carries out the commands of the stream in turn, writes a line for each, and `CUT` where one is cut short. Gives the
 // number of bytes written.
 fn run(s: &[u8], image: &mut [u8], out: &mut [u8]) -> usize
-    requires { ⌜ (11 ≤ length (now s)) × (3 * length (now s) + 4 ≤ length (now out)) ⌝ }
-    ensures { λ r. ⌜ Wrote r (now (out .entry)) (now (out .exit))
-        (runOf (length (now (s .entry))) (now (s .entry)) 11 (now (image .entry))) ⌝ }
+    requires { (11 ≤ length s.now) × (3 * length s.now + 4 ≤ length out.old) }
+    ensures { Wrote result out.old out.new
+        (run_of (length s.now) s.now 11 image.old) }
 {
     let mut at = 11;
     let mut put = 0;
@@ -131,7 +127,7 @@ fn run(s: &[u8], image: &mut [u8], out: &mut [u8]) -> usize
 
 // Whether a stream begins as 01 says: the mark `UFS`, version 1, and all eleven bytes of the header.
 fn good_header(s: &[u8]) -> bool
-    ensures { λ r. ⌜ r ≡ goodHeader (now (s .entry)) ⌝ }
+    ensures { result ≡ good_header s.now }
 {
     if s.len() < 11 {
         return false;
@@ -150,8 +146,8 @@ fn good_header(s: &[u8]) -> bool
 
 // Writes `BAD` alone.
 fn put_bad(out: &mut [u8]) -> usize
-    requires { ⌜ 4 ≤ length (now out) ⌝ }
-    ensures { λ r. ⌜ Wrote r (now (out .entry)) (now (out .exit)) bad ⌝ }
+    requires { 4 ≤ length out.old }
+    ensures { Wrote result out.old out.new bad }
 {
     numbers::copy_in(out, 0, &[66, 65, 68, 10]);
     4
@@ -159,11 +155,17 @@ fn put_bad(out: &mut [u8]) -> usize
 
 // Makes the fresh card of a stream in the buffer, and runs the stream on it.
 fn perform(s: &[u8], image: &mut [u8], out: &mut [u8]) -> usize
-    requires { ⌜ (11 ≤ length (now s)) × (3 * length (now s) + 4 ≤ length (now out)) ⌝ }
-    ensures { λ r. ⌜ Wrote r (now (out .entry)) (now (out .exit)) (performOf (now (s .entry)) (now (image .entry))) ⌝ }
+    requires { (11 ≤ length s.now) × (3 * length s.now + 4 ≤ length out.old) }
+    ensures { Wrote result out.old out.new (perform_of s.now image.old) }
 {
     let total = numbers::u32_at(s, 7);
-    let made = maker::fresh::make(image, Edition { version: 1 }, total, 0, &[0x7F, 0, 0, 0, 0, 0, 0, 0]);
+    let made = maker::fresh::make(
+        image,
+        Edition { version: 1 },
+        total,
+        0,
+        &[0x7F, 0, 0, 0, 0, 0, 0, 0],
+    );
     match made {
         Made::Done => run(s, image, out),
         Made::BadLength => put_bad(out),
@@ -174,15 +176,15 @@ fn perform(s: &[u8], image: &mut [u8], out: &mut [u8]) -> usize
 
 // Zeros for the largest image.
 fn space() -> [u8; 65488]
-    ensures { λ r. ⌜ 65488 ≡ length r ⌝ }
+    ensures { 65488 ≡ length result }
 {
     [0; 65488]
 }
 
 // The text of a stream, at the start of out; gives its length.
 fn write(s: &[u8], out: &mut [u8]) -> usize
-    requires { ⌜ 98308 ≤ length (now out) ⌝ }
-    ensures { λ r. ⌜ Wrote r (now (out .entry)) (now (out .exit)) (replayOf (now (s .entry))) ⌝ }
+    requires { 98308 ≤ length out.old }
+    ensures { Wrote result out.old out.new (replay_of s.now) }
 {
     if 32768 < s.len() {
         numbers::copy_in(out, 0, &[66, 73, 71, 10]);
@@ -203,8 +205,8 @@ fn write(s: &[u8], out: &mut [u8]) -> usize
 // The text of any stream, at the start of an array that holds the longest; gives its length. A line has five bytes and
 // a command two at least, its length, so that three bytes for one of the stream's 32,768 and four for `CUT` are enough.
 pub fn replay(s: &[u8], out: &mut [u8; 98308]) -> usize
-    ensures { λ r. ⌜ Wrote r (now (out .entry)) (now (out .exit)) (replayOf (now (s .entry))) ⌝ }
-    ensures { λ r. ⌜ Counted r (now (out .exit)) ⌝ }
+    ensures wrote { Wrote result out.old out.new (replay_of s.now) }
+    ensures counted { Counted result out.new }
 {
     write(s, out)
 }

@@ -1,18 +1,15 @@
 -- File bodies through whole calls (02 Ticket 4), on small cards of version 3, both sides of each line: what CREATE puts into the pool, what
 -- READ tells and UPDATE leaves, every refusal, pools of a wrong length, DELETE, and bodies that are moved down. Each statement is proved
 -- in proofs/Computed under the same name in small letters. A card is always an argument, so that it is computed once for its rows.
-use Prim.Native.Nat.{ℕ}
-use mathlib.Core.Path.{_≡_}
-use mathlib.Core.List.{List, [], _∷_, _++_}
-use lib.ListN.{length, replicate}
-use Rattle·laws.specs.Lists.{part, splice}
-use Rattle·rules.specs.declared.Sets.{Sets}
-use Rattle·image.specs.Layout.{setLife, setStart}
-use Rattle·pool.specs.Bodies.{startAt}
-use Rattle·create_data.specs.Grammar.{object}
-use Rattle·card.specs.Command.{answerNumber, answerWord, replyOf, imageOf, poolOf, responseOf}
-use Rattle·rows·specs.specs.Calls.{with, card, createFile, createEf, selectFile, deactivateFile}
-use Rattle·rows·specs.specs.Forms.{createRuled}
+use Rattle.std.specs.Prelude.{ℕ, ◌≡◌, List, [], ◌∷◌, ◌++◌, length, replicate}
+use Rattle.laws.specs.Lists.{part, splice}
+use Rattle.rules.specs.declared.Sets.{Sets}
+use Rattle.image.specs.Layout.{set_life, set_start}
+use Rattle.pool.specs.Bodies.{start_at}
+use Rattle.create_data.specs.Grammar.{object}
+use Rattle.card.specs.Command.{answer_number, answer_word, reply_of, image_of, pool_of, response_of}
+use Rattle.rows.specs.Calls.{with, card, create_file, create_ef, select_file, deactivate_file}
+use Rattle.rows.specs.Forms.{create_ruled}
 
 -- an image with its pool
 pub record Card : Type 0 where
@@ -20,104 +17,104 @@ pub record Card : Type 0 where
   pub pool : List ℕ
 
 -- a fresh one of a version, n slots and a total, its pool 00
-abbrev pub freshCard : ℕ → ℕ → ℕ → Card
-freshCard v n total = record { image = card v n total; pool = replicate total 0x00 }
+abbrev pub fresh_card : ℕ → ℕ → ℕ → Card
+fresh_card v n total = record { image = card v n total; pool = replicate total 0x00 }
 
 -- .. after a command that is lent no response
 abbrev pub after : Sets → Card → List ℕ → Card
-after x k c = record { image = imageOf (k .image) (k .pool) c (with x) 0; pool = poolOf (k .image) (k .pool) c (with x) 0 }
+after x k c = record { image = image_of k.image k.pool c (with x) 0; pool = pool_of k.image k.pool c (with x) 0 }
 
 -- answer, word, and the response, of which n bytes of AA were lent
 abbrev pub said : Sets → Card → ℕ → List ℕ → List ℕ
 said x k n c =
-    answerNumber (replyOf (k .image) (k .pool) c (with x) n) ∷ answerWord (replyOf (k .image) (k .pool) c (with x) n)
-    ∷ responseOf (k .image) (k .pool) c (with x) (replicate n 0xAA)
+    answer_number (reply_of k.image k.pool c (with x) n) ∷ answer_word (reply_of k.image k.pool c (with x) n)
+    ∷ response_of k.image k.pool c (with x) (replicate n 0xAA)
 
 -- the word, and the first five bytes of the pool afterwards
 abbrev pub wrote : Sets → Card → List ℕ → List ℕ
-wrote x k c = answerWord (replyOf (k .image) (k .pool) c (with x) 0) ∷ part (poolOf (k .image) (k .pool) c (with x) 0) 0 5
+wrote x k c = answer_word (reply_of k.image k.pool c (with x) 0) ∷ part (pool_of k.image k.pool c (with x) 0) 0 5
 
 -- a refusal: a body of four FF stays
 abbrev pub stayed : ℕ → List ℕ
 stayed w = w ∷ 0xFF ∷ 0xFF ∷ 0xFF ∷ 0xFF ∷ 0x00 ∷ []
 
 -- READ and UPDATE BINARY, from a place under 256; READ and UPDATE RECORD; DELETE
-abbrev pub readBinary : ℕ → ℕ → List ℕ
-readBinary at n = 0x00 ∷ 0xB0 ∷ 0x00 ∷ at ∷ n ∷ []
+abbrev pub read_binary : ℕ → ℕ → List ℕ
+read_binary at n = 0x00 ∷ 0xB0 ∷ 0x00 ∷ at ∷ n ∷ []
 
-abbrev pub updateBinary : ℕ → List ℕ → List ℕ
-updateBinary at s = 0x00 ∷ 0xD6 ∷ 0x00 ∷ at ∷ length s ∷ s
+abbrev pub update_binary : ℕ → List ℕ → List ℕ
+update_binary at s = 0x00 ∷ 0xD6 ∷ 0x00 ∷ at ∷ length s ∷ s
 
-abbrev pub readRecord : ℕ → ℕ → List ℕ
-readRecord i n = 0x00 ∷ 0xB2 ∷ i ∷ 0x04 ∷ n ∷ []
+abbrev pub read_record : ℕ → ℕ → List ℕ
+read_record i n = 0x00 ∷ 0xB2 ∷ i ∷ 0x04 ∷ n ∷ []
 
-abbrev pub updateRecord : ℕ → List ℕ → List ℕ
-updateRecord i s = 0x00 ∷ 0xDC ∷ i ∷ 0x04 ∷ length s ∷ s
+abbrev pub update_record : ℕ → List ℕ → List ℕ
+update_record i s = 0x00 ∷ 0xDC ∷ i ∷ 0x04 ∷ length s ∷ s
 
-abbrev pub deleteFile : ℕ → ℕ → List ℕ
-deleteFile high low = 0x00 ∷ 0xE4 ∷ 0x00 ∷ 0x00 ∷ 0x02 ∷ high ∷ low ∷ []
+abbrev pub delete_file : ℕ → ℕ → List ℕ
+delete_file high low = 0x00 ∷ 0xE4 ∷ 0x00 ∷ 0x00 ∷ 0x02 ∷ high ∷ low ∷ []
 
 -- CREATE FILE of 6F08, linear fixed, two records of two bytes
-abbrev pub createRecords : List ℕ
-createRecords =
+abbrev pub create_records : List ℕ
+create_records =
     0x00 ∷ 0xE0 ∷ 0x00 ∷ 0x00 ∷ 0x1D ∷ 0x62 ∷ 0x1B ∷ 0x82 ∷ 0x04 ∷ 0x42 ∷ 0x21 ∷ 0x00 ∷ 0x02 ∷ 0x83 ∷ 0x02 ∷ 0x6F ∷ 0x08 ∷ 0x8A ∷ 0x01
     ∷ 0x05 ∷ 0x8C ∷ 0x08 ∷ 0x7F ∷ 0 ∷ 0 ∷ 0 ∷ 0 ∷ 0 ∷ 0 ∷ 0 ∷ 0x80 ∷ 0x02 ∷ 0x00 ∷ 0x04 ∷ []
 
 -- a card of a version whose current EF is 6F07, transparent, of four bytes; one of version 3 with 6F08; with 6F07 of one byte and a rule of
 -- seven SC bytes, from b7 on
-abbrev pub bytesIn : Sets → ℕ → Card
-bytesIn x v = after x (freshCard v 3 128) (createEf 4)
+abbrev pub bytes_in : Sets → ℕ → Card
+bytes_in x v = after x (fresh_card v 3 128) (create_ef 4)
 
-abbrev pub recordsIn : Sets → Card
-recordsIn x = after x (freshCard 3 3 128) createRecords
+abbrev pub records_in : Sets → Card
+records_in x = after x (fresh_card 3 3 128) create_records
 
-abbrev pub ruledIn : Sets → List ℕ → Card
-ruledIn x rule = after x (freshCard 3 3 128) (createRuled (object 0x8C (0x7F ∷ rule)))
+abbrev pub ruled_in : Sets → List ℕ → Card
+ruled_in x rule = after x (fresh_card 3 3 128) (create_ruled (object 0x8C (0x7F ∷ rule)))
 
 -- READ BINARY of 6F07
 abbrev pub reads : Sets → Card → List (List ℕ)
 reads x k =
     -- a new body is all FF; the last byte; one past it; from the end on; Le 00 is 256
-    said x k 5 (readBinary 0 4) ∷ said x k 1 (readBinary 3 1) ∷ said x k 2 (readBinary 3 2) ∷ said x k 1 (readBinary 4 1)
-    ∷ said x k 4 (readBinary 0 0)
+    said x k 5 (read_binary 0 4) ∷ said x k 1 (read_binary 3 1) ∷ said x k 2 (read_binary 3 2) ∷ said x k 1 (read_binary 4 1)
+    ∷ said x k 4 (read_binary 0 0)
     -- a response that is a byte short; P1 80; a record
-    ∷ said x k 3 (readBinary 0 4) ∷ said x k 1 (0x00 ∷ 0xB0 ∷ 0x80 ∷ 0x00 ∷ 0x01 ∷ []) ∷ said x k 4 (readRecord 1 4)
+    ∷ said x k 3 (read_binary 0 4) ∷ said x k 1 (0x00 ∷ 0xB0 ∷ 0x80 ∷ 0x00 ∷ 0x01 ∷ []) ∷ said x k 4 (read_record 1 4)
     ∷ []
 
 abbrev pub BinaryRead : Type 0
 BinaryRead =
-    (x : Sets) → reads x (bytesIn x 3)
+    (x : Sets) → reads x (bytes_in x 3)
     ≡ (0 ∷ 0x9000 ∷ 0xFF ∷ 0xFF ∷ 0xFF ∷ 0xFF ∷ 0xAA ∷ []) ∷ (0 ∷ 0x9000 ∷ 0xFF ∷ []) ∷ (0 ∷ 0x6700 ∷ 0xAA ∷ 0xAA ∷ [])
     ∷ (0 ∷ 0x6B00 ∷ 0xAA ∷ []) ∷ (0 ∷ 0x6700 ∷ replicate 4 0xAA)
     ∷ (5 ∷ 0x0000 ∷ replicate 3 0xAA) ∷ (0 ∷ 0x6B00 ∷ 0xAA ∷ []) ∷ (0 ∷ 0x6981 ∷ replicate 4 0xAA)
     ∷ []
 
 -- Le 00 of a body of 256 bytes: from its start on, from its second byte on; and 255 bytes from there on
-abbrev pub createLong : List ℕ
-createLong = splice (createEf 0x00) 30 (0x01 ∷ [])
+abbrev pub create_long : List ℕ
+create_long = splice (create_ef 0x00) 30 (0x01 ∷ [])
 
-abbrev pub longReads : Sets → Card → List (List ℕ)
-longReads x k = said x k 256 (readBinary 0 0) ∷ said x k 1 (readBinary 1 0) ∷ said x k 256 (readBinary 1 255) ∷ []
+abbrev pub long_reads : Sets → Card → List (List ℕ)
+long_reads x k = said x k 256 (read_binary 0 0) ∷ said x k 1 (read_binary 1 0) ∷ said x k 256 (read_binary 1 255) ∷ []
 
 abbrev pub LongRead : Type 0
 LongRead =
-    (x : Sets) → longReads x (after x (freshCard 3 6 320) createLong)
+    (x : Sets) → long_reads x (after x (fresh_card 3 6 320) create_long)
     ≡ (0 ∷ 0x9000 ∷ replicate 256 0xFF) ∷ (0 ∷ 0x6700 ∷ 0xAA ∷ []) ∷ (0 ∷ 0x9000 ∷ (replicate 255 0xFF ++ (0xAA ∷ []))) ∷ []
 
 -- UPDATE BINARY of 6F07, and DELETE
 abbrev pub writes : Sets → Card → List (List ℕ)
 writes x k =
     -- three bytes; the last byte; one past it; from the end on; a record; the file deleted
-    wrote x k (updateBinary 1 (0x11 ∷ 0x22 ∷ 0x33 ∷ [])) ∷ wrote x k (updateBinary 3 (0x44 ∷ []))
-    ∷ wrote x k (updateBinary 3 (0x44 ∷ 0x55 ∷ [])) ∷ wrote x k (updateBinary 4 (0x44 ∷ [])) ∷ wrote x k (updateRecord 1 (replicate 4 0x11))
-    ∷ wrote x k (deleteFile 0x6F 0x07)
+    wrote x k (update_binary 1 (0x11 ∷ 0x22 ∷ 0x33 ∷ [])) ∷ wrote x k (update_binary 3 (0x44 ∷ []))
+    ∷ wrote x k (update_binary 3 (0x44 ∷ 0x55 ∷ [])) ∷ wrote x k (update_binary 4 (0x44 ∷ [])) ∷ wrote x k (update_record 1 (replicate 4 0x11))
+    ∷ wrote x k (delete_file 0x6F 0x07)
     -- what was written is read
-    ∷ said x (after x k (updateBinary 1 (0x11 ∷ 0x22 ∷ 0x33 ∷ []))) 4 (readBinary 0 4)
+    ∷ said x (after x k (update_binary 1 (0x11 ∷ 0x22 ∷ 0x33 ∷ []))) 4 (read_binary 0 4)
     ∷ []
 
 abbrev pub BinaryWritten : Type 0
 BinaryWritten =
-    (x : Sets) → writes x (bytesIn x 3)
+    (x : Sets) → writes x (bytes_in x 3)
     ≡ (0x9000 ∷ 0xFF ∷ 0x11 ∷ 0x22 ∷ 0x33 ∷ 0x00 ∷ []) ∷ (0x9000 ∷ 0xFF ∷ 0xFF ∷ 0xFF ∷ 0x44 ∷ 0x00 ∷ [])
     ∷ stayed 0x6700 ∷ stayed 0x6B00 ∷ stayed 0x6981
     ∷ (0x9000 ∷ replicate 5 0x00)
@@ -128,17 +125,17 @@ BinaryWritten =
 abbrev pub records : Sets → Card → List (List ℕ)
 records x k =
     -- record 2 is updated; then 1 and 2 are read
-    wrote x k (updateRecord 2 (0x11 ∷ 0x22 ∷ [])) ∷ said x (after x k (updateRecord 2 (0x11 ∷ 0x22 ∷ []))) 2 (readRecord 1 2)
-    ∷ said x (after x k (updateRecord 2 (0x11 ∷ 0x22 ∷ []))) 2 (readRecord 2 2)
+    wrote x k (update_record 2 (0x11 ∷ 0x22 ∷ [])) ∷ said x (after x k (update_record 2 (0x11 ∷ 0x22 ∷ []))) 2 (read_record 1 2)
+    ∷ said x (after x k (update_record 2 (0x11 ∷ 0x22 ∷ []))) 2 (read_record 2 2)
     -- no record 0 or 3; a record has neither one byte nor three; no bytes of it all
-    ∷ wrote x k (readRecord 0 2) ∷ wrote x k (readRecord 3 2) ∷ wrote x k (updateRecord 3 (0x11 ∷ 0x22 ∷ []))
-    ∷ wrote x k (readRecord 1 1) ∷ wrote x k (readRecord 1 3) ∷ wrote x k (updateRecord 1 (0x11 ∷ []))
-    ∷ wrote x k (readBinary 0 2) ∷ wrote x k (updateBinary 0 (0x11 ∷ 0x22 ∷ []))
+    ∷ wrote x k (read_record 0 2) ∷ wrote x k (read_record 3 2) ∷ wrote x k (update_record 3 (0x11 ∷ 0x22 ∷ []))
+    ∷ wrote x k (read_record 1 1) ∷ wrote x k (read_record 1 3) ∷ wrote x k (update_record 1 (0x11 ∷ []))
+    ∷ wrote x k (read_binary 0 2) ∷ wrote x k (update_binary 0 (0x11 ∷ 0x22 ∷ []))
     ∷ []
 
 abbrev pub RecordsTold : Type 0
 RecordsTold =
-    (x : Sets) → records x (recordsIn x)
+    (x : Sets) → records x (records_in x)
     ≡ (0x9000 ∷ 0xFF ∷ 0xFF ∷ 0x11 ∷ 0x22 ∷ 0x00 ∷ []) ∷ (0 ∷ 0x9000 ∷ 0xFF ∷ 0xFF ∷ []) ∷ (0 ∷ 0x9000 ∷ 0x11 ∷ 0x22 ∷ [])
     ∷ stayed 0x6A83 ∷ stayed 0x6A83 ∷ stayed 0x6A83
     ∷ stayed 0x6700 ∷ stayed 0x6700 ∷ stayed 0x6700
@@ -147,75 +144,75 @@ RecordsTold =
 
 -- a READ and an UPDATE of four bytes
 abbrev pub tried : Sets → Card → List (List ℕ)
-tried x k = said x k 4 (readBinary 0 4) ∷ wrote x k (updateBinary 0 (replicate 4 0x11)) ∷ []
+tried x k = said x k 4 (read_binary 0 4) ∷ wrote x k (update_binary 0 (replicate 4 0x11)) ∷ []
 
 abbrev pub refused : ℕ → List (List ℕ)
 refused w = (0 ∷ w ∷ replicate 4 0xAA) ∷ stayed w ∷ []
 
 -- the same card with another life cycle in slot s
-abbrev pub lifeIn : Card → ℕ → ℕ → Card
-lifeIn k s l = record { image = setLife (k .image) s l; pool = k .pool }
+abbrev pub life_in : Card → ℕ → ℕ → Card
+life_in k s l = record { image = set_life k.image s l; pool = k.pool }
 
 -- the EF is deactivated, is activated by 07, is initialized only; the DF above is terminated; no EF is current; a card of version 2 does
 -- not know the commands, and its pool stays
 abbrev pub StatesTried : Type 0
 StatesTried =
     (x : Sets)
-    → (tried x (after x (bytesIn x 3) deactivateFile) ≡ refused 0x6985)
-    × (tried x (lifeIn (bytesIn x 3) 1 0x07) ≡ (0 ∷ 0x9000 ∷ replicate 4 0xFF) ∷ (0x9000 ∷ (replicate 4 0x11 ++ (0x00 ∷ []))) ∷ [])
-    × (tried x (lifeIn (bytesIn x 3) 1 0x03) ≡ refused 0x6985)
-    × (tried x (lifeIn (bytesIn x 3) 0 0x0C) ≡ refused 0x6985)
-    × (tried x (after x (bytesIn x 3) (selectFile 0x3F 0x00)) ≡ refused 0x6986)
-    × (tried x (bytesIn x 2) ≡ (0 ∷ 0x6D00 ∷ replicate 4 0xAA) ∷ (0x6D00 ∷ replicate 5 0x00) ∷ [])
+    → (tried x (after x (bytes_in x 3) deactivate_file) ≡ refused 0x6985)
+    × (tried x (life_in (bytes_in x 3) 1 0x07) ≡ (0 ∷ 0x9000 ∷ replicate 4 0xFF) ∷ (0x9000 ∷ (replicate 4 0x11 ++ (0x00 ∷ []))) ∷ [])
+    × (tried x (life_in (bytes_in x 3) 1 0x03) ≡ refused 0x6985)
+    × (tried x (life_in (bytes_in x 3) 0 0x0C) ≡ refused 0x6985)
+    × (tried x (after x (bytes_in x 3) (select_file 0x3F 0x00)) ≡ refused 0x6986)
+    × (tried x (bytes_in x 2) ≡ (0 ∷ 0x6D00 ∷ replicate 4 0xAA) ∷ (0x6D00 ∷ replicate 5 0x00) ∷ [])
 
 -- READ and UPDATE of the one byte of 6F07, where the rule never opens b1, and where it never opens b2
-abbrev pub byRight : Sets → Card → List (List ℕ)
-byRight x k = said x k 1 (readBinary 0 1) ∷ wrote x k (updateBinary 0 (0x11 ∷ [])) ∷ []
+abbrev pub by_right : Sets → Card → List (List ℕ)
+by_right x k = said x k 1 (read_binary 0 1) ∷ wrote x k (update_binary 0 (0x11 ∷ [])) ∷ []
 
 abbrev pub RightsAsked : Type 0
 RightsAsked =
     (x : Sets)
-    → (byRight x (ruledIn x (0 ∷ 0 ∷ 0 ∷ 0 ∷ 0 ∷ 0 ∷ 0xFF ∷ [])) ≡ (0 ∷ 0x6982 ∷ 0xAA ∷ []) ∷ (0x9000 ∷ 0x11 ∷ replicate 4 0x00) ∷ [])
-    × (byRight x (ruledIn x (0 ∷ 0 ∷ 0 ∷ 0 ∷ 0 ∷ 0xFF ∷ 0 ∷ [])) ≡ (0 ∷ 0x9000 ∷ 0xFF ∷ []) ∷ (0x6982 ∷ 0xFF ∷ replicate 4 0x00) ∷ [])
+    → (by_right x (ruled_in x (0 ∷ 0 ∷ 0 ∷ 0 ∷ 0 ∷ 0 ∷ 0xFF ∷ [])) ≡ (0 ∷ 0x6982 ∷ 0xAA ∷ []) ∷ (0x9000 ∷ 0x11 ∷ replicate 4 0x00) ∷ [])
+    × (by_right x (ruled_in x (0 ∷ 0 ∷ 0 ∷ 0 ∷ 0 ∷ 0xFF ∷ 0 ∷ [])) ≡ (0 ∷ 0x9000 ∷ 0xFF ∷ []) ∷ (0x6982 ∷ 0xFF ∷ replicate 4 0x00) ∷ [])
 
 -- a SELECT that is lent another pool
 abbrev pub lent : Sets → Card → List ℕ → List ℕ
-lent x k pool = said x (record { image = k .image; pool = pool }) 0 (selectFile 0x6F 0x07)
+lent x k pool = said x (record { image = k.image; pool = pool }) 0 (select_file 0x6F 0x07)
 
 -- of the right length, a byte less, a byte more; damage comes first; a card of version 2 takes any
 abbrev pub PoolsLent : Type 0
 PoolsLent =
     (x : Sets)
-    → (lent x (bytesIn x 3) (replicate 128 0x00) ≡ 0 ∷ 0x9000 ∷ [])
-    × (lent x (bytesIn x 3) (replicate 127 0x00) ≡ 6 ∷ 0x0000 ∷ [])
-    × (lent x (bytesIn x 3) (replicate 129 0x00) ≡ 6 ∷ 0x0000 ∷ [])
-    × (lent x (lifeIn (bytesIn x 3) 0 0x0D) (replicate 127 0x00) ≡ 1 ∷ 0x0000 ∷ [])
-    × (lent x (bytesIn x 2) (replicate 127 0x00) ≡ 0 ∷ 0x9000 ∷ [])
+    → (lent x (bytes_in x 3) (replicate 128 0x00) ≡ 0 ∷ 0x9000 ∷ [])
+    × (lent x (bytes_in x 3) (replicate 127 0x00) ≡ 6 ∷ 0x0000 ∷ [])
+    × (lent x (bytes_in x 3) (replicate 129 0x00) ≡ 6 ∷ 0x0000 ∷ [])
+    × (lent x (life_in (bytes_in x 3) 0 0x0D) (replicate 127 0x00) ≡ 1 ∷ 0x0000 ∷ [])
+    × (lent x (bytes_in x 2) (replicate 127 0x00) ≡ 0 ∷ 0x9000 ∷ [])
 
 -- CREATE FILE of 6F03, of so many bytes
-abbrev pub createThird : ℕ → List ℕ
-createThird size = createFile 0x6F 0x03 0x05 size
+abbrev pub create_third : ℕ → List ℕ
+create_third size = create_file 0x6F 0x03 0x05 size
 
 -- a pool of 261 bytes: 6F01 of 130 bytes was created, then 6F02 of two, and 6F01 deleted. 41 42 lie between gaps of 130 and 129 bytes,
 -- and there is room for 131 bytes
 abbrev pub gapped : Sets → Card
 gapped x =
-    after x (after x (after x (after x (freshCard 3 6 261) (createFile 0x6F 0x01 0x05 130)) (createFile 0x6F 0x02 0x05 2))
-    (updateBinary 0 (0x41 ∷ 0x42 ∷ []))) (deleteFile 0x6F 0x01)
+    after x (after x (after x (after x (fresh_card 3 6 261) (create_file 0x6F 0x01 0x05 130)) (create_file 0x6F 0x02 0x05 2))
+    (update_binary 0 (0x41 ∷ 0x42 ∷ []))) (delete_file 0x6F 0x01)
 
 -- where 6F03, in slot 1, and 6F02, in slot 2, start; bytes 0 to 2 and 129 to 133 of the pool
-abbrev pub inTwo : Card → List ℕ
-inTwo k = startAt (k .image) 1 ∷ startAt (k .image) 2 ∷ (part (k .pool) 0 3 ++ part (k .pool) 129 5)
+abbrev pub in_two : Card → List ℕ
+in_two k = start_at k.image 1 ∷ start_at k.image 2 ∷ (part k.pool 0 3 ++ part k.pool 129 5)
 
 -- the word of CREATE, and that afterwards
 abbrev pub moved : Sets → Card → ℕ → List ℕ
-moved x k size = answerWord (replyOf (k .image) (k .pool) (createThird size) (with x) 0) ∷ inTwo (after x k (createThird size))
+moved x k size = answer_word (reply_of k.image k.pool (create_third size) (with x) 0) ∷ in_two (after x k (create_third size))
 
 -- the lowest gap fits; none fits, and 6F02 is moved down; there is no room; what is moved reads the same
 abbrev pub moves : Sets → Card → List (List ℕ)
 moves x k =
     moved x k 130 ∷ moved x k 131 ∷ moved x k 132
-    ∷ said x (after x (after x k (createThird 131)) (selectFile 0x6F 0x02)) 2 (readBinary 0 2)
+    ∷ said x (after x (after x k (create_third 131)) (select_file 0x6F 0x02)) 2 (read_binary 0 2)
     ∷ []
 
 abbrev pub BodiesMoved : Type 0
@@ -231,19 +228,19 @@ BodiesMoved =
 abbrev pub spread : Sets → Card
 spread x = record {
   image =
-      setStart (setStart (after x (after x (freshCard 3 6 303) (createFile 0x6F 0x01 0x05 2)) (createFile 0x6F 0x02 0x05 1) .image) 1 201) 2
+      set_start (set_start (after x (after x (fresh_card 3 6 303) (create_file 0x6F 0x01 0x05 2)) (create_file 0x6F 0x02 0x05 1)).image 1 201) 2
       100;
   pool = splice (splice (splice (replicate 303 0x00) 100 (0x31 ∷ [])) 201 (0x41 ∷ 0x42 ∷ [])) 250 (0x99 ∷ []);
 }
 
 -- where the three start; bytes 0 to 3, 100 to 104, 201, 202 and 250 of the pool
-abbrev pub inThree : Card → List ℕ
-inThree k =
-    startAt (k .image) 1 ∷ startAt (k .image) 2 ∷ startAt (k .image) 3
-    ∷ (part (k .pool) 0 4 ++ (part (k .pool) 100 5 ++ (part (k .pool) 201 2 ++ part (k .pool) 250 1)))
+abbrev pub in_three : Card → List ℕ
+in_three k =
+    start_at k.image 1 ∷ start_at k.image 2 ∷ start_at k.image 3
+    ∷ (part k.pool 0 4 ++ (part k.pool 100 5 ++ (part k.pool 201 2 ++ part k.pool 250 1)))
 
 abbrev pub packed : Sets → Card → ℕ → List ℕ
-packed x k size = answerWord (replyOf (k .image) (k .pool) (createThird size) (with x) 0) ∷ inThree (after x k (createThird size))
+packed x k size = answer_word (reply_of k.image k.pool (create_third size) (with x) 0) ∷ in_three (after x k (create_third size))
 
 abbrev pub packs : Sets → Card → List (List ℕ)
 packs x k = packed x k 100 ∷ packed x k 101 ∷ []

@@ -1,10 +1,7 @@
 -- A fresh card byte by byte (01 "Image", "Making and reporting"): the card of two slots whose root has a total of 64 and allows
 -- everything. The card's own life-cycle byte stands in it as 05.
-use Prim.Native.Nat.{ℕ}
-use mathlib.Core.Path.{_≡_}
-use mathlib.Core.List.{List, [], _∷_, _++_}
-use lib.ListN.{replicate}
-use Rattle·rows·specs.specs.Calls.{card}
+use Rattle.std.specs.Prelude.{ℕ, ◌≡◌, List, [], ◌∷◌, ◌++◌, replicate}
+use Rattle.rows.specs.Calls.{card}
 
 -- mark, version, slot count, current DF, current EF, zeros
 abbrev pub header : List ℕ

@@ -1,11 +1,9 @@
 -- Every life-cycle byte of 01 and 02 through whole calls, and five that are none: which word each command gives, and which byte it
 -- leaves (01 "SELECT" to "TERMINATE", 02 Ticket 1). A file that was refused leaves a free record, whose byte is 00.
-use Prim.Native.Nat.{ℕ}
-use mathlib.Core.Path.{_≡_}
-use mathlib.Core.List.{List, [], _∷_}
-use Rattle·rules.specs.declared.Sets.{Sets}
-use Rattle·rows·specs.specs.Calls.{word, left, life, card, createFile, selectFile, activateFile, deactivateFile}
-use Rattle·rows·specs.specs.Calls.{terminateEf, terminateDf, terminateCard, rootIn, efIn, dfIn}
+use Rattle.std.specs.Prelude.{ℕ, ◌≡◌, List, [], ◌∷◌}
+use Rattle.rules.specs.declared.Sets.{Sets}
+use Rattle.rows.specs.Calls.{word, left, life, card, create_file, select_file, activate_file, deactivate_file}
+use Rattle.rows.specs.Calls.{terminate_ef, terminate_df, terminate_card, root_in, ef_in, df_in}
 
 -- the word of a command, and the life cycle that it leaves in slot s
 abbrev pub both : Sets → List ℕ → List ℕ → ℕ → List ℕ → List ℕ
@@ -13,23 +11,23 @@ both x img c s rest = word x img c ∷ life (left x img c) s ∷ rest
 
 -- CREATE of a file that is to have the byte; SELECT, ACTIVATE, DEACTIVATE and TERMINATE of an EF that has it; CREATE in a directory
 -- that has it, and TERMINATE of it; SELECT and TERMINATE CARD USAGE where the root has it
-abbrev pub livesBy : Sets → ℕ → List ℕ
-livesBy x l =
-    both x (card 1 3 128) (createFile 0x6F 0x07 l 64) 1
-    (word x (efIn 1 x l) (selectFile 0x6F 0x07)
-    ∷ both x (efIn 1 x l) activateFile 1
-    (both x (efIn 1 x l) deactivateFile 1
-    (both x (efIn 1 x l) terminateEf 1
-    (word x (dfIn 1 x l) (createFile 0x6F 0x07 0x05 1)
-    ∷ both x (dfIn 1 x l) terminateDf 1
-    (word x (rootIn 1 l) (selectFile 0x3F 0x00)
-    ∷ both x (rootIn 1 l) terminateCard 0
+abbrev pub lives_by : Sets → ℕ → List ℕ
+lives_by x l =
+    both x (card 1 3 128) (create_file 0x6F 0x07 l 64) 1
+    (word x (ef_in 1 x l) (select_file 0x6F 0x07)
+    ∷ both x (ef_in 1 x l) activate_file 1
+    (both x (ef_in 1 x l) deactivate_file 1
+    (both x (ef_in 1 x l) terminate_ef 1
+    (word x (df_in 1 x l) (create_file 0x6F 0x07 0x05 1)
+    ∷ both x (df_in 1 x l) terminate_df 1
+    (word x (root_in 1 l) (select_file 0x3F 0x00)
+    ∷ both x (root_in 1 l) terminate_card 0
     [])))))
 
 abbrev pub lives : Sets → List (List ℕ)
 lives x =
-    livesBy x 0x01 ∷ livesBy x 0x03 ∷ livesBy x 0x04 ∷ livesBy x 0x05 ∷ livesBy x 0x06 ∷ livesBy x 0x07 ∷ livesBy x 0x0C
-    ∷ livesBy x 0x00 ∷ livesBy x 0x02 ∷ livesBy x 0x0D ∷ livesBy x 0x0E ∷ livesBy x 0x0F ∷ []
+    lives_by x 0x01 ∷ lives_by x 0x03 ∷ lives_by x 0x04 ∷ lives_by x 0x05 ∷ lives_by x 0x06 ∷ lives_by x 0x07 ∷ lives_by x 0x0C
+    ∷ lives_by x 0x00 ∷ lives_by x 0x02 ∷ lives_by x 0x0D ∷ lives_by x 0x0E ∷ lives_by x 0x0F ∷ []
 
 abbrev pub told : List (List ℕ)
 told =

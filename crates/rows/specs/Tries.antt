@@ -1,16 +1,14 @@
 -- SELECT tries the root, the current DF, its parent, its children, then DFs beside it; the first match wins (01 "SELECT"): on one
 -- card, whole calls from its bytes. A row is an identifier that is sent, and the word, the current DF and the current EF that
 -- follow.
-use Prim.Native.Nat.{ℕ}
-use mathlib.Core.Path.{_≡_}
-use mathlib.Core.List.{List, [], _∷_}
-use Rattle·rules.specs.declared.Sets.{Sets}
-use Rattle·image.specs.Layout.{currentDfOf, currentEfOf}
-use Rattle·rows·specs.specs.Calls.{word, left, card, createFile, createDf, selectFile}
+use Rattle.std.specs.Prelude.{ℕ, ◌≡◌, List, [], ◌∷◌}
+use Rattle.rules.specs.declared.Sets.{Sets}
+use Rattle.image.specs.Layout.{current_df_of, current_ef_of}
+use Rattle.rows.specs.Calls.{word, left, card, create_file, create_df, select_file}
 
 -- CREATE FILE of an EF of one byte
-abbrev pub createByte : ℕ → ℕ → List ℕ
-createByte high low = createFile high low 0x05 1
+abbrev pub create_byte : ℕ → ℕ → List ℕ
+create_byte high low = create_file high low 0x05 1
 
 abbrev pub after : Sets → List ℕ → List (List ℕ) → List ℕ
 after x img [] = img
@@ -21,31 +19,31 @@ after x img (c ∷ rest) = after x (left x img c) rest
 abbrev pub nested : Sets → List ℕ
 nested x =
     after x (card 1 9 512)
-    (createDf 0x7F 0x10 200
-    ∷ selectFile 0x3F 0x00 ∷ createByte 0x2F 0x00
-    ∷ createDf 0x7F 0x20 32
-    ∷ selectFile 0x7F 0x10 ∷ createByte 0x7F 0x20
-    ∷ createDf 0x7F 0x11 32
+    (create_df 0x7F 0x10 200
+    ∷ select_file 0x3F 0x00 ∷ create_byte 0x2F 0x00
+    ∷ create_df 0x7F 0x20 32
+    ∷ select_file 0x7F 0x10 ∷ create_byte 0x7F 0x20
+    ∷ create_df 0x7F 0x11 32
     ∷ [])
 
 abbrev pub answer : Sets → List ℕ → List ℕ → List ℕ
-answer x img c = word x img c ∷ currentDfOf (left x img c) ∷ currentEfOf (left x img c) ∷ []
+answer x img c = word x img c ∷ current_df_of (left x img c) ∷ current_ef_of (left x img c) ∷ []
 
 -- from 7F11: root, itself, its parent; nothing that lies higher or beside its parent. From 7F10: its child wins over the DF beside;
 -- its child DF; an EF beside is not found. From 7F20: the DF beside
 abbrev pub tried : Sets → List (List ℕ)
 tried x =
     let here : List ℕ = nested x in
-    let up : List ℕ = left x here (selectFile 0x7F 0x10) in
-    let beside : List ℕ = left x (left x here (selectFile 0x3F 0x00)) (selectFile 0x7F 0x20) in
-    answer x here (selectFile 0x3F 0x00)
-    ∷ answer x here (selectFile 0x7F 0x11)
-    ∷ answer x here (selectFile 0x7F 0x10)
-    ∷ answer x here (selectFile 0x7F 0x20)
-    ∷ answer x up (selectFile 0x7F 0x20)
-    ∷ answer x up (selectFile 0x7F 0x11)
-    ∷ answer x up (selectFile 0x2F 0x00)
-    ∷ answer x beside (selectFile 0x7F 0x10)
+    let up : List ℕ = left x here (select_file 0x7F 0x10) in
+    let beside : List ℕ = left x (left x here (select_file 0x3F 0x00)) (select_file 0x7F 0x20) in
+    answer x here (select_file 0x3F 0x00)
+    ∷ answer x here (select_file 0x7F 0x11)
+    ∷ answer x here (select_file 0x7F 0x10)
+    ∷ answer x here (select_file 0x7F 0x20)
+    ∷ answer x up (select_file 0x7F 0x20)
+    ∷ answer x up (select_file 0x7F 0x11)
+    ∷ answer x up (select_file 0x2F 0x00)
+    ∷ answer x beside (select_file 0x7F 0x10)
     ∷ []
 
 abbrev pub found : List (List ℕ)

@@ -1,11 +1,6 @@
 -- One group of a compact rule: an AM byte and one SC byte per set bit of b7-b1, highest first. It unpacks
 -- into seven condition slots: slot 0 is b7, slot 6 is b1 (01 "Descriptor and rules").
-use Prim.Native.Nat.{ℕ, zero, suc, _/_, _%_, _+_, _<_}
-use mathlib.Core.Path.{_≡_}
-use mathlib.Core.Bool.{Bool, false, cond, _||_}
-use mathlib.Core.List.{List, [], _∷_}
-use lib.ListN.{length, getD}
-use lib.Dec.{eqb, ltb}
+use Rattle.std.specs.Prelude.{ℕ, zero, suc, ◌/◌, ◌%◌, ◌+◌, ◌<◌, ◌≡◌, Bool, false, cond, ◌||◌, List, [], ◌∷◌, length, get_or, eqb, ltb}
 
 -- whether the AM byte has the bit of slot 0 (b7), .., of slot 6 (b1): 1 or 0
 abbrev pub b7 : ℕ → ℕ
@@ -30,41 +25,41 @@ abbrev pub b1 : ℕ → ℕ
 b1 am = am % 2
 
 -- the SC byte at a place, for a bit that is set; FF, never, for one that is not, and past the end of the rule
-unfoldable pub scAt : List ℕ → ℕ → ℕ → ℕ
-scAt rule at on = cond (eqb on 1) (cond (ltb at (length rule)) (getD rule at 0) 0xFF) 0xFF
+unfoldable pub sc_at : List ℕ → ℕ → ℕ → ℕ
+sc_at rule at on = cond (eqb on 1) (cond (ltb at (length rule)) (get_or rule at 0) 0xFF) 0xFF
 
 -- the seven slots of the group at `at`: each SC byte stands after those of the higher bits
-unfoldable pub slotsOf : List ℕ → ℕ → List ℕ
-slotsOf rule at =
-    let am : ℕ = getD rule at 0 in
-    scAt rule (at + 1) (b7 am)
-    ∷ scAt rule (at + 1 + b7 am) (b6 am)
-    ∷ scAt rule (at + 1 + b7 am + b6 am) (b5 am)
-    ∷ scAt rule (at + 1 + b7 am + b6 am + b5 am) (b4 am)
-    ∷ scAt rule (at + 1 + b7 am + b6 am + b5 am + b4 am) (b3 am)
-    ∷ scAt rule (at + 1 + b7 am + b6 am + b5 am + b4 am + b3 am) (b2 am)
-    ∷ scAt rule (at + 1 + b7 am + b6 am + b5 am + b4 am + b3 am + b2 am) (b1 am)
+unfoldable pub slots_of : List ℕ → ℕ → List ℕ
+slots_of rule at =
+    let am : ℕ = get_or rule at 0 in
+    sc_at rule (at + 1) (b7 am)
+    ∷ sc_at rule (at + 1 + b7 am) (b6 am)
+    ∷ sc_at rule (at + 1 + b7 am + b6 am) (b5 am)
+    ∷ sc_at rule (at + 1 + b7 am + b6 am + b5 am) (b4 am)
+    ∷ sc_at rule (at + 1 + b7 am + b6 am + b5 am + b4 am) (b3 am)
+    ∷ sc_at rule (at + 1 + b7 am + b6 am + b5 am + b4 am + b3 am) (b2 am)
+    ∷ sc_at rule (at + 1 + b7 am + b6 am + b5 am + b4 am + b3 am + b2 am) (b1 am)
     ∷ []
 
 -- the place after the group at `at`: past its AM byte and one SC byte per set bit
-unfoldable pub nextOf : List ℕ → ℕ → ℕ
-nextOf rule at =
-    let am : ℕ = getD rule at 0 in
+unfoldable pub next_of : List ℕ → ℕ → ℕ
+next_of rule at =
+    let am : ℕ = get_or rule at 0 in
     at + 1 + b7 am + b6 am + b5 am + b4 am + b3 am + b2 am + b1 am
 
 -- how many bytes the group of an AM byte has; none where b8 is set
-unfoldable pub groupLength : ℕ → ℕ
-groupLength am = cond (ltb am 128) (1 + b7 am + b6 am + b5 am + b4 am + b3 am + b2 am + b1 am) 0
+unfoldable pub group_length : ℕ → ℕ
+group_length am = cond (ltb am 128) (1 + b7 am + b6 am + b5 am + b4 am + b3 am + b2 am + b1 am) 0
 
 -- a table of these lengths for all bytes
 pub record Lengths (table : List ℕ) : Type 0 where
-  pub right : (am : ℕ) → am < 256 → getD table am 0 ≡ groupLength am
+  pub right : (am : ℕ) → am < 256 → get_or table am 0 ≡ group_length am
 
 -- p holds of one of the groups from `at` on; the first number bounds them
-abbrev pub someFrom : ℕ → (ℕ → Bool) → List ℕ → ℕ → Bool
-someFrom zero p rule at = false
-someFrom (suc more) p rule at = cond (ltb at (length rule)) (p at || someFrom more p rule (nextOf rule at)) false
+abbrev pub some_from : ℕ → (ℕ → Bool) → List ℕ → ℕ → Bool
+some_from zero p rule at = false
+some_from (suc more) p rule at = cond (ltb at (length rule)) (p at || some_from more p rule (next_of rule at)) false
 
 -- p holds of one of the groups of the rule, which has at most as many groups as bytes
-unfoldable pub someGroup : (ℕ → Bool) → List ℕ → Bool
-someGroup p rule = someFrom (suc (length rule)) p rule 0
+unfoldable pub some_group : (ℕ → Bool) → List ℕ → Bool
+some_group p rule = some_from (suc (length rule)) p rule 0

@@ -1,22 +1,22 @@
 // A security condition: an SC byte against the three sets that the caller gives (01 "Descriptor and
 // rules", SC).
-ghost use mathlib.Core.Path.{_≡_};
-ghost use Prim.Native.Nat.{_<_};
-ghost use Rattle·rules·specs.specs.Condition.{bit, met, fulfilled, allOf, oneOf, holdsOf};
+ghost use Rattle.std.specs.Prelude.{◌≡◌, ◌<◌};
+ghost use Rattle.rules.specs.Condition.{bit, met, fulfilled, all_of, one_of, holds_of};
+
 use crate::Sets;
 
 // Bit n of a set of sixteen.
 fn has(set: u16, n: u16) -> bool
-    requires { ⌜ n < 16 ⌝ }
-    ensures { λ r. ⌜ r ≡ bit set n ⌝ }
+    requires { n < 16 }
+    ensures { result ≡ bit set n }
 {
     (set >> n) % 2 == 1
 }
 
 // A condition that is named (1), and holds at n.
 fn is_met(named: u8, set: u16, n: u16) -> bool
-    requires { ⌜ n < 16 ⌝ }
-    ensures { λ r. ⌜ r ≡ met named set n ⌝ }
+    requires { n < 16 }
+    ensures { result ≡ met named set n }
 {
     if named != 1 {
         return false;
@@ -26,8 +26,8 @@ fn is_met(named: u8, set: u16, n: u16) -> bool
 
 // A condition that holds at n where it is named (1).
 fn is_fulfilled(named: u8, set: u16, n: u16) -> bool
-    requires { ⌜ n < 16 ⌝ }
-    ensures { λ r. ⌜ r ≡ fulfilled named set n ⌝ }
+    requires { n < 16 }
+    ensures { result ≡ fulfilled named set n }
 {
     if named != 1 {
         return true;
@@ -37,7 +37,7 @@ fn is_fulfilled(named: u8, set: u16, n: u16) -> bool
 
 // Of the named conditions, all hold.
 fn all_of(sc: u8, sets: Sets) -> bool
-    ensures { λ r. ⌜ r ≡ allOf sc sets ⌝ }
+    ensures { result ≡ all_of sc sets }
 {
     let n = (sc % 16) as u16;
     if !is_fulfilled(sc / 64 % 2, sets.messaging, n) {
@@ -51,7 +51,7 @@ fn all_of(sc: u8, sets: Sets) -> bool
 
 // Of the named conditions, one holds.
 fn one_of(sc: u8, sets: Sets) -> bool
-    ensures { λ r. ⌜ r ≡ oneOf sc sets ⌝ }
+    ensures { result ≡ one_of sc sets }
 {
     let n = (sc % 16) as u16;
     if is_met(sc / 64 % 2, sets.messaging, n) {
@@ -65,7 +65,7 @@ fn one_of(sc: u8, sets: Sets) -> bool
 
 // Whether the sets satisfy an SC byte.
 pub fn holds(sc: u8, sets: Sets) -> bool
-    ensures { λ r. ⌜ r ≡ holdsOf sc sets ⌝ }
+    ensures { result ≡ holds_of sc sets }
 {
     if sc == 0x00 {
         return true;

@@ -1,11 +1,13 @@
 // The file descriptor byte (01, Table 7): its class by one table of all 256 bytes, and whether its
 // structure has records.
-ghost use mathlib.Core.Path.{_≡_};
-ghost use Rattle·rules·specs.specs.Descriptor.{classOf, Classes, hasRecords};
+ghost use Rattle.std.specs.Prelude.{◌≡◌};
+ghost use Rattle.rules.specs.Descriptor.{class_of, Classes, has_records};
 
 // The classes, by the numbers of a record's kind.
 pub const NEITHER: u8 = 0;
+
 pub const DF: u8 = 1;
+
 pub const EF: u8 = 2;
 
 // The class of each descriptor byte.
@@ -31,14 +33,14 @@ const CLASS: [u8; 256] = [
 // The table, right at each of its entries by one test; for a caller that asks often and lends it, since it is built again
 // at each use.
 pub fn classes() -> [u8; 256]
-    ensures { λ r. ⌜ Classes r ⌝ }
+    ensures { Classes result }
 {
     CLASS
 }
 
 // The class of a byte.
 pub fn class(d: u8) -> u8
-    ensures { λ r. ⌜ r ≡ classOf d ⌝ }
+    ensures { result ≡ class_of d }
 {
     let table = classes();
     let i = d as usize;
@@ -47,7 +49,7 @@ pub fn class(d: u8) -> u8
 
 // Whether the structure is linear fixed or cyclic.
 pub fn has_records(d: u8) -> bool
-    ensures { λ r. ⌜ r ≡ hasRecords d ⌝ }
+    ensures { result ≡ has_records d }
 {
     if d % 8 == 2 {
         return true;

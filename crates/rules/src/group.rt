@@ -1,10 +1,8 @@
 // One group of a compact rule: an AM byte and one SC byte for each of its set bits b7 to b1, the highest
 // first (01 "Descriptor and rules", compact rule). Total for any bytes: a group that runs past the end of
 // its rule has FF, never, for the SC bytes that are not there.
-ghost use mathlib.Core.Path.{_≡_};
-ghost use Prim.Native.Nat.{_+_, _<_};
-ghost use lib.ListN.{length};
-ghost use Rattle·rules·specs.specs.Group.{b7, b6, b5, b4, b3, b2, b1, scAt, slotsOf, nextOf, Lengths};
+ghost use Rattle.std.specs.Prelude.{◌≡◌, ◌+◌, ◌<◌, length};
+ghost use Rattle.rules.specs.Group.{b7, b6, b5, b4, b3, b2, b1, sc_at, slots_of, next_of, Lengths};
 
 // How many bytes the group of each AM byte has: itself and an SC byte for each set bit; 0 where b8 is set.
 const LENGTH: [u8; 256] = [
@@ -28,14 +26,14 @@ const LENGTH: [u8; 256] = [
 
 // The table, for a caller that asks often and lends it: it is built again at each use.
 pub fn lengths() -> [u8; 256]
-    ensures { λ r. ⌜ Lengths r ⌝ }
+    ensures { Lengths result }
 {
     LENGTH
 }
 
 // The SC byte at a place, for a bit that is set (1); FF, never, for one that is not.
 fn sc_at(rule: &[u8], at: usize, on: u8) -> u8
-    ensures { λ r. ⌜ r ≡ scAt (now (rule .entry)) at on ⌝ }
+    ensures { result ≡ sc_at rule.now at on }
 {
     if on != 1 {
         return 0xFF;
@@ -48,8 +46,8 @@ fn sc_at(rule: &[u8], at: usize, on: u8) -> u8
 
 // The seven condition slots of the group at `at`: slot 0 is b7, slot 6 is b1.
 pub fn unpack(rule: &[u8], at: usize) -> [u8; 7]
-    requires { ⌜ at < length (now rule) ⌝ }
-    ensures { λ r. ⌜ r ≡ slotsOf (now (rule .entry)) at ⌝ }
+    requires { at < length rule.now }
+    ensures { result ≡ slots_of rule.now at }
 {
     let am = rule[at];
     let b7 = at + 1;
@@ -73,7 +71,7 @@ pub fn unpack(rule: &[u8], at: usize) -> [u8; 7]
 // How many of the bits b7 to b1 are set, all at once: a product puts each of them alone into four bits of a
 // number, and a second one sums them up.
 fn set_bits(am: u8) -> usize
-    ensures { λ r. ⌜ (r ≡ b7 am + b6 am + b5 am + b4 am + b3 am + b2 am + b1 am) × (r < 16) ⌝ }
+    ensures { (result ≡ b7 am + b6 am + b5 am + b4 am + b3 am + b2 am + b1 am) × (result < 16) }
 {
     let seven = (am % 128) as u64;
     let alone = (seven * 0x08040201 / 8) & 0x11111111;
@@ -82,8 +80,8 @@ fn set_bits(am: u8) -> usize
 
 // The place after the group at `at`.
 pub fn next(rule: &[u8], at: usize) -> usize
-    requires { ⌜ at < length (now rule) ⌝ }
-    ensures { λ r. ⌜ r ≡ nextOf (now (rule .entry)) at ⌝ }
+    requires { at < length rule.now }
+    ensures { result ≡ next_of rule.now at }
 {
     at + 1 + set_bits(rule[at])
 }

@@ -13,6 +13,7 @@ pub mod value;
 
 // What the caller has authenticated: a set of environments for each kind of condition, bit n of a set
 // standing for environment n, bit 0 the lowest.
+#[derive(Drop)]
 pub struct Sets {
     pub messaging: u16,
     pub external: u16,
@@ -21,6 +22,7 @@ pub struct Sets {
 
 // What a rule is asked for: the bits b7 to b1 of its AM bytes, in that order; then the bits that mean another thing in an EF, b2 and b1
 // (02 Ticket 4).
+#[derive(Drop)]
 pub enum Right {
     DeleteSelf,
     Terminate,

@@ -1,6 +1,6 @@
 // The life-cycle byte, only through its class (01 "Image", offset 2; 01 "CREATE" and "ACTIVATE"; 02 Ticket 1).
-ghost use mathlib.Core.Path.{_≡_};
-ghost use Rattle·rules·specs.specs.Life.{lifeOf, knownLife, newLife, isActivated, isDeactivated, isTerminated, canActivate};
+ghost use Rattle.std.specs.Prelude.{◌≡◌};
+ghost use Rattle.rules.specs.Life.{life_of, known_life, new_life, is_activated, is_deactivated, is_terminated, can_activate};
 
 // The bytes that the card itself writes.
 pub const ACTIVATED_BYTE: u8 = 0x05;
@@ -24,7 +24,7 @@ pub const TERMINATED: u16 = 0x105;
 
 // The class of a life-cycle byte. Only here is such a byte compared with a number.
 pub fn class(x: u8) -> u16
-    ensures { λ r. ⌜ r ≡ lifeOf x ⌝ }
+    ensures { result ≡ life_of x }
 {
     if x == 0x01 {
         return CREATION;
@@ -52,14 +52,14 @@ pub fn class(x: u8) -> u16
 
 // A byte that a record may hold.
 pub fn is_known(x: u8) -> bool
-    ensures { λ r. ⌜ r ≡ knownLife x ⌝ }
+    ensures { result ≡ known_life x }
 {
     class(x) != NO_LIFE
 }
 
 // A byte that CREATE FILE takes for a new file.
 pub fn is_new(x: u8) -> bool
-    ensures { λ r. ⌜ r ≡ newLife x ⌝ }
+    ensures { result ≡ new_life x }
 {
     if !is_known(x) {
         return false;
@@ -68,26 +68,26 @@ pub fn is_new(x: u8) -> bool
 }
 
 pub fn is_activated(x: u8) -> bool
-    ensures { λ r. ⌜ r ≡ isActivated x ⌝ }
+    ensures { result ≡ is_activated x }
 {
     class(x) == ACTIVATED
 }
 
 pub fn is_deactivated(x: u8) -> bool
-    ensures { λ r. ⌜ r ≡ isDeactivated x ⌝ }
+    ensures { result ≡ is_deactivated x }
 {
     class(x) == DEACTIVATED
 }
 
 pub fn is_terminated(x: u8) -> bool
-    ensures { λ r. ⌜ r ≡ isTerminated x ⌝ }
+    ensures { result ≡ is_terminated x }
 {
     class(x) == TERMINATED
 }
 
 // A file that ACTIVATE FILE takes to activated.
 pub fn can_activate(x: u8) -> bool
-    ensures { λ r. ⌜ r ≡ canActivate x ⌝ }
+    ensures { result ≡ can_activate x }
 {
     let l = class(x);
     if l == CREATION {

@@ -1,18 +1,14 @@
 // Compact access rules (01 "Descriptor and rules"): what is well formed, and what a rule decides. Rules of any form are
 // asked through `access`, and there alone.
-ghost use mathlib.Core.Path.{_≡_};
-ghost use Prim.Native.Nat.{_<_, _≤_};
-ghost use lib.ListN.{length};
-ghost use Rattle·rules·specs.specs.Group.{Lengths};
-ghost use Rattle·rules·specs.specs.Rule.{compactFormed, slotOf, compactGrants, allowsOf};
-use crate::Right;
-use crate::Sets;
-use crate::condition;
-use crate::group;
+ghost use Rattle.std.specs.Prelude.{◌≡◌, ◌<◌, ◌≤◌, length};
+ghost use Rattle.rules.specs.Group.{Lengths};
+ghost use Rattle.rules.specs.Rule.{compact_formed, slot_of, compact_grants, allows_of};
+
+use crate::{Right, Sets, condition, group};
 
 // Whether the groups fill the rule exactly, with b8 clear in each AM byte.
 pub fn well_formed(rule: &[u8]) -> bool
-    ensures { λ r. ⌜ r ≡ compactFormed (now (rule .entry)) ⌝ }
+    ensures { result ≡ compact_formed rule.now }
 {
     let mut at: usize = 0;
     while at < rule.len() {
@@ -30,7 +26,7 @@ pub fn well_formed(rule: &[u8]) -> bool
 
 // A byte as an index or a length, with its bound.
 fn wide(x: u8) -> usize
-    ensures { λ r. ⌜ (r ≡ x) × (r < 256) ⌝ }
+    ensures { (result ≡ x) × (result < 256) }
 {
     x as usize
 }
@@ -38,8 +34,8 @@ fn wide(x: u8) -> usize
 // The same with the table of lengths, for rules of several groups. A group without SC bytes goes on by a constant, so that the
 // next one does not wait for the table.
 fn groups_by(rule: &[u8], lengths: &[u8; 256]) -> bool
-    requires { ⌜ Lengths (now lengths) ⌝ }
-    ensures { λ r. ⌜ r ≡ compactFormed (now (rule .entry)) ⌝ }
+    requires { Lengths lengths.now }
+    ensures { result ≡ compact_formed rule.now }
 {
     let mut at: usize = 0;
     while at < rule.len() {
@@ -62,8 +58,8 @@ fn groups_by(rule: &[u8], lengths: &[u8; 256]) -> bool
 
 // .. and where one group fills the rule, as in most, that is one look.
 pub fn formed_by(rule: &[u8], lengths: &[u8; 256]) -> bool
-    requires { ⌜ (1 ≤ length (now rule)) × Lengths (now lengths) ⌝ }
-    ensures { λ r. ⌜ r ≡ compactFormed (now (rule .entry)) ⌝ }
+    requires { (1 ≤ length rule.now) × Lengths lengths.now }
+    ensures { result ≡ compact_formed rule.now }
 {
     let am = wide(rule[0]);
     if wide(lengths[am]) == rule.len() {
@@ -74,7 +70,7 @@ pub fn formed_by(rule: &[u8], lengths: &[u8; 256]) -> bool
 
 // The slot of a right's bit in a group: slot 0 is b7, slot 6 is b1.
 fn slot_of(right: Right) -> usize
-    ensures { λ r. ⌜ (r ≡ slotOf right) × (r < 7) ⌝ }
+    ensures { (result ≡ slot_of right) × (result < 7) }
 {
     match right {
         Right::DeleteSelf => 0,
@@ -91,8 +87,8 @@ fn slot_of(right: Right) -> usize
 
 // Whether one of the groups allows what slot k stands for.
 fn allows(rule: &[u8], k: usize, sets: Sets) -> bool
-    requires { ⌜ k < 7 ⌝ }
-    ensures { λ r. ⌜ r ≡ allowsOf (now (rule .entry)) k sets ⌝ }
+    requires { k < 7 }
+    ensures { result ≡ allows_of rule.now k sets }
 {
     let mut here: usize = 0;
     while here < rule.len() {
@@ -108,7 +104,7 @@ fn allows(rule: &[u8], k: usize, sets: Sets) -> bool
 
 // What the rule decides on a right, under what has been authenticated.
 pub fn granted(rule: &[u8], right: Right, sets: Sets) -> bool
-    ensures { λ r. ⌜ r ≡ compactGrants (now (rule .entry)) right sets ⌝ }
+    ensures { result ≡ compact_grants rule.now right sets }
 {
     allows(rule, slot_of(right), sets)
 }

@@ -1,11 +1,12 @@
 // Only the searches by identifier, for whoever measures them (02 Ticket 5): as `kinship` has them, and as the plain walk that they were
 // before. Both are promised the same answers, so that what is measured is time and nothing else. No card calls this.
-ghost use mathlib.Core.Path.{_≡_};
-ghost use Rattle·image.specs.Layout.{countOf};
-ghost use Rattle·sound.specs.Table.{viewAt};
-ghost use Rattle·sound.specs.Kinship.{childNamed};
-ghost use Rattle·kinship.specs.Search.{dfNamed};
-ghost use Rattle·searches·specs.specs.Told.{numberOf, toldOf, Slots};
+ghost use Rattle.std.specs.Prelude.{◌≡◌};
+ghost use Rattle.image.specs.Layout.{count_of};
+ghost use Rattle.sound.specs.Table.{view_at};
+ghost use Rattle.sound.specs.Kinship.{child_named};
+ghost use Rattle.kinship.specs.Search.{df_named};
+ghost use Rattle.searches.specs.Told.{number_of, told_of, Slots};
+
 use image::fields;
 use kinship::search;
 use laws::Found;
@@ -19,7 +20,7 @@ const NO_CARD: usize = 65537;
 
 // How many records the image has, or 0 where it is not as long as it says.
 fn slots(image: &[u8]) -> usize
-    ensures { λ r. ⌜ Slots (now (image .entry)) r ⌝ }
+    ensures { Slots image.now result }
 {
     if image.len() < 16 {
         return 0;
@@ -38,7 +39,7 @@ fn slots(image: &[u8]) -> usize
 }
 
 fn number(found: Found) -> usize
-    ensures { λ r. ⌜ r ≡ numberOf found ⌝ }
+    ensures { result ≡ number_of found }
 {
     match found {
         Found::At(s) => s,
@@ -47,9 +48,9 @@ fn number(found: Found) -> usize
 }
 
 // The slot of the child of directory d with identifier x.
-#[no_mangle]
+#[unsafe(no_mangle)]
 pub extern "C" fn search_child(image: &[u8], d: usize, x: u16) -> usize
-    ensures { λ r. ⌜ r ≡ toldOf (now (image .entry)) (childNamed (countOf (now (image .entry))) (viewAt (now (image .entry))) d x) ⌝ }
+    ensures { result ≡ told_of image.now (child_named (count_of image.now) (view_at image.now) d x) }
 {
     let n = slots(image);
     if n == 0 {
@@ -59,9 +60,9 @@ pub extern "C" fn search_child(image: &[u8], d: usize, x: u16) -> usize
 }
 
 // .. by the plain walk.
-#[no_mangle]
+#[unsafe(no_mangle)]
 pub extern "C" fn search_child_plainly(image: &[u8], d: usize, x: u16) -> usize
-    ensures { λ r. ⌜ r ≡ toldOf (now (image .entry)) (childNamed (countOf (now (image .entry))) (viewAt (now (image .entry))) d x) ⌝ }
+    ensures { result ≡ told_of image.now (child_named (count_of image.now) (view_at image.now) d x) }
 {
     let n = slots(image);
     if n == 0 {
@@ -71,9 +72,9 @@ pub extern "C" fn search_child_plainly(image: &[u8], d: usize, x: u16) -> usize
 }
 
 // The slot of the DF among the children of directory d with identifier x.
-#[no_mangle]
+#[unsafe(no_mangle)]
 pub extern "C" fn search_df(image: &[u8], d: usize, x: u16) -> usize
-    ensures { λ r. ⌜ r ≡ toldOf (now (image .entry)) (dfNamed (countOf (now (image .entry))) (viewAt (now (image .entry))) d x) ⌝ }
+    ensures { result ≡ told_of image.now (df_named (count_of image.now) (view_at image.now) d x) }
 {
     let n = slots(image);
     if n == 0 {
@@ -83,9 +84,9 @@ pub extern "C" fn search_df(image: &[u8], d: usize, x: u16) -> usize
 }
 
 // .. by the plain walk.
-#[no_mangle]
+#[unsafe(no_mangle)]
 pub extern "C" fn search_df_plainly(image: &[u8], d: usize, x: u16) -> usize
-    ensures { λ r. ⌜ r ≡ toldOf (now (image .entry)) (dfNamed (countOf (now (image .entry))) (viewAt (now (image .entry))) d x) ⌝ }
+    ensures { result ≡ told_of image.now (df_named (count_of image.now) (view_at image.now) d x) }
 {
     let n = slots(image);
     if n == 0 {

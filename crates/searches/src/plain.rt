@@ -1,10 +1,11 @@
 // The searches as they were before 02 Ticket 5: each record is asked whether it holds a file (the search for a DF: whether it is one), then
 // for its parent, then for its identifier. They stand here to be measured beside those of `kinship`.
-ghost use mathlib.Core.Path.{_≡_};
-ghost use Rattle·image.specs.Layout.{Sized, Within};
-ghost use Rattle·sound.specs.Table.{viewAt};
-ghost use Rattle·sound.specs.Kinship.{isChild, isChildNamed, childNamed};
-ghost use Rattle·kinship.specs.Search.{isDfNamed, dfNamed};
+ghost use Rattle.std.specs.Prelude.{◌≡◌};
+ghost use Rattle.image.specs.Layout.{Sized, Within};
+ghost use Rattle.sound.specs.Table.{view_at};
+ghost use Rattle.sound.specs.Kinship.{is_child, is_child_named, child_named};
+ghost use Rattle.kinship.specs.Search.{is_df_named, df_named};
+
 use image::fields;
 use kinship::search;
 use laws::Found;
@@ -12,8 +13,8 @@ use rules::descriptor;
 
 // A child of directory d.
 fn is_child(image: &[u8], d: usize, s: usize) -> bool
-    requires { ⌜ Within (now image) s ⌝ }
-    ensures { λ r. ⌜ r ≡ isChild (viewAt (now (image .entry))) d s ⌝ }
+    requires { Within image.now s }
+    ensures { result ≡ is_child (view_at image.now) d s }
 {
     if !search::is_file(image, s) {
         return false;
@@ -23,8 +24,8 @@ fn is_child(image: &[u8], d: usize, s: usize) -> bool
 
 // .. with identifier x.
 fn is_child_named(image: &[u8], d: usize, x: u16, s: usize) -> bool
-    requires { ⌜ Within (now image) s ⌝ }
-    ensures { λ r. ⌜ r ≡ isChildNamed (viewAt (now (image .entry))) d x s ⌝ }
+    requires { Within image.now s }
+    ensures { result ≡ is_child_named (view_at image.now) d x s }
 {
     if !is_child(image, d, s) {
         return false;
@@ -34,8 +35,8 @@ fn is_child_named(image: &[u8], d: usize, x: u16, s: usize) -> bool
 
 // The child of directory d with identifier x.
 pub fn child_named(image: &[u8], n: usize, d: usize, x: u16) -> Found
-    requires { ⌜ Sized (now image) n ⌝ }
-    ensures { λ r. ⌜ r ≡ childNamed n (viewAt (now (image .entry))) d x ⌝ }
+    requires { Sized image.now n }
+    ensures { result ≡ child_named n (view_at image.now) d x }
 {
     let mut s = 0;
     while s < n {
@@ -48,8 +49,8 @@ pub fn child_named(image: &[u8], n: usize, d: usize, x: u16) -> Found
 }
 
 fn is_df_named(image: &[u8], d: usize, x: u16, s: usize) -> bool
-    requires { ⌜ Within (now image) s ⌝ }
-    ensures { λ r. ⌜ r ≡ isDfNamed (viewAt (now (image .entry))) d x s ⌝ }
+    requires { Within image.now s }
+    ensures { result ≡ is_df_named (view_at image.now) d x s }
 {
     if fields::kind(image, s) != descriptor::DF {
         return false;
@@ -59,8 +60,8 @@ fn is_df_named(image: &[u8], d: usize, x: u16, s: usize) -> bool
 
 // The DF among the children of directory d with identifier x.
 pub fn df_named(image: &[u8], n: usize, d: usize, x: u16) -> Found
-    requires { ⌜ Sized (now image) n ⌝ }
-    ensures { λ r. ⌜ r ≡ dfNamed n (viewAt (now (image .entry))) d x ⌝ }
+    requires { Sized image.now n }
+    ensures { result ≡ df_named n (view_at image.now) d x }
 {
     let mut s = 0;
     while s < n {

@@ -1,46 +1,46 @@
 -- What `beneath` says, by steps: a file lies beneath d exactly when d stands one or more steps up from it.
-use mathlib.Core.Path.{_≡_, sym, ap, _∙_}
+use mathlib.Core.Path.{◌≡◌, sym, ap, ◌∙◌}
 use mathlib.Core.Bool.{true}
-use mathlib.Core.Logic.{_↔_}
-use Prim.Native.Nat.{ℕ, zero, suc, _+_, _-_, _<_, _≤_}
+use mathlib.Core.Logic.{◌↔◌}
+use Prim.Native.Nat.{ℕ, zero, suc, ◌+◌, ◌-◌, ◌<◌, ◌≤◌}
 use native.Mathlib.Omega.{arith}
-use Rattle·laws.proofs.Says.{says}
-use Rattle·sound·specs.specs.Table.{View, up}
-use Rattle·sound·specs.specs.Kin.{Kin}
-use Rattle·sound·specs.specs.Kinship.{beneath, StepsUp}
-use Rattle·sound·proofs.proofs.Says.{AtOrBeneath, beneath-says}
-use Rattle·sound·proofs.proofs.Climbing.{reached, up-none}
+use Rattle.laws.proofs.Says.{says}
+use Rattle.sound.specs.Table.{View, up}
+use Rattle.sound.specs.Kin.{Kin}
+use Rattle.sound.specs.Kinship.{beneath, StepsUp}
+use Rattle.sound.proofs.Says.{AtOrBeneath, beneath-says}
+use Rattle.sound.proofs.Climbing.{reached, up_none}
 
-strictly-says : (v : ℕ → View) (d s : ℕ) → (beneath v d s ≡ true) ↔ (AtOrBeneath v d s × (s ≡ d → ⊥))
+strictly_says : (v : ℕ → View) (d s : ℕ) → (beneath v d s ≡ true) ↔ (AtOrBeneath v d s × (s ≡ d → ⊥))
 unfolding beneath
-strictly-says v d s = simp (says, beneath-says) ((λ h. h), (λ h. h))
+strictly_says v d s = simp (says, beneath-says) ((λ h. h), (λ h. h))
 
-module _ (n : ℕ) (v : ℕ → View) (kin : Kin n v) (d s : ℕ) (low : s < n) (used : v s .kind ≡ 0 → ⊥) where
-  pub beneath-by : StepsUp v d s → beneath v d s ≡ true
-  beneath-by w =
-      let r = reached n v kin s low used (w .steps) (w .most) in
-      let l : v d .level + w .steps ≡ v s .level = ap (λ (x : ℕ). v x .level + w .steps) (sym (w .over)) ∙ r .level in
-      let k : v s .level - v d .level ≡ w .steps = omega arith in
-      strictly-says v d s .1 (
-        record { used = used; deep = omega arith; over = ap (λ (j : ℕ). up v j s) k ∙ w .over },
-        λ e. omega (arith, w .some, ap (λ (x : ℕ). v x .level) e),
+module _ (n : ℕ) (v : ℕ → View) (kin : Kin n v) (d s : ℕ) (low : s < n) (used : (v s).kind ≡ 0 → ⊥) where
+  pub beneath_by : StepsUp v d s → beneath v d s ≡ true
+  beneath_by w =
+      let r = reached n v kin s low used w.steps w.most in
+      let l : (v d).level + w.steps ≡ (v s).level = ap (λ (x : ℕ). (v x).level + w.steps) (sym w.over) ∙ r.level in
+      let k : (v s).level - (v d).level ≡ w.steps = omega arith in
+      (strictly_says v d s).1 (
+        record { used = used; deep = omega arith; over = ap (λ (j : ℕ). up v j s) k ∙ w.over },
+        λ e. omega (arith, w.some, ap (λ (x : ℕ). (v x).level) e),
       )
 
-  pub steps-by : beneath v d s ≡ true → StepsUp v d s
-  steps-by h =
-      let b = strictly-says v d s .0 h in
-      record { steps = v s .level - v d .level; some = some (b .0) (b .1); most = omega arith; over = b .0 .over }
+  pub steps_by : beneath v d s ≡ true → StepsUp v d s
+  steps_by h =
+      let b = (strictly_says v d s).0 h in
+      record { steps = (v s).level - (v d).level; some = some b.0 b.1; most = omega arith; over = b.0.over }
     where
-      some : AtOrBeneath v d s → (s ≡ d → ⊥) → 0 < v s .level - v d .level
-      some b z = more (v s .level - v d .level) (b .over)
+      some : AtOrBeneath v d s → (s ≡ d → ⊥) → 0 < (v s).level - (v d).level
+      some b z = more ((v s).level - (v d).level) b.over
         where
           more : (k : ℕ) → up v k s ≡ d → 0 < k
-          more zero e = absurd (z (sym (up-none v s) ∙ e))
+          more zero e = absurd (z (sym (up_none v s) ∙ e))
           more (suc k) e = omega arith
 
 -- a used record of which d stands above
-pub lies-says : (n : ℕ) (v : ℕ → View) → Kin n v → (d s : ℕ) → s < n → (beneath v d s ≡ true) ↔ ((v s .kind ≡ 0 → ⊥) × StepsUp v d s)
-lies-says n v kin d s low = (
-  (λ h. let used = strictly-says v d s .0 h .0 .used in (used, steps-by n v kin d s low used h)),
-  (λ h. beneath-by n v kin d s low (h .0) (h .1)),
+pub lies_says : (n : ℕ) (v : ℕ → View) → Kin n v → (d s : ℕ) → s < n → (beneath v d s ≡ true) ↔ (((v s).kind ≡ 0 → ⊥) × StepsUp v d s)
+lies_says n v kin d s low = (
+  (λ h. let used = ((strictly_says v d s).0 h).0.used in (used, steps_by n v kin d s low used h)),
+  (λ h. beneath_by n v kin d s low h.0 h.1),
 )

@@ -1,69 +1,69 @@
 -- CREATE keeps an image sound, with its body: `sound-made`, from exactly what CREATE checks (02 Ticket 4). And what it leaves of the rest.
-use mathlib.Core.Path.{_≡_, sym, ap, _∙_}
-use mathlib.Core.List.{List, _++_}
+use mathlib.Core.Path.{◌≡◌, sym, ap, ◌∙◌}
+use mathlib.Core.List.{List, ◌++◌}
 use mathlib.Core.Bool.{true, cond}
-use mathlib.Core.Logic.{_⊎_, inl, inr, ⊎-elim}
-use Prim.Native.Nat.{ℕ, _+_, _<_, _≤_}
+use mathlib.Core.Logic.{◌⊎◌, inl, inr, ⊎_elim}
+use Prim.Native.Nat.{ℕ, ◌+◌, ◌<◌, ◌≤◌}
 use native.Mathlib.Omega.{arith}
 use lib.Dec.{eqb}
-use lib.ListN.{length, getD, replicate, length-replicate}
-use borrow.Author.Tests.{eq-eqb, ne-eqb}
-use Rattle·laws.specs.Walks.{sumBelow}
-use Rattle·laws.proofs.Says.{same-or, lt-or}
-use Rattle·numbers.specs.Numbers.{be16}
-use Rattle·rules.specs.Descriptor.{df}
-use Rattle·image.specs.declared.Head.{Head}
-use Rattle·image.specs.Layout.{Within, versionOf, countOf, currentDfOf, currentEfOf, recAt, startOf}
-use Rattle·image.specs.Layout.{none, recordBytes, withStart, setStart}
-use Rattle·image.proofs.Made.{kind-made, size-made}
-use Rattle·image.proofs.Places.{length-record}
-use Rattle·image.proofs.Headers.{SameFront, front-trans, SameHeader, header-start, same-front, same-version, same-count, same-df, same-ef}
-use Rattle·image.proofs.Starts.{kind-kept, size-kept, start-set, start-same, start-other}
-use Rattle·pool.specs.Bodies.{bodyOf, startAt, bodyAt}
-use Rattle·pool.specs.Laid.{Laid}
-use Rattle·pool.specs.Gaps.{fits, lowestGap}
-use Rattle·pool.specs.Places.{gapFor, placeAt, placeImage}
-use Rattle·pool.proofs.Making.{place-room, place-free, laid-added}
-use Rattle·sound·specs.specs.Table.{View, viewAt, viewOf}
-use Rattle·sound·specs.specs.Sound.{Sound, poolLength}
-use Rattle·sound·specs.specs.Effects.{Creates, created, newBody, newGap, made, newBytes, otherRecord}
-use Rattle·sound·proofs.proofs.Front.{Files, files-sound, body-same, header-within, sound-sized}
-use Rattle·sound·proofs.proofs.Created.{files-created, slot-low, count-created, version-created, created-here, created-other}
-use Rattle·sound·proofs.proofs.Created.{front-created, df-created, ef-created, byte-created}
-use Rattle·sound·proofs.proofs.Started.{Again, stays, moved, Restarted, files-restarted}
-use Rattle·sound·proofs.proofs.MovedDown.{body-made, Cleared, cleared, kept-record}
-use Rattle·sound·proofs.proofs.Fitting.{not-root, body-fits, sound-bodiless}
+use lib.ListN.{length, get_or, replicate, length-replicate}
+use borrow.Author.Tests.{eq-eqb, ne_eqb}
+use Rattle.laws.specs.Walks.{sum_below}
+use Rattle.laws.proofs.Says.{same_or, lt-or}
+use Rattle.numbers.specs.Numbers.{be16}
+use Rattle.rules.specs.Descriptor.{df}
+use Rattle.image.specs.declared.Head.{Head}
+use Rattle.image.specs.Layout.{Within, version_of, count_of, current_df_of, current_ef_of, rec_at, start_of}
+use Rattle.image.specs.Layout.{none, record_bytes, with_start, set_start}
+use Rattle.image.proofs.Made.{kind-made, size-made}
+use Rattle.image.proofs.Places.{length_record}
+use Rattle.image.proofs.Headers.{SameFront, front_trans, SameHeader, header-start, same_front, same_version, same_count, same-df, same-ef}
+use Rattle.image.proofs.Starts.{kind-kept, size-kept, start-set, start-same, start-other}
+use Rattle.pool.specs.Bodies.{body_of, start_at, body_at}
+use Rattle.pool.specs.Laid.{Laid}
+use Rattle.pool.specs.Gaps.{fits, lowest_gap}
+use Rattle.pool.specs.Places.{gap_for, place_at, place_image}
+use Rattle.pool.proofs.Making.{place-room, place-free, laid_added}
+use Rattle.sound.specs.Table.{View, view_at, view_of}
+use Rattle.sound.specs.Sound.{Sound, pool_length}
+use Rattle.sound.specs.Effects.{Creates, created, new_body, new_gap, made, new_bytes, other_record}
+use Rattle.sound.proofs.Front.{Files, files-sound, body_same, header-within, sound-sized}
+use Rattle.sound.proofs.Created.{files-created, slot-low, count-created, version-created, created-here, created-other}
+use Rattle.sound.proofs.Created.{front_created, df-created, ef-created, byte_created}
+use Rattle.sound.proofs.Started.{Again, stays, moved, Restarted, files_restarted}
+use Rattle.sound.proofs.MovedDown.{body-made, Cleared, cleared, kept_record_lem}
+use Rattle.sound.proofs.Fitting.{not_root, body-fits, sound_bodiless}
 
 -- where it has one: bodies are moved down if need be, then the record and its start are written
 module _ (img : List ℕ) (s : ℕ) (h : Head) (name rule : List ℕ) (sound : Sound img) (c : Creates img s h name rule)
-    (some : 0 < newBody (versionOf img) h) where
+    (some : 0 < new_body (version_of img) h) where
   abbrev m : ℕ
-  m = newBody (versionOf img) h
+  m = new_body (version_of img) h
 
   abbrev ready : List ℕ
-  ready = placeImage (newGap img h) (countOf img) img
+  ready = place_image (new_gap img h) (count_of img) img
 
   k : Cleared img ready
-  k = cleared img sound (newGap img h)
+  k = cleared img sound (new_gap img h)
 
-  pub count-ready : countOf ready ≡ countOf img
-  count-ready = same-count img ready (same-front img ready (k .header))
+  pub count_ready : count_of ready ≡ count_of img
+  count_ready = same_count img ready (same_front img ready k.header)
 
-  pub version-ready : versionOf ready ≡ versionOf img
-  version-ready = same-version img ready (same-front img ready (k .header))
+  pub version_ready : version_of ready ≡ version_of img
+  version_ready = same_version img ready (same_front img ready k.header)
 
-  df-ready : currentDfOf ready ≡ currentDfOf img
-  df-ready = same-df img ready (k .header)
+  df_ready : current_df_of ready ≡ current_df_of img
+  df_ready = same-df img ready k.header
 
-  pub creates-ready : Creates ready s h name rule
-  creates-ready = record {
-    good = rw version-ready (c .good);
-    parent = c .parent ∙ sym df-ready;
-    level = c .level ∙ sym (ap (λ (t : ℕ → View). t (currentDfOf ready) .level + 1) (k .table) ∙ ap (λ (d : ℕ). viewAt img d .level + 1) df-ready);
-    identifier = rw (count-ready, df-ready, k .table) (c .identifier);
-    name-free = rw (count-ready, k .table) (c .name-free);
-    room = rw (count-ready, df-ready, k .table) (c .room);
-    slot = rw (count-ready, k .table) (c .slot);
+  pub creates_ready : Creates ready s h name rule
+  creates_ready = record {
+    good = rw version_ready c.good;
+    parent = c.parent ∙ sym df_ready;
+    level = c.level ∙ sym (ap (λ (t : ℕ → View). (t (current_df_of ready)).level + 1) k.table ∙ ap (λ (d : ℕ). (view_at img d).level + 1) df_ready);
+    identifier = rw (count_ready, df_ready, k.table) c.identifier;
+    name_is_free = rw (count_ready, k.table) c.name_is_free;
+    room = rw (count_ready, df_ready, k.table) c.room;
+    slot = rw (count_ready, k.table) c.slot;
   }
 
   entered : List ℕ
@@ -71,197 +71,197 @@ module _ (img : List ℕ) (s : ℕ) (h : Head) (name rule : List ℕ) (sound : S
 
   files-entered : Files entered
   unfolding entered
-  files-entered = files-created ready s h name rule (k .sound) creates-ready
+  files-entered = files-created ready s h name rule k.sound creates_ready
 
-  count-entered : countOf entered ≡ countOf img
+  count-entered : count_of entered ≡ count_of img
   unfolding entered
-  count-entered = count-created ready s h name rule (k .sound) creates-ready ∙ count-ready
+  count-entered = count-created ready s h name rule k.sound creates_ready ∙ count_ready
 
-  version-entered : versionOf entered ≡ versionOf img
+  version-entered : version_of entered ≡ version_of img
   unfolding entered
-  version-entered = version-created ready s h name rule (k .sound) creates-ready ∙ version-ready
+  version-entered = version-created ready s h name rule k.sound creates_ready ∙ version_ready
 
-  low : s < countOf img
+  low : s < count_of img
   low = slot-low img s h name rule sound c
 
   within : Within entered s
-  within = header-within entered (files-entered .header) s (rw count-entered low)
+  within = header-within entered files-entered.header s (rw count-entered low)
 
   abbrev at : ℕ
-  at = placeAt (newGap img h) (countOf img) img
+  at = place_at (new_gap img h) (count_of img) img
 
   fin : List ℕ
-  fin = setStart (created (placeImage (newGap img h) (countOf img) img) s h name rule) s (placeAt (newGap img h) (countOf img) img)
+  fin = set_start (created (place_image (new_gap img h) (count_of img) img) s h name rule) s (place_at (new_gap img h) (count_of img) img)
 
-  entered-here : recAt entered s ≡ recordBytes (versionOf img) h name rule
+  entered_here : rec_at entered s ≡ record_bytes (version_of img) h name rule
   unfolding entered
-  entered-here = created-here ready s h name rule (k .sound) creates-ready ∙ ap (λ (v : ℕ). recordBytes v h name rule) version-ready
+  entered_here = created-here ready s h name rule k.sound creates_ready ∙ ap (λ (v : ℕ). record_bytes v h name rule) version_ready
 
-  entered-other : (t : ℕ) → t < countOf img → (t ≡ s → ⊥) → recAt entered t ≡ recAt ready t
+  entered-other : (t : ℕ) → t < count_of img → (t ≡ s → ⊥) → rec_at entered t ≡ rec_at ready t
   unfolding entered
-  entered-other t l z = created-other ready s h name rule (k .sound) creates-ready t (rw count-ready l) z
+  entered-other t l z = created-other ready s h name rule k.sound creates_ready t (rw count_ready l) z
 
-  fin-here : recAt fin s ≡ withStart (recordBytes (versionOf img) h name rule) at
+  fin_here : rec_at fin s ≡ with_start (record_bytes (version_of img) h name rule) at
   unfolding fin entered
-  fin-here = start-same entered s at within ∙ ap (λ (r : List ℕ). withStart r at) entered-here
+  fin_here = start-same entered s at within ∙ ap (λ (r : List ℕ). with_start r at) entered_here
 
-  fin-other : (t : ℕ) → t < countOf img → (t ≡ s → ⊥) → recAt fin t ≡ recAt ready t
+  fin_other : (t : ℕ) → t < count_of img → (t ≡ s → ⊥) → rec_at fin t ≡ rec_at ready t
   unfolding fin entered
-  fin-other t l z =
-      start-other entered s at within t (header-within entered (files-entered .header) t (rw count-entered l)) z ∙ entered-other t l z
+  fin_other t l z =
+      start-other entered s at within t (header-within entered files-entered.header t (rw count-entered l)) z ∙ entered-other t l z
 
-  whole : length (recordBytes (versionOf img) h name rule) ≡ 64
-  whole = ap length (sym entered-here) ∙ length-record entered s (within .0)
+  whole : length (record_bytes (version_of img) h name rule) ≡ 64
+  whole = ap length (sym entered_here) ∙ length_record entered s within.0
 
-  header-fin : SameHeader entered fin
+  header_fin : SameHeader entered fin
   unfolding fin entered
-  header-fin = header-start entered s at within
+  header_fin = header-start entered s at within
 
   restarted : Restarted entered fin
-  restarted = record { header = header-fin; records = λ t l. go t (rw count-entered at l) (same-or t s) }
+  restarted = record { header = header_fin; records = λ t l. go t (rw count-entered at l) (same_or t s) }
     where
-      go : (t : ℕ) → t < countOf img → (t ≡ s) ⊎ (t ≡ s → ⊥) → Again (versionOf entered) (recAt entered t) (recAt fin t)
+      go : (t : ℕ) → t < count_of img → (t ≡ s) ⊎ (t ≡ s → ⊥) → Again (version_of entered) (rec_at entered t) (rec_at fin t)
       go t l (inl e) =
-          rw (e, version-entered, entered-here)
-          (moved (rw (body-made (versionOf img) h name rule) some) at fin-here)
-      go t l (inr z) = stays (fin-other t l z ∙ sym (entered-other t l z))
+          rw (e, version-entered, entered_here)
+          (moved (rw (body-made (version_of img) h name rule) some) at fin_here)
+      go t l (inr z) = stays (fin_other t l z ∙ sym (entered-other t l z))
 
-  files-fin : Files fin
-  files-fin = files-restarted entered fin files-entered restarted
+  files_fin : Files fin
+  files_fin = files_restarted entered fin files-entered restarted
 
-  count-fin : countOf fin ≡ countOf img
-  count-fin = same-count entered fin (same-front entered fin header-fin) ∙ count-entered
+  count_fin : count_of fin ≡ count_of img
+  count_fin = same_count entered fin (same_front entered fin header_fin) ∙ count-entered
 
-  version-fin : versionOf fin ≡ versionOf img
-  version-fin = same-version entered fin (same-front entered fin header-fin) ∙ version-entered
+  version_fin : version_of fin ≡ version_of img
+  version_fin = same_version entered fin (same_front entered fin header_fin) ∙ version-entered
 
-  start-fin : startAt fin s ≡ at
-  unfolding startAt
-  start-fin = ap startOf fin-here ∙ start-set (recordBytes (versionOf img) h name rule) at whole
+  start_fin : start_at fin s ≡ at
+  unfolding start_at
+  start_fin = ap start_of fin_here ∙ start-set (record_bytes (version_of img) h name rule) at whole
 
-  body-fin : bodyAt fin s ≡ m
-  unfolding bodyAt bodyOf newBody
-  body-fin =
+  body_fin : body_at fin s ≡ m
+  unfolding body_at body_of new_body
+  body_fin =
       rw (
-        version-fin,
-        fin-here,
-        kind-kept (recordBytes (versionOf img) h name rule) at whole,
-        size-kept (recordBytes (versionOf img) h name rule) at whole,
-        kind-made (versionOf img) h name rule,
-        size-made (versionOf img) h name rule,
+        version_fin,
+        fin_here,
+        kind-kept (record_bytes (version_of img) h name rule) at whole,
+        size-kept (record_bytes (version_of img) h name rule) at whole,
+        kind-made (version_of img) h name rule,
+        size-made (version_of img) h name rule,
       )
 
-  long-fin : poolLength fin ≡ poolLength img
-  long-fin =
-      ap (λ (x : View). x .size) (ap viewOf (fin-other 0 (omega (arith, sound .header .least)) (not-root img s h name rule sound c)))
-      ∙ ap (λ (t : ℕ → View). t 0 .size) (k .table)
+  long_fin : pool_length fin ≡ pool_length img
+  long_fin =
+      ap (λ (x : View). x.size) (ap view_of (fin_other 0 (omega (arith, sound.header.least)) (not_root img s h name rule sound c)))
+      ∙ ap (λ (t : ℕ → View). (t 0).size) k.table
 
-  other-fin : (t : ℕ) → t < countOf img → (t ≡ s → ⊥) → (startAt ready t ≡ startAt fin t) × (bodyAt ready t ≡ bodyAt fin t)
-  other-fin t l z = body-same ready fin t (version-fin ∙ sym version-ready) (fin-other t l z)
+  other_fin : (t : ℕ) → t < count_of img → (t ≡ s → ⊥) → (start_at ready t ≡ start_at fin t) × (body_at ready t ≡ body_at fin t)
+  other_fin t l z = body_same ready fin t (version_fin ∙ sym version_ready) (fin_other t l z)
 
   pool : List ℕ
-  pool = replicate (poolLength img) 0
+  pool = replicate (pool_length img) 0
 
-  pool-long : length pool ≡ poolLength img
+  pool-long : length pool ≡ pool_length img
   unfolding pool
-  pool-long = length-replicate {A = ℕ} (poolLength img) 0
+  pool-long = length-replicate {A = ℕ} (pool_length img) 0
 
-  gap-is : newGap img h ≡ lowestGap (countOf img) (startAt img) (bodyAt img) (length pool) m
-  unfolding newGap gapFor
-  gap-is = ap (λ (x : ℕ). lowestGap (countOf img) (startAt img) (bodyAt img) x (newBody (versionOf img) h)) (sym pool-long)
+  gap_is : new_gap img h ≡ lowest_gap (count_of img) (start_at img) (body_at img) (length pool) m
+  unfolding new_gap gap_for
+  gap_is = ap (λ (x : ℕ). lowest_gap (count_of img) (start_at img) (body_at img) x (new_body (version_of img) h)) (sym pool-long)
 
-  old-laid : Laid (countOf img) (startAt img) (bodyAt img) (length pool)
-  old-laid = rw pool-long (sound .bodies)
+  old_laid : Laid (count_of img) (start_at img) (body_at img) (length pool)
+  old_laid = rw pool-long sound.bodies
 
-  old-room : sumBelow (countOf img) (bodyAt img) + m ≤ length pool
-  old-room = rw pool-long (body-fits img s h name rule sound c)
+  old_room : sum_below (count_of img) (body_at img) + m ≤ length pool
+  old_room = rw pool-long (body-fits img s h name rule sound c)
 
   -- the place of the new body is in the pool, and in no other body
-  pub place-inside : at + m ≤ poolLength img
-  place-inside = rw pool-long at (place-room (countOf img) m img pool (sound-sized img sound) old-laid old-room (newGap img h) gap-is)
+  pub place_inside : at + m ≤ pool_length img
+  place_inside = rw pool-long at (place-room (count_of img) m img pool (sound-sized img sound) old_laid old_room (new_gap img h) gap_is)
 
-  pub place-clear : fits (countOf img) (startAt ready) (bodyAt ready) m at ≡ true
-  place-clear = place-free (countOf img) m img pool (sound-sized img sound) old-laid old-room (newGap img h) gap-is
+  pub place-clear : fits (count_of img) (start_at ready) (body_at ready) m at ≡ true
+  place-clear = place-free (count_of img) m img pool (sound-sized img sound) old_laid old_room (new_gap img h) gap_is
 
-  laid-fin : Laid (countOf img) (startAt fin) (bodyAt fin) (poolLength img)
-  laid-fin =
-      laid-added (countOf img) (startAt ready) (bodyAt ready) (startAt fin) (bodyAt fin) (poolLength img)
-      (rw (count-ready, ap (λ (t : ℕ → View). t 0 .size) (k .table)) at (k .sound .bodies)) s at m place-clear place-inside start-fin body-fin
-      (λ t l z x. other-fin t l z)
+  laid_fin : Laid (count_of img) (start_at fin) (body_at fin) (pool_length img)
+  laid_fin =
+      laid_added (count_of img) (start_at ready) (body_at ready) (start_at fin) (body_at fin) (pool_length img)
+      (rw (count_ready, ap (λ (t : ℕ → View). (t 0).size) k.table) at k.sound.bodies) s at m place-clear place_inside start_fin body_fin
+      (λ t l z x. other_fin t l z)
 
-  sound-bodied : Sound fin
-  sound-bodied = files-sound fin files-fin (rw (count-fin, long-fin) laid-fin)
+  sound_bodied : Sound fin
+  sound_bodied = files-sound fin files_fin (rw (count_fin, long_fin) laid_fin)
 
-  front-fin : SameFront img fin
+  front_fin : SameFront img fin
   unfolding entered
-  front-fin =
-      front-trans img ready fin (same-front img ready (k .header))
-      (front-trans ready entered fin (front-created ready s h name rule (k .sound) creates-ready) (same-front entered fin header-fin))
+  front_fin =
+      front_trans img ready fin (same_front img ready k.header)
+      (front_trans ready entered fin (front_created ready s h name rule k.sound creates_ready) (same_front entered fin header_fin))
 
-  df-fin : currentDfOf fin ≡ cond (eqb (h .kind) df) s (currentDfOf img)
+  df_fin : current_df_of fin ≡ cond (eqb h.kind df) s (current_df_of img)
   unfolding entered
-  df-fin =
-      same-df entered fin header-fin ∙ df-created ready s h name rule (k .sound) creates-ready
-      ∙ ap (λ (d : ℕ). cond (eqb (h .kind) df) s d) df-ready
+  df_fin =
+      same-df entered fin header_fin ∙ df-created ready s h name rule k.sound creates_ready
+      ∙ ap (λ (d : ℕ). cond (eqb h.kind df) s d) df_ready
 
-  ef-fin : currentEfOf fin ≡ cond (eqb (h .kind) df) none s
+  ef_fin : current_ef_of fin ≡ cond (eqb h.kind df) none s
   unfolding entered
-  ef-fin = same-ef entered fin header-fin ∙ ef-created ready s h name rule (k .sound) creates-ready
+  ef_fin = same-ef entered fin header_fin ∙ ef-created ready s h name rule k.sound creates_ready
 
-  byte-fin : (j : ℕ) → j < 4 → getD fin (7 + j) 0
-      ≡ getD (be16 (cond (eqb (h .kind) df) s (currentDfOf img)) ++ be16 (cond (eqb (h .kind) df) none s)) j 0
+  byte_fin : (j : ℕ) → j < 4 → get_or fin (7 + j) 0
+      ≡ get_or (be16 (cond (eqb h.kind df) s (current_df_of img)) ++ be16 (cond (eqb h.kind df) none s)) j 0
   unfolding entered
-  byte-fin j l =
-      header-fin .bytes (7 + j) (omega arith) ∙ byte-created ready s h name rule (k .sound) creates-ready j l
-      ∙ ap (λ (d : ℕ). getD (be16 (cond (eqb (h .kind) df) s d) ++ be16 (cond (eqb (h .kind) df) none s)) j 0) df-ready
+  byte_fin j l =
+      header_fin.bytes (7 + j) (omega arith) ∙ byte_created ready s h name rule k.sound creates_ready j l
+      ∙ ap (λ (d : ℕ). get_or (be16 (cond (eqb h.kind df) s d) ++ be16 (cond (eqb h.kind df) none s)) j 0) df_ready
 
 -- CREATE, whatever the new file is
 module _ (img : List ℕ) (s : ℕ) (h : Head) (name rule : List ℕ) (sound : Sound img) (c : Creates img s h name rule) where
-  body-or : (newBody (versionOf img) h ≡ 0) ⊎ (newBody (versionOf img) h ≡ 0 → ⊥)
-  body-or = same-or (newBody (versionOf img) h) 0
+  body-or : (new_body (version_of img) h ≡ 0) ⊎ (new_body (version_of img) h ≡ 0 → ⊥)
+  body-or = same_or (new_body (version_of img) h) 0
 
-  has : (newBody (versionOf img) h ≡ 0 → ⊥) → 0 < newBody (versionOf img) h
-  has z = ⊎-elim (λ x. x) (λ x. absurd (z (omega arith))) (lt-or 0 (newBody (versionOf img) h))
+  has : (new_body (version_of img) h ≡ 0 → ⊥) → 0 < new_body (version_of img) h
+  has z = ⊎_elim (λ x. x) (λ x. absurd (z (omega arith))) (lt-or 0 (new_body (version_of img) h))
 
   -- by cases on whether it has a body
-  either-way : (P : List ℕ → Type 0) → (newBody (versionOf img) h ≡ 0 → P (created img s h name rule))
-      → ((some : 0 < newBody (versionOf img) h) → P (fin img s h name rule sound c some)) → P (made img s h name rule)
+  either_way : (P : List ℕ → Type 0) → (new_body (version_of img) h ≡ 0 → P (created img s h name rule))
+      → ((some : 0 < new_body (version_of img) h) → P (fin img s h name rule sound c some)) → P (made img s h name rule)
   unfolding made fin
-  either-way P f g = ⊎-elim (λ e. rw (eq-eqb (newBody (versionOf img) h) 0 e) (f e))
-      (λ z. rw (ne-eqb (newBody (versionOf img) h) 0 z) (g (has z))) body-or
+  either_way P f g = ⊎_elim (λ e. rw (eq-eqb (new_body (version_of img) h) 0 e) (f e))
+      (λ z. rw (ne_eqb (new_body (version_of img) h) 0 z) (g (has z))) body-or
 
   pub sound-made : Sound (made img s h name rule)
   sound-made =
-      either-way Sound (λ e. sound-bodiless img s h name rule sound c e) (λ x. sound-bodied img s h name rule sound c x)
+      either_way Sound (λ e. sound_bodiless img s h name rule sound c e) (λ x. sound_bodied img s h name rule sound c x)
 
-  pub front-made : SameFront img (made img s h name rule)
-  front-made =
-      either-way (λ x. SameFront img x) (λ e. front-created img s h name rule sound c) (λ x. front-fin img s h name rule sound c x)
+  pub front_made : SameFront img (made img s h name rule)
+  front_made =
+      either_way (λ x. SameFront img x) (λ e. front_created img s h name rule sound c) (λ x. front_fin img s h name rule sound c x)
 
-  pub df-made : currentDfOf (made img s h name rule) ≡ cond (eqb (h .kind) df) s (currentDfOf img)
+  pub df-made : current_df_of (made img s h name rule) ≡ cond (eqb h.kind df) s (current_df_of img)
   df-made =
-      either-way (λ x. currentDfOf x ≡ cond (eqb (h .kind) df) s (currentDfOf img)) (λ e. df-created img s h name rule sound c)
-      (λ x. df-fin img s h name rule sound c x)
+      either_way (λ x. current_df_of x ≡ cond (eqb h.kind df) s (current_df_of img)) (λ e. df-created img s h name rule sound c)
+      (λ x. df_fin img s h name rule sound c x)
 
-  pub ef-made : currentEfOf (made img s h name rule) ≡ cond (eqb (h .kind) df) none s
+  pub ef-made : current_ef_of (made img s h name rule) ≡ cond (eqb h.kind df) none s
   ef-made =
-      either-way (λ x. currentEfOf x ≡ cond (eqb (h .kind) df) none s) (λ e. ef-created img s h name rule sound c)
-      (λ x. ef-fin img s h name rule sound c x)
+      either_way (λ x. current_ef_of x ≡ cond (eqb h.kind df) none s) (λ e. ef-created img s h name rule sound c)
+      (λ x. ef_fin img s h name rule sound c x)
 
-  pub byte-made : (j : ℕ) → j < 4 → getD (made img s h name rule) (7 + j) 0
-      ≡ getD (be16 (cond (eqb (h .kind) df) s (currentDfOf img)) ++ be16 (cond (eqb (h .kind) df) none s)) j 0
-  byte-made j l =
-      either-way (λ x. getD x (7 + j) 0
-      ≡ getD (be16 (cond (eqb (h .kind) df) s (currentDfOf img)) ++ be16 (cond (eqb (h .kind) df) none s)) j 0)
-      (λ e. byte-created img s h name rule sound c j l) (λ x. byte-fin img s h name rule sound c x j l)
+  pub byte_made : (j : ℕ) → j < 4 → get_or (made img s h name rule) (7 + j) 0
+      ≡ get_or (be16 (cond (eqb h.kind df) s (current_df_of img)) ++ be16 (cond (eqb h.kind df) none s)) j 0
+  byte_made j l =
+      either_way (λ x. get_or x (7 + j) 0
+      ≡ get_or (be16 (cond (eqb h.kind df) s (current_df_of img)) ++ be16 (cond (eqb h.kind df) none s)) j 0)
+      (λ e. byte_created img s h name rule sound c j l) (λ x. byte_fin img s h name rule sound c x j l)
 
-  pub record-made : recAt (made img s h name rule) s ≡ newBytes img h name rule
-  unfolding newBytes
-  record-made = ⊎-elim (λ e. rw (eq-eqb (newBody (versionOf img) h) 0 e) (unfold made in rw (eq-eqb (newBody (versionOf img) h) 0 e) (created-here img s h name rule sound c)))
-      (λ z. rw (ne-eqb (newBody (versionOf img) h) 0 z) (unfold made fin in rw (ne-eqb (newBody (versionOf img) h) 0 z) (fin-here img s h name rule sound c (has z)))) body-or
+  pub record_made : rec_at (made img s h name rule) s ≡ new_bytes img h name rule
+  unfolding new_bytes
+  record_made = ⊎_elim (λ e. rw (eq-eqb (new_body (version_of img) h) 0 e) (unfold made in rw (eq-eqb (new_body (version_of img) h) 0 e) (created-here img s h name rule sound c)))
+      (λ z. rw (ne_eqb (new_body (version_of img) h) 0 z) (unfold made fin in rw (ne_eqb (new_body (version_of img) h) 0 z) (fin_here img s h name rule sound c (has z)))) body-or
 
-  pub other-made : (t : ℕ) → t < countOf img → (t ≡ s → ⊥) → recAt (made img s h name rule) t ≡ otherRecord img h t
-  unfolding otherRecord
-  other-made t l z = ⊎-elim (λ e. rw (eq-eqb (newBody (versionOf img) h) 0 e) (unfold made in rw (eq-eqb (newBody (versionOf img) h) 0 e) (created-other img s h name rule sound c t l z)))
-      (λ y. rw (ne-eqb (newBody (versionOf img) h) 0 y) (unfold made fin in rw (ne-eqb (newBody (versionOf img) h) 0 y)
-      (fin-other img s h name rule sound c (has y) t l z ∙ kept-record img sound (newGap img h) t l))) body-or
+  pub other-made : (t : ℕ) → t < count_of img → (t ≡ s → ⊥) → rec_at (made img s h name rule) t ≡ other_record img h t
+  unfolding other_record
+  other-made t l z = ⊎_elim (λ e. rw (eq-eqb (new_body (version_of img) h) 0 e) (unfold made in rw (eq-eqb (new_body (version_of img) h) 0 e) (created-other img s h name rule sound c t l z)))
+      (λ y. rw (ne_eqb (new_body (version_of img) h) 0 y) (unfold made fin in rw (ne_eqb (new_body (version_of img) h) 0 y)
+      (fin_other img s h name rule sound c (has y) t l z ∙ kept_record_lem img sound (new_gap img h) t l))) body-or

@@ -1,11 +1,7 @@
 -- The files of a card as a table of views: what each record says that other records look at (01 "Image").
-use mathlib.Core.Path.{_≡_}
-use mathlib.Core.Bool.{Bool, not, _&&_}
-use mathlib.Core.List.{List}
-use Prim.Native.Nat.{ℕ, zero, suc, _+_}
-use lib.Dec.{eqb}
-use Rattle·laws.specs.Walks.{anyBelow, sumBelow, ifSo}
-use Rattle·image.specs.Layout.{recAt, kindOf, identifierOf, parentOf, levelOf, sizeOf, nameOf}
+use Rattle.std.specs.Prelude.{◌≡◌, Bool, not, ◌&&◌, List, ℕ, zero, suc, ◌+◌, eqb}
+use Rattle.laws.specs.Walks.{any_below, sum_below, if_so}
+use Rattle.image.specs.Layout.{rec_at, kind_of, identifier_of, parent_of, level_of, size_of, name_of}
 
 pub record View : Type 0 where
   pub kind : ℕ
@@ -15,47 +11,47 @@ pub record View : Type 0 where
   pub size : ℕ
   pub name : List ℕ
 
-abbrev pub viewOf : List ℕ → View
-viewOf r = record {
-  kind = kindOf r;
-  identifier = identifierOf r;
-  parent = parentOf r;
-  level = levelOf r;
-  size = sizeOf r;
-  name = nameOf r;
+abbrev pub view_of : List ℕ → View
+view_of r = record {
+  kind = kind_of r;
+  identifier = identifier_of r;
+  parent = parent_of r;
+  level = level_of r;
+  size = size_of r;
+  name = name_of r;
 }
 
-abbrev pub viewAt : List ℕ → ℕ → View
-viewAt img s = viewOf (recAt img s)
+abbrev pub view_at : List ℕ → ℕ → View
+view_at img s = view_of (rec_at img s)
 
 -- slot s holds a file other than the root, which is nobody's child or sibling
 abbrev pub File : (ℕ → View) → ℕ → Type 0
-File v s = (v s .kind ≡ 0 → ⊥) × (s ≡ 0 → ⊥)
+File v s = ((v s).kind ≡ 0 → ⊥) × (s ≡ 0 → ⊥)
 
-abbrev pub isFile : (ℕ → View) → ℕ → Bool
-isFile v s = not (eqb (v s .kind) 0) && not (eqb s 0)
+abbrev pub is_file : (ℕ → View) → ℕ → Bool
+is_file v s = not (eqb (v s).kind 0) && not (eqb s 0)
 
 -- the slot k steps up from s
 unfoldable pub up : (ℕ → View) → ℕ → ℕ → ℕ
 up v zero s = s
-up v (suc k) s = v (up v k s) .parent
+up v (suc k) s = (v (up v k s)).parent
 
 -- p holds of one of the n slots on the way up from s, s itself being the first
 unfoldable pub upward : (ℕ → View) → (ℕ → Bool) → ℕ → ℕ → Bool
-upward v p n s = anyBelow n (λ k. p (up v k s))
+upward v p n s = any_below n (λ k. p (up v k s))
 
 -- the file in slot s has identifier x
-abbrev pub hasIdentifier : (ℕ → View) → ℕ → ℕ → Bool
-hasIdentifier v x s = eqb (v s .identifier) x
+abbrev pub has_identifier : (ℕ → View) → ℕ → ℕ → Bool
+has_identifier v x s = eqb (v s).identifier x
 
 -- the directory that pays for what stands in directory d: d itself
 abbrev pub payer : ℕ → ℕ
 payer d = d
 
 -- what the file in slot s, whose record says x, costs directory d: its size and 64
-unfoldable pub chargeOf : ℕ → ℕ → View → ℕ
-chargeOf d s x = ifSo ((not (eqb (x .kind) 0) && not (eqb s 0)) && eqb (payer (x .parent)) d) (x .size + 64)
+unfoldable pub charge_of : ℕ → ℕ → View → ℕ
+charge_of d s x = if_so ((not (eqb x.kind 0) && not (eqb s 0)) && eqb (payer x.parent) d) (x.size + 64)
 
 -- what all files of the card cost directory d
 unfoldable pub charged : ℕ → (ℕ → View) → ℕ → ℕ
-charged n v d = sumBelow n (λ s. chargeOf d s (v s))
+charged n v d = sum_below n (λ s. charge_of d s (v s))

@@ -1,22 +1,17 @@
 -- What is proved of sound images and worth reading; each is proved under the same name in small letters (proofs/Says,
 -- proofs/Fresh, proofs/FirstVersion, proofs/FullTable).
-use mathlib.Core.Path.{_≡_}
-use mathlib.Core.Bool.{Bool, true}
-use mathlib.Core.List.{List}
-use mathlib.Core.Logic.{_↔_}
-use Prim.Native.Nat.{ℕ, _+_, _*_, _-_, _<_, _≤_}
-use lib.ListN.{getD}
-use Rattle·laws.specs.declared.Found.the-variants.{Nothing}
-use Rattle·laws.specs.Settled.{Settles}
-use Rattle·rules.specs.Descriptor.{df}
-use Rattle·rules.specs.Rule.{compactFormed}
-use Rattle·image.specs.Layout.{countOf, ruleOf}
-use Rattle·access.specs.Access.{fitsRecord}
-use Rattle·sound·specs.specs.Table.{viewAt}
-use Rattle·sound·specs.specs.Own.{Used}
-use Rattle·sound·specs.specs.Sound.{Sound, soundb}
-use Rattle·sound·specs.specs.Kinship.{freeSlot, roomFor}
-use Rattle·sound·specs.specs.Effects.{fresh}
+use Rattle.std.specs.Prelude.{◌≡◌, Bool, true, List, ◌↔◌, ℕ, ◌+◌, ◌*◌, ◌-◌, ◌<◌, ◌≤◌, get_or}
+use Rattle.laws.specs.declared.Found.TheVariants.{Nothing}
+use Rattle.laws.specs.Settled.{Settles}
+use Rattle.rules.specs.Descriptor.{df}
+use Rattle.rules.specs.Rule.{compact_formed}
+use Rattle.image.specs.Layout.{count_of, rule_of}
+use Rattle.access.specs.Access.{fits_record}
+use Rattle.sound.specs.Table.{view_at}
+use Rattle.sound.specs.Own.{Used}
+use Rattle.sound.specs.Sound.{Sound, soundb}
+use Rattle.sound.specs.Kinship.{free_slot, room_for}
+use Rattle.sound.specs.Effects.{fresh}
 
 -- the test that is computed for any bytes is true exactly where every sentence of 01 "Image" holds
 abbrev pub SoundSays : Type 0
@@ -30,20 +25,20 @@ SoundOnce = (img : List ℕ) → Settles Bool (λ r. r ≡ soundb img)
 -- (whose form is then known, and the version with it)
 abbrev pub SoundFresh : Type 0
 SoundFresh = (v n total form : ℕ) (rule : List ℕ) → 2 ≤ n → n ≤ 1023 → 1 ≤ total → total ≤ 64 * (n - 1)
-    → fitsRecord v form rule ≡ true → Sound (fresh v n total form rule)
+    → fits_record v form rule ≡ true → Sound (fresh v n total form rule)
 
 -- 01's own sentences on a used record of version 1: byte 3 is zero, the rule has at most 16 bytes and is a compact one that is well formed,
 -- and the bytes from 50 on are zero
 pub record Compact (r : List ℕ) : Type 0 where
-  pub zero : getD r 3 0 ≡ 0
-  pub short : getD r 33 0 ≤ 16
-  pub formed : compactFormed (ruleOf r) ≡ true
-  pub spare : (k : ℕ) → k < 14 → getD r (50 + k) 0 ≡ 0
+  pub zero : get_or r 3 0 ≡ 0
+  pub short : get_or r 33 0 ≤ 16
+  pub formed : compact_formed (rule_of r) ≡ true
+  pub spare : (k : ℕ) → k < 14 → get_or r (50 + k) 0 ≡ 0
 
 abbrev pub FirstVersion : Type 0
 FirstVersion = (r : List ℕ) → Used 1 r → Compact r
 
 -- a full table never refuses: where some directory has room for a size and 64, a record is free
 abbrev pub SlotExists : Type 0
-SlotExists = (img : List ℕ) (d size : ℕ) → Sound img → d < countOf img → viewAt img d .kind ≡ df
-    → size + 64 ≤ roomFor (countOf img) (viewAt img) d → freeSlot (countOf img) (viewAt img) ≡ Nothing → ⊥
+SlotExists = (img : List ℕ) (d size : ℕ) → Sound img → d < count_of img → (view_at img d).kind ≡ df
+    → size + 64 ≤ room_for (count_of img) (view_at img) d → free_slot (count_of img) (view_at img) ≡ Nothing → ⊥

@@ -1,122 +1,122 @@
 -- The identifiers of directories being noted: where the sets start, what each record adds, and what they say of a
 -- file that none of them has.
-use mathlib.Core.Path.{_≡_, refl, sym, ap, _∙_}
+use mathlib.Core.Path.{◌≡◌, refl, sym, ap, ◌∙◌}
 use mathlib.Core.Bool.{Bool, true, false, not, cond, false≢true}
 use mathlib.Core.List.{List}
-use mathlib.Core.Logic.{⊎-elim}
-use Prim.Native.Nat.{ℕ, suc, _+_, _<_, _≤_}
+use mathlib.Core.Logic.{⊎_elim}
+use Prim.Native.Nat.{ℕ, suc, ◌+◌, ◌<◌, ◌≤◌}
 use native.Mathlib.Omega.{arith}
 use lib.Dec.{eqb}
 use lib.ListN.{length, replicate, length-replicate}
-use borrow.Author.Count.{below-none, below-more}
-use borrow.Author.Tests.{eq-eqb, ne-eqb, eqb-true, not-true}
-use Rattle·laws.proofs.Chains.{implies-yes}
-use Rattle·laws.proofs.Says.{not-says, apart, says}
-use Rattle·laws.proofs.Walks.{each-all}
-use Rattle·keys.specs.Marks.{marked, marking}
-use Rattle·keys.proofs.Bits.{length-marking, marked-new, marked-kept}
-use Rattle·keys.proofs.Walking.{keyed-none, keyed-free, keyed-again, keyed-put}
-use Rattle·sound.specs.Table.{View, viewAt, File, isFile, up}
-use Rattle·sound.specs.Kin.{rootb, placedb, aboveAt}
-use Rattle·sound.proofs.Climbing.{above-says, reached-by, not-root-by}
-use Rattle·kinship.proofs.Files.{a-file}
-use Rattle·sound_ancestry·specs.specs.Directories.{isDf, identifierAt, Seen, shares}
-use Rattle·sound_ancestry·proofs.proofs.Above.{all-placed, root-level}
+use borrow.Author.Count.{below_none, below_more}
+use borrow.Author.Tests.{eq-eqb, ne_eqb, eqb-true, not-true}
+use Rattle.laws.proofs.Chains.{implies-yes}
+use Rattle.laws.proofs.Says.{not-says, apart, says}
+use Rattle.laws.proofs.Walks.{each_all}
+use Rattle.keys.specs.Marks.{marked, marking}
+use Rattle.keys.proofs.Bits.{length-marking, marked_new, marked-kept}
+use Rattle.keys.proofs.Walking.{keyed_none, keyed_free, keyed_again, keyed_put}
+use Rattle.sound.specs.Table.{View, view_at, File, is_file, up}
+use Rattle.sound.specs.Kin.{rootb, placedb, above_at}
+use Rattle.sound.proofs.Climbing.{above-says, reached_by, not-root_by}
+use Rattle.kinship.proofs.Files.{a_file}
+use Rattle.sound_ancestry.specs.Directories.{is_df, identifier_at, Seen, shares}
+use Rattle.sound_ancestry.proofs.Above.{all_placed, root-level}
 
 -- two directories at or below s with one identifier, which set `twice` has
 Again : (ℕ → View) → List ℕ → ℕ → Type 0
 Again v twice t =
-    isDf v t ≡ true → (u : ℕ) → u < t → isDf v u ≡ true → v u .identifier ≡ v t .identifier → marked twice (v t .identifier) ≡ true
+    is_df v t ≡ true → (u : ℕ) → u < t → is_df v u ≡ true → (v u).identifier ≡ (v t).identifier → marked twice (v t).identifier ≡ true
 
-pub seen-none : (v : ℕ → View) → Seen v 0 (replicate 1024 0) (replicate 1024 0)
-seen-none v = record { first = keyed-none (isDf v) (identifierAt v); long = length-replicate {A = ℕ} 1024 0; again = below-none _ }
+pub seen_none : (v : ℕ → View) → Seen v 0 (replicate 1024 0) (replicate 1024 0)
+seen_none v = record { first = keyed_none (is_df v) (identifier_at v); long = length-replicate {A = ℕ} 1024 0; again = below_none _ }
 
 -- k is the kind of record s, x its identifier, r says whether x was noted
-module _ (v : ℕ → View) (s : ℕ) (once twice : List ℕ) (h : Seen v s once twice) (k : ℕ) (e : k ≡ v s .kind) where
-  pub seen-free : (k ≡ 1 → ⊥) → Seen v (s + 1) once twice
+module _ (v : ℕ → View) (s : ℕ) (once twice : List ℕ) (h : Seen v s once twice) (k : ℕ) (e : k ≡ (v s).kind) where
+  pub seen_free : (k ≡ 1 → ⊥) → Seen v (s + 1) once twice
   unfolding Again
-  seen-free z =
-      let no : isDf v s ≡ false = rw (← e) (ne-eqb k 1 z) in
+  seen_free z =
+      let no : is_df v s ≡ false = rw (← e) (ne_eqb k 1 z) in
       record {
-        first = keyed-free (isDf v) (identifierAt v) s once (h .first) no;
-        long = h .long;
-        again = below-more (Again v twice) s (h .again) (λ d. absurd (false≢true (sym no ∙ d)));
+        first = keyed_free (is_df v) (identifier_at v) s once h.first no;
+        long = h.long;
+        again = below_more (Again v twice) s h.again (λ d. absurd (false≢true (sym no ∙ d)));
       }
 
-  module _ (x : ℕ) (q : x ≡ v s .identifier) (low : x < 65536) (r : Bool) (f : r ≡ marked once x) where
+  module _ (x : ℕ) (q : x ≡ (v s).identifier) (low : x < 65536) (r : Bool) (f : r ≡ marked once x) where
     -- noted before, and now in both sets
-    pub seen-again : (l : List ℕ) → r ≡ true → l ≡ marking twice x → Seen v (s + 1) once l
+    pub seen_again : (l : List ℕ) → r ≡ true → l ≡ marking twice x → Seen v (s + 1) once l
     unfolding Again
-    seen-again l g m =
+    seen_again l g m =
         record {
-          first = keyed-again (isDf v) (identifierAt v) s once (h .first) x r q f g;
-          long = ap length m ∙ length-marking twice x ∙ h .long;
-          again = rw m (below-more (Again v (marking twice x)) s
-              (λ t a d u b c i. marked-kept twice x (v t .identifier) (omega (arith, h .long)) (h .again t a d u b c i))
-              (λ d u b c i. ap (marked (marking twice x)) (sym q) ∙ marked-new twice x (omega (arith, h .long))));
+          first = keyed_again (is_df v) (identifier_at v) s once h.first x r q f g;
+          long = ap length m ∙ length-marking twice x ∙ h.long;
+          again = rw m (below_more (Again v (marking twice x)) s
+              (λ t a d u b c i. marked-kept twice x (v t).identifier (omega (arith, h.long)) (h.again t a d u b c i))
+              (λ d u b c i. ap (marked (marking twice x)) (sym q) ∙ marked_new twice x (omega (arith, h.long))));
         }
 
     -- new: no directory before has it
-    pub seen-new : (l : List ℕ) → r ≡ false → l ≡ marking once x → Seen v (s + 1) l twice
+    pub seen_new : (l : List ℕ) → r ≡ false → l ≡ marking once x → Seen v (s + 1) l twice
     unfolding Again
-    seen-new l g m =
+    seen_new l g m =
         record {
-          first = keyed-put (isDf v) (identifierAt v) s once (h .first) x l q low m;
-          long = h .long;
-          again = below-more (Again v twice) s (h .again)
-              (λ d u b c i. absurd (false≢true (sym g ∙ f ∙ ap (marked once) (q ∙ sym i) ∙ h .first .has u b c)));
+          first = keyed_put (is_df v) (identifier_at v) s once h.first x l q low m;
+          long = h.long;
+          again = below_more (Again v twice) s h.again
+              (λ d u b c i. absurd (false≢true (sym g ∙ f ∙ ap (marked once) (q ∙ sym i) ∙ h.first.has u b c)));
         }
 
 pub noted-end : (v : ℕ → View) (n s : ℕ) (once twice : List ℕ) → Seen v s once twice → s ≤ n → n ≤ s → Seen v n once twice
 noted-end v n s once twice h a b = let e : s ≡ n = omega arith in rw e at h
 
 -- what the set that is asked answers
-module _ (v : ℕ → View) (s : ℕ) (once twice : List ℕ) (k x : ℕ) (e : k ≡ v s .kind) (q : x ≡ v s .identifier) (r : Bool) where
+module _ (v : ℕ → View) (s : ℕ) (once twice : List ℕ) (k x : ℕ) (e : k ≡ (v s).kind) (q : x ≡ (v s).identifier) (r : Bool) where
   pub shares-df : k ≡ 1 → r ≡ marked twice x → r ≡ shares v s once twice
   unfolding shares
   shares-df z f = rw (← e, eq-eqb k 1 z, ← q) f
 
   pub shares-ef : (k ≡ 1 → ⊥) → r ≡ marked once x → r ≡ shares v s once twice
   unfolding shares
-  shares-ef z f = rw (← e, ne-eqb k 1 z, ← q) f
+  shares-ef z f = rw (← e, ne_eqb k 1 z, ← q) f
 
 -- a file that shares its identifier with no other directory differs from those above it: each of them is another
 -- directory, since it stands at another level
-module _ (img : List ℕ) (n : ℕ) (root : rootb n (viewAt img) ≡ true) (tree : placedb n (viewAt img) ≡ true) (s : ℕ) (low : s < n)
-    (once twice : List ℕ) (h : Seen (viewAt img) n once twice) where
+module _ (img : List ℕ) (n : ℕ) (root : rootb n (view_at img) ≡ true) (tree : placedb n (view_at img) ≡ true) (s : ℕ) (low : s < n)
+    (once twice : List ℕ) (h : Seen (view_at img) n once twice) where
   -- d is another directory
-  other : (d : ℕ) → d < n → isDf (viewAt img) d ≡ true → (d ≡ s → ⊥) → shares (viewAt img) s once twice ≡ false
-      → viewAt img d .identifier ≡ viewAt img s .identifier → ⊥
+  other : (d : ℕ) → d < n → is_df (view_at img) d ≡ true → (d ≡ s → ⊥) → shares (view_at img) s once twice ≡ false
+      → (view_at img d).identifier ≡ (view_at img s).identifier → ⊥
   unfolding shares
-  other d l k z f i = go (isDf (viewAt img) s) refl f
+  other d l k z f i = go (is_df (view_at img) s) refl f
     where
-      go : (b : Bool) → isDf (viewAt img) s ≡ b
-          → cond b (marked twice (viewAt img s .identifier)) (marked once (viewAt img s .identifier)) ≡ false → ⊥
+      go : (b : Bool) → is_df (view_at img) s ≡ b
+          → cond b (marked twice (view_at img s).identifier) (marked once (view_at img s).identifier) ≡ false → ⊥
       go true j g =
-          ⊎-elim
-          (λ m. false≢true (sym g ∙ h .again s low j d m k i))
-          (λ m. false≢true (sym g ∙ ap (marked twice) (sym i) ∙ h .again d l k s m j (sym i)))
+          ⊎_elim
+          (λ m. false≢true (sym g ∙ h.again s low j d m k i))
+          (λ m. false≢true (sym g ∙ ap (marked twice) (sym i) ∙ h.again d l k s m j (sym i)))
           (apart d s z)
-      go false j g = false≢true (sym g ∙ ap (marked once) (sym i) ∙ h .first .has d l k)
+      go false j g = false≢true (sym g ∙ ap (marked once) (sym i) ∙ h.first.has d l k)
 
-  differs : File (viewAt img) s → shares (viewAt img) s once twice ≡ false → (k : ℕ) → k < viewAt img s .level
-      → viewAt img (up (viewAt img) (suc k) s) .identifier ≡ viewAt img s .identifier → ⊥
+  differs : File (view_at img) s → shares (view_at img) s once twice ≡ false → (k : ℕ) → k < (view_at img s).level
+      → (view_at img (up (view_at img) (suc k) s)).identifier ≡ (view_at img s).identifier → ⊥
   unfolding up
   differs file f k l i =
-      let all = all-placed img n tree in
-      let top = root-level n (viewAt img) root in
-      let r = reached-by n (viewAt img) top all s low (file .0) k (omega arith) in
-      let p = all (up (viewAt img) k s) (r .low)
-      (not-root-by n (viewAt img) top all (up (viewAt img) k s) (r .used) (omega (arith, r .level))) in
-      let d : ℕ = up (viewAt img) (suc k) s in
-      other d (p .low) (eq-eqb _ _ (p .dir)) (λ e. omega (arith, p .up, r .level, ap (λ (x : ℕ). viewAt img x .level) e)) f i
+      let all = all_placed img n tree in
+      let top = root-level n (view_at img) root in
+      let r = reached_by n (view_at img) top all s low file.0 k (omega arith) in
+      let p = all (up (view_at img) k s) r.low
+      (not-root_by n (view_at img) top all (up (view_at img) k s) r.used (omega (arith, r.level))) in
+      let d : ℕ = up (view_at img) (suc k) s in
+      other d p.low (eq-eqb _ _ p.dir) (λ e. omega (arith, p.up, r.level, ap (λ (x : ℕ). (view_at img x).level) e)) f i
 
   -- b is what `shares` answered
-  pub above-unshared : (f b : Bool) → f ≡ isFile (viewAt img) s → not f ≡ false → b ≡ shares (viewAt img) s once twice → not b ≡ true
-      → true ≡ aboveAt (viewAt img) s
-  unfolding aboveAt
-  above-unshared f b e t g z =
-      implies-yes _ _ _ (a-file img s f e t)
+  pub above_unshared : (f b : Bool) → f ≡ is_file (view_at img) s → not f ≡ false → b ≡ shares (view_at img) s once twice → not b ≡ true
+      → true ≡ above_at (view_at img) s
+  unfolding above_at
+  above_unshared f b e t g z =
+      implies-yes _ _ _ (a_file img s f e t)
       (sym
-      (above-says (viewAt img) (viewAt img s .identifier) (viewAt img s .level) s .1
-      (differs (simp says at (a-file img s f e t)) (sym g ∙ not-true b z))))
+      ((above-says (view_at img) (view_at img s).identifier (view_at img s).level s).1
+      (differs (simp says at (a_file img s f e t)) (sym g ∙ not-true b z))))

@@ -3,24 +3,23 @@
 //
 // The first walk asks what needs nothing known, and gathers the identifiers of directories and what each directory's
 // children cost; the second asks what needs these. Each record is asked twice.
-ghost use mathlib.Core.Path.{_≡_};
-ghost use mathlib.Core.Bool.{true};
-ghost use Prim.Native.Nat.{_+_, _<_};
-ghost use Rattle·laws.specs.Walks.{allBelow};
-ghost use Rattle·keys.specs.Marks.{Keyed};
-ghost use Rattle·image.specs.Layout.{Sized};
-ghost use Rattle·sound.specs.Table.{viewAt, isFile, charged};
-ghost use Rattle·sound.specs.Kin.{rootb, placedAt, placedb};
-ghost use Rattle·sound_siblings.specs.Key.{siblingKey};
-ghost use Rattle·sound_ancestry.specs.Directories.{Seen};
-ghost use Rattle·sound_charges.specs.Summing.{Summed};
-ghost use Rattle·sound_links·specs.specs.Linked.{firstAt, secondAt, linkedb};
+ghost use Rattle.std.specs.Prelude.{◌≡◌, true, ◌+◌, ◌<◌};
+ghost use Rattle.laws.specs.Walks.{all_below};
+ghost use Rattle.keys.specs.Marks.{Keyed};
+ghost use Rattle.image.specs.Layout.{Sized};
+ghost use Rattle.sound.specs.Table.{view_at, is_file, charged};
+ghost use Rattle.sound.specs.Kin.{rootb, placed_at, placedb};
+ghost use Rattle.sound_siblings.specs.Key.{sibling_key};
+ghost use Rattle.sound_ancestry.specs.Directories.{Seen};
+ghost use Rattle.sound_charges.specs.Summing.{Summed};
+ghost use Rattle.sound_links.specs.Linked.{first_at, second_at, linkedb};
+
 use rules::descriptor;
 
 // Whether s, if it is a file, has as parent a DF with level one less.
 fn placed_at(image: &[u8], n: usize, s: usize) -> bool
-    requires { ⌜ Sized (now image) n × (s < n) ⌝ }
-    ensures { λ r. ⌜ r ≡ placedAt n (viewAt (now (image .entry))) s ⌝ }
+    requires { Sized image.now n × (s < n) }
+    ensures { result ≡ placed_at n (view_at image.now) s }
 {
     if !kinship::search::is_file(image, s) {
         return true;
@@ -45,14 +44,14 @@ fn first_at(
     n: usize,
     s: usize,
 ) -> bool
-    requires { ⌜ Sized (now image) n × (s < n) ⌝ }
-    requires { ⌜ Keyed (isFile (viewAt (now image))) (siblingKey (viewAt (now image))) s (now seen) ⌝ }
-    requires { ⌜ Seen (viewAt (now image)) s (now once) (now twice) ⌝ }
-    requires { ⌜ Summed (viewAt (now image)) s (now sums) ⌝ }
-    ensures { λ r. ⌜ r ≡ firstAt n (viewAt (now (image .entry))) s ⌝ }
-    ensures { λ _. ⌜ Keyed (isFile (viewAt (now (image .entry)))) (siblingKey (viewAt (now (image .entry)))) (s + 1) (now (seen .exit)) ⌝ }
-    ensures { λ _. ⌜ Seen (viewAt (now (image .entry))) (s + 1) (now (once .exit)) (now (twice .exit)) ⌝ }
-    ensures { λ _. ⌜ Summed (viewAt (now (image .entry))) (s + 1) (now (sums .exit)) ⌝ }
+    requires sized { Sized image.now n × (s < n) }
+    requires keyed { Keyed (is_file (view_at image.now)) (sibling_key (view_at image.now)) s seen.old }
+    requires seen { Seen (view_at image.now) s once.old twice.old }
+    requires summed { Summed (view_at image.now) s sums.old }
+    ensures value { result ≡ first_at n (view_at image.now) s }
+    ensures keyed_2 { Keyed (is_file (view_at image.now)) (sibling_key (view_at image.now)) (s + 1) seen.new }
+    ensures seen_2 { Seen (view_at image.now) (s + 1) once.new twice.new }
+    ensures summed_2 { Summed (view_at image.now) (s + 1) sums.new }
 {
     sound_ancestry::note(once, twice, image, s);
     sound_charges::add_cost(sums, image, s);
@@ -71,11 +70,11 @@ fn second_at(
     s: usize,
     sum: u64,
 ) -> bool
-    requires { ⌜ Sized (now image) n × (s < n) ⌝ }
-    requires { ⌜ (rootb n (viewAt (now image)) ≡ true) × (placedb n (viewAt (now image)) ≡ true) ⌝ }
-    requires { ⌜ Seen (viewAt (now image)) n (now once) (now twice) ⌝ }
-    requires { ⌜ sum ≡ charged n (viewAt (now image)) s ⌝ }
-    ensures { λ r. ⌜ r ≡ secondAt n (viewAt (now (image .entry))) s ⌝ }
+    requires sized { Sized image.now n × (s < n) }
+    requires image_value { (rootb n (view_at image.now) ≡ true) × (placedb n (view_at image.now) ≡ true) }
+    requires seen { Seen (view_at image.now) n once.now twice.now }
+    requires sum_value { sum ≡ charged n (view_at image.now) s }
+    ensures { result ≡ second_at n (view_at image.now) s }
 {
     if !sound_charges::covered_at(image, n, s, sum) {
         return false;
@@ -91,11 +90,11 @@ fn second(
     image: &[u8],
     n: usize,
 ) -> bool
-    requires { ⌜ Sized (now image) n ⌝ }
-    requires { ⌜ (rootb n (viewAt (now image)) ≡ true) × (placedb n (viewAt (now image)) ≡ true) ⌝ }
-    requires { ⌜ Seen (viewAt (now image)) n (now once) (now twice) ⌝ }
-    requires { ⌜ Summed (viewAt (now image)) n (now sums) ⌝ }
-    ensures { λ r. ⌜ r ≡ allBelow n (secondAt n (viewAt (now (image .entry)))) ⌝ }
+    requires sized { Sized image.now n }
+    requires image_value { (rootb n (view_at image.now) ≡ true) × (placedb n (view_at image.now) ≡ true) }
+    requires seen { Seen (view_at image.now) n once.now twice.now }
+    requires summed { Summed (view_at image.now) n sums.now }
+    ensures { result ≡ all_below n (second_at n (view_at image.now)) }
 {
     let mut s = 0;
     while s < n {
@@ -109,9 +108,9 @@ fn second(
 
 // Whether places, identifiers and charges of all records are good.
 pub fn linked(image: &[u8], n: usize) -> bool
-    requires { ⌜ Sized (now image) n ⌝ }
-    requires { ⌜ rootb n (viewAt (now image)) ≡ true ⌝ }
-    ensures { λ r. ⌜ r ≡ linkedb n (viewAt (now (image .entry))) ⌝ }
+    requires sized { Sized image.now n }
+    requires image_value { rootb n (view_at image.now) ≡ true }
+    ensures { result ≡ linkedb n (view_at image.now) }
 {
     let mut seen = [0u64; 1024];
     let mut once = [0u64; 1024];

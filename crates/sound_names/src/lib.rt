@@ -2,23 +2,21 @@
 //
 // The walk over the pairs has a set of the keys of names seen: a record with no name, or with one whose key is new,
 // has no pair to look at. Any key would be right; this one is spread so that few names share one.
-ghost use mathlib.Core.Path.{_≡_};
-ghost use mathlib.Core.Bool.{true};
-ghost use Prim.Native.Nat.{_+_, _<_};
-ghost use lib.ListN.{length};
-ghost use Rattle·keys.specs.Marks.{Keyed};
-ghost use Rattle·image.specs.Layout.{Sized};
-ghost use Rattle·sound.specs.Table.{viewAt};
-ghost use Rattle·sound.specs.Kin.{sameName, namesb};
-ghost use Rattle·sound.specs.Sound.{recordsb};
-ghost use Rattle·sound_names·specs.specs.Key.{nameKey, nameKeyAt, hasName, LooksBack};
+ghost use Rattle.std.specs.Prelude.{◌≡◌, true, ◌+◌, ◌<◌, length};
+ghost use Rattle.keys.specs.Marks.{Keyed};
+ghost use Rattle.image.specs.Layout.{Sized};
+ghost use Rattle.sound.specs.Table.{view_at};
+ghost use Rattle.sound.specs.Kin.{same_name, namesb};
+ghost use Rattle.sound.specs.Sound.{recordsb};
+ghost use Rattle.sound_names.specs.Key.{name_key, name_key_at, has_name, LooksBack};
+
 use image::fields;
 
 // Whether s has a name, and t the same.
 fn same_name(image: &[u8], n: usize, s: usize, t: usize) -> bool
-    requires { ⌜ Sized (now image) n × ((s < n) × (t < n)) ⌝ }
-    requires { ⌜ recordsb (now image) n ≡ true ⌝ }
-    ensures { λ r. ⌜ r ≡ sameName (viewAt (now (image .entry))) s t ⌝ }
+    requires sized { Sized image.now n × ((s < n) × (t < n)) }
+    requires n_value { recordsb image.now n ≡ true }
+    ensures { result ≡ same_name (view_at image.now) s t }
 {
     let name = fields::name(image, s);
     if name.len() == 0 {
@@ -29,8 +27,8 @@ fn same_name(image: &[u8], n: usize, s: usize, t: usize) -> bool
 
 // The name of a record in 16 bits.
 fn key_of(r: &[u8]) -> u16
-    requires { ⌜ length (now r) ≡ 64 ⌝ }
-    ensures { λ k. ⌜ (k ≡ nameKey (now (r .entry))) × (k < 65536) ⌝ }
+    requires { length r.now ≡ 64 }
+    ensures { (result ≡ name_key r.now) × (result < 65536) }
 {
     let a = numbers::u32_at(r, 17) as u64;
     let b = numbers::u32_at(r, 21) as u64;
@@ -41,11 +39,11 @@ fn key_of(r: &[u8]) -> u16
 
 // How far s has to look back: not at all where it has no name, or one with a new key, which is put in.
 fn look_back(seen: &mut [u64; 1024], image: &[u8], n: usize, s: usize) -> usize
-    requires { ⌜ Sized (now image) n × (s < n) ⌝ }
-    requires { ⌜ recordsb (now image) n ≡ true ⌝ }
-    requires { ⌜ Keyed (hasName (viewAt (now image))) (nameKeyAt (now image)) s (now seen) ⌝ }
-    ensures { λ r. ⌜ LooksBack (viewAt (now (image .entry))) s r
-        × Keyed (hasName (viewAt (now (image .entry)))) (nameKeyAt (now (image .entry))) (s + 1) (now (seen .exit)) ⌝ }
+    requires sized { Sized image.now n × (s < n) }
+    requires n_value { recordsb image.now n ≡ true }
+    requires keyed { Keyed (has_name (view_at image.now)) (name_key_at image.now) s seen.old }
+    ensures { LooksBack (view_at image.now) s result
+        × Keyed (has_name (view_at image.now)) (name_key_at image.now) (s + 1) seen.new }
 {
     if fields::name(image, s).len() == 0 {
         return 0;
@@ -60,9 +58,9 @@ fn look_back(seen: &mut [u64; 1024], image: &[u8], n: usize, s: usize) -> usize
 
 // Whether no two records have one name: a walk over the pairs, left at the first that has.
 pub fn distinct(image: &[u8], n: usize) -> bool
-    requires { ⌜ Sized (now image) n ⌝ }
-    requires { ⌜ recordsb (now image) n ≡ true ⌝ }
-    ensures { λ r. ⌜ r ≡ namesb n (viewAt (now (image .entry))) ⌝ }
+    requires sized { Sized image.now n }
+    requires n_value { recordsb image.now n ≡ true }
+    ensures { result ≡ namesb n (view_at image.now) }
 {
     let mut seen = [0u64; 1024];
     let mut distinct = true;

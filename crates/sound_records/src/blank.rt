@@ -1,15 +1,13 @@
 // Stretches of bytes that must be zero (01 "Image"): the header's last five, a free record, the padding of a
 // name and of a rule, the end of a used record. Every command tests every record, and a way out for each byte
 // costs more than the bytes: long stretches are tested in words of eight bytes, which may overlap, or as a whole.
-ghost use mathlib.Core.Path.{_≡_};
-ghost use Prim.Native.Nat.{_+_, _-_, _<_, _≤_};
-ghost use lib.ListN.{length};
-ghost use Rattle·sound.specs.Own.{zerosb};
+ghost use Rattle.std.specs.Prelude.{◌≡◌, ◌+◌, ◌-◌, ◌<◌, ◌≤◌, length};
+ghost use Rattle.sound.specs.Own.{zerosb};
 
 // Whether the n bytes of s from `at` on are zero, byte by byte: for a few.
 pub fn zeros(s: &[u8], at: usize, n: usize) -> bool
-    requires { ⌜ at + n ≤ length (now s) ⌝ }
-    ensures { λ r. ⌜ r ≡ zerosb (now (s .entry)) at n ⌝ }
+    requires { at + n ≤ length s.now }
+    ensures { result ≡ zerosb s.now at n }
 {
     let mut k = 0;
     while k < n {
@@ -23,8 +21,8 @@ pub fn zeros(s: &[u8], at: usize, n: usize) -> bool
 
 // Whether eight bytes are zero, as one number.
 fn eight(s: &[u8], at: usize) -> bool
-    requires { ⌜ at + 8 ≤ length (now s) ⌝ }
-    ensures { λ r. ⌜ r ≡ zerosb (now (s .entry)) at 8 ⌝ }
+    requires { at + 8 ≤ length s.now }
+    ensures { result ≡ zerosb s.now at 8 }
 {
     let high = numbers::u32_at(s, at) as u64;
     let low = numbers::u32_at(s, at + 4) as u64;
@@ -33,8 +31,8 @@ fn eight(s: &[u8], at: usize) -> bool
 
 // Whether 64 bytes are zero, gathered with no way out between.
 pub fn record(r: &[u8]) -> bool
-    requires { ⌜ length (now r) ≡ 64 ⌝ }
-    ensures { λ b. ⌜ b ≡ zerosb (now (r .entry)) 0 64 ⌝ }
+    requires { length r.now ≡ 64 }
+    ensures { result ≡ zerosb r.now 0 64 }
 {
     let mut all: u8 = 0;
     let mut k = 0;
@@ -47,8 +45,8 @@ pub fn record(r: &[u8]) -> bool
 
 // Whether a record has no name: neither a length nor a byte of one.
 pub fn name(r: &[u8]) -> bool
-    requires { ⌜ length (now r) ≡ 64 ⌝ }
-    ensures { λ b. ⌜ b ≡ zerosb (now (r .entry)) 16 17 ⌝ }
+    requires { length r.now ≡ 64 }
+    ensures { result ≡ zerosb r.now 16 17 }
 {
     if !eight(r, 16) {
         return false;
@@ -61,8 +59,8 @@ pub fn name(r: &[u8]) -> bool
 
 // Whether the bytes after a name of n bytes are zero, up to the rule's length.
 pub fn after_name(r: &[u8], n: usize) -> bool
-    requires { ⌜ (length (now r) ≡ 64) × (n ≤ 16) ⌝ }
-    ensures { λ b. ⌜ b ≡ zerosb (now (r .entry)) (17 + n) (16 - n) ⌝ }
+    requires { (length r.now ≡ 64) × (n ≤ 16) }
+    ensures { result ≡ zerosb r.now (17 + n) (16 - n) }
 {
     if n > 8 {
         return zeros(r, 17 + n, 16 - n);
@@ -75,9 +73,9 @@ pub fn after_name(r: &[u8], n: usize) -> bool
 
 // Whether the bytes after a rule of more than 16 bytes are zero, up to `to`: the end of the record, or the start of a body.
 pub fn after_long_rule(r: &[u8], n: usize, to: usize) -> bool
-    requires { ⌜ (length (now r) ≡ 64) × ((16 < n) × (34 + n ≤ to)) ⌝ }
-    requires { ⌜ (62 ≤ to) × (to ≤ 64) ⌝ }
-    ensures { λ b. ⌜ b ≡ zerosb (now (r .entry)) (34 + n) (to - (34 + n)) ⌝ }
+    requires r_len { (length r.now ≡ 64) × ((16 < n) × (34 + n ≤ to)) }
+    requires le_to { (62 ≤ to) × (to ≤ 64) }
+    ensures { result ≡ zerosb r.now (34 + n) (to - (34 + n)) }
 {
     if n > 20 {
         return zeros(r, 34 + n, to - (34 + n));
@@ -90,9 +88,9 @@ pub fn after_long_rule(r: &[u8], n: usize, to: usize) -> bool
 
 // The same of a rule of at most 16 bytes. The words lie so that no length of it is a case of its own.
 pub fn after_rule(r: &[u8], n: usize, to: usize) -> bool
-    requires { ⌜ (length (now r) ≡ 64) × (n ≤ 16) ⌝ }
-    requires { ⌜ (62 ≤ to) × (to ≤ 64) ⌝ }
-    ensures { λ b. ⌜ b ≡ zerosb (now (r .entry)) (34 + n) (to - (34 + n)) ⌝ }
+    requires r_len { (length r.now ≡ 64) × (n ≤ 16) }
+    requires le_to { (62 ≤ to) × (to ≤ 64) }
+    ensures { result ≡ zerosb r.now (34 + n) (to - (34 + n)) }
 {
     if !eight(r, 34 + n) {
         return false;

@@ -1,11 +1,12 @@
 // The header: mark, version, slot count, length, zero bytes (01 "Image").
-ghost use mathlib.Core.Path.{_≡_};
-ghost use Rattle·sound.specs.Sound.{headerb};
+ghost use Rattle.std.specs.Prelude.{◌≡◌};
+ghost use Rattle.sound.specs.Sound.{headerb};
+
 use crate::blank;
 
 // Whether any bytes start with a good header, whose slot count agrees with their length.
 pub fn agrees(image: &[u8]) -> bool
-    ensures { λ r. ⌜ r ≡ headerb (now (image .entry)) ⌝ }
+    ensures { result ≡ headerb image.now }
 {
     if image.len() < 16 {
         return false;

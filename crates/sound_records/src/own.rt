@@ -1,25 +1,22 @@
 // Each record by itself, as a slice of 64 bytes: all zero, or kind, descriptor, life cycle, identifier, size,
 // record length, name, rule and zero bytes as they must be (01 "Image"). The two tables are made once for all
 // records, and lent.
-ghost use mathlib.Core.Path.{_≡_};
-ghost use mathlib.Core.Bool.{_&&_};
-ghost use Prim.Native.Nat.{_<_, _≤_};
-ghost use lib.Dec.{leb};
-ghost use lib.ListN.{length, getD};
-ghost use Rattle·rules.specs.Descriptor.{Classes};
-ghost use Rattle·rules.specs.Group.{Lengths};
-ghost use Rattle·rules.specs.Value.{wholeRecords};
-ghost use Rattle·image.specs.Layout.{Sized, Within, formsOf, recAt, formOf, recordLengthOf, sizeOf};
-ghost use Rattle·sound_records·specs.specs.Ends.{zerosEnd};
-ghost use Rattle·sound.specs.Own.{classedb, measuredb, nameb, ruledb, usedb, ownb};
-ghost use Rattle·sound.specs.Sound.{recordsb};
+ghost use Rattle.std.specs.Prelude.{◌≡◌, ◌&&◌, ◌<◌, ◌≤◌, leb, length, get_or};
+ghost use Rattle.rules.specs.Descriptor.{Classes};
+ghost use Rattle.rules.specs.Group.{Lengths};
+ghost use Rattle.rules.specs.Value.{whole_records};
+ghost use Rattle.image.specs.Layout.{Sized, Within, forms_of, rec_at, form_of, record_length_of, size_of};
+ghost use Rattle.sound_records.specs.Ends.{zeros_end};
+ghost use Rattle.sound.specs.Own.{classedb, measuredb, nameb, ruledb, usedb, ownb};
+ghost use Rattle.sound.specs.Sound.{recordsb};
+
 use crate::blank;
 
 // Kind, descriptor, life cycle, identifier.
 fn classed(r: &[u8], classes: &[u8; 256]) -> bool
-    requires { ⌜ length (now r) ≡ 64 ⌝ }
-    requires { ⌜ Classes (now classes) ⌝ }
-    ensures { λ b. ⌜ b ≡ classedb (now (r .entry)) ⌝ }
+    requires r_len { length r.now ≡ 64 }
+    requires classes { Classes classes.now }
+    ensures { result ≡ classedb r.now }
 {
     let d = numbers::wide(r[1]) as usize;
     if classes[d] != r[0] {
@@ -33,8 +30,8 @@ fn classed(r: &[u8], classes: &[u8; 256]) -> bool
 
 // Size and record length of a file with records.
 fn recorded(r: &[u8]) -> bool
-    requires { ⌜ length (now r) ≡ 64 ⌝ }
-    ensures { λ b. ⌜ b ≡ (leb 1 (sizeOf (now (r .entry))) && wholeRecords (recordLengthOf (now (r .entry))) (sizeOf (now (r .entry)))) ⌝ }
+    requires { length r.now ≡ 64 }
+    ensures { result ≡ (leb 1 (size_of r.now) && whole_records (record_length_of r.now) (size_of r.now)) }
 {
     let size = numbers::u32_at(r, 12);
     if size < 1 {
@@ -45,8 +42,8 @@ fn recorded(r: &[u8]) -> bool
 
 // Size and record length. Where there are no records both are only compared with zero.
 fn measured(r: &[u8]) -> bool
-    requires { ⌜ length (now r) ≡ 64 ⌝ }
-    ensures { λ b. ⌜ b ≡ measuredb (now (r .entry)) ⌝ }
+    requires { length r.now ≡ 64 }
+    ensures { result ≡ measuredb r.now }
 {
     if rules::descriptor::has_records(r[1]) {
         return recorded(r);
@@ -59,8 +56,8 @@ fn measured(r: &[u8]) -> bool
 
 // The name; an EF has none.
 fn name_fits(r: &[u8]) -> bool
-    requires { ⌜ length (now r) ≡ 64 ⌝ }
-    ensures { λ b. ⌜ b ≡ nameb (now (r .entry)) ⌝ }
+    requires { length r.now ≡ 64 }
+    ensures { result ≡ nameb r.now }
 {
     if blank::name(r) {
         return true;
@@ -77,8 +74,8 @@ fn name_fits(r: &[u8]) -> bool
 
 // Where the zeros after a rule end: at the start of a body, where one stands, else at the end of the record.
 fn zeros_end(r: &[u8], v: u32) -> usize
-    requires { ⌜ length (now r) ≡ 64 ⌝ }
-    ensures { λ e. ⌜ (e ≡ zerosEnd v (now (r .entry))) × ((62 ≤ e) × (e ≤ 64)) ⌝ }
+    requires { length r.now ≡ 64 }
+    ensures { (result ≡ zeros_end v r.now) × ((62 ≤ result) × (result ≤ 64)) }
 {
     if !image::version::has_bodies(v) {
         return 64;
@@ -92,10 +89,10 @@ fn zeros_end(r: &[u8], v: u32) -> usize
 // A rule of n bytes, more than 16: as long as the version has room for, and zeros after it up to `end`. What most rules do not
 // ask stands apart.
 fn ruled_long(r: &[u8], v: u32, n: usize, end: usize, lengths: &[u8; 256]) -> bool
-    requires { ⌜ (length (now r) ≡ 64) × ((n ≡ getD (now r) 33 0) × (16 < n)) ⌝ }
-    requires { ⌜ Lengths (now lengths) × (formOf (now r) < formsOf v) ⌝ }
-    requires { ⌜ (end ≡ zerosEnd v (now r)) × ((62 ≤ end) × (end ≤ 64)) ⌝ }
-    ensures { λ b. ⌜ b ≡ ruledb v (now (r .entry)) ⌝ }
+    requires r_len { (length r.now ≡ 64) × ((n ≡ get_or r.now 33 0) × (16 < n)) }
+    requires lengths { Lengths lengths.now × (form_of r.now < forms_of v) }
+    requires end_value { (end ≡ zeros_end v r.now) × ((62 ≤ end) × (end ≤ 64)) }
+    ensures { result ≡ ruledb v r.now }
 {
     if image::version::longest_rule(v) < n {
         return false;
@@ -109,9 +106,9 @@ fn ruled_long(r: &[u8], v: u32, n: usize, end: usize, lengths: &[u8; 256]) -> bo
 
 // The rule, of one of the version's forms, which has room for 16 bytes at least, and zeros after it to the end, or to the start of a body.
 fn ruled(r: &[u8], v: u32, lengths: &[u8; 256]) -> bool
-    requires { ⌜ length (now r) ≡ 64 ⌝ }
-    requires { ⌜ Lengths (now lengths) ⌝ }
-    ensures { λ b. ⌜ b ≡ ruledb v (now (r .entry)) ⌝ }
+    requires r_len { length r.now ≡ 64 }
+    requires lengths { Lengths lengths.now }
+    ensures { result ≡ ruledb v r.now }
 {
     let n = numbers::wide(r[33]) as usize;
     if n < 1 {
@@ -133,9 +130,9 @@ fn ruled(r: &[u8], v: u32, lengths: &[u8; 256]) -> bool
 
 // Whether a used record of a version is good by itself.
 fn used(r: &[u8], v: u32, classes: &[u8; 256], lengths: &[u8; 256]) -> bool
-    requires { ⌜ length (now r) ≡ 64 ⌝ }
-    requires { ⌜ Classes (now classes) × Lengths (now lengths) ⌝ }
-    ensures { λ b. ⌜ b ≡ usedb v (now (r .entry)) ⌝ }
+    requires r_len { length r.now ≡ 64 }
+    requires classes { Classes classes.now × Lengths lengths.now }
+    ensures { result ≡ usedb v r.now }
 {
     if !classed(r, classes) {
         return false;
@@ -151,9 +148,9 @@ fn used(r: &[u8], v: u32, classes: &[u8; 256], lengths: &[u8; 256]) -> bool
 
 // Whether 64 bytes are a free record, or a used one that is good by itself.
 fn good(r: &[u8], v: u32, classes: &[u8; 256], lengths: &[u8; 256]) -> bool
-    requires { ⌜ length (now r) ≡ 64 ⌝ }
-    requires { ⌜ Classes (now classes) × Lengths (now lengths) ⌝ }
-    ensures { λ b. ⌜ b ≡ ownb v (now (r .entry)) ⌝ }
+    requires r_len { length r.now ≡ 64 }
+    requires classes { Classes classes.now × Lengths lengths.now }
+    ensures { result ≡ ownb v r.now }
 {
     if r[0] == 0 {
         return blank::record(r);
@@ -163,9 +160,9 @@ fn good(r: &[u8], v: u32, classes: &[u8; 256], lengths: &[u8; 256]) -> bool
 
 // Whether the record in slot s is.
 fn good_at(image: &[u8], v: u32, s: usize, classes: &[u8; 256], lengths: &[u8; 256]) -> bool
-    requires { ⌜ Within (now image) s ⌝ }
-    requires { ⌜ Classes (now classes) × Lengths (now lengths) ⌝ }
-    ensures { λ b. ⌜ b ≡ ownb v (recAt (now (image .entry)) s) ⌝ }
+    requires within { Within image.now s }
+    requires classes { Classes classes.now × Lengths lengths.now }
+    ensures { result ≡ ownb v (rec_at image.now s) }
 {
     let from = 16 + 64 * s;
     let to = from + 64;
@@ -174,8 +171,8 @@ fn good_at(image: &[u8], v: u32, s: usize, classes: &[u8; 256], lengths: &[u8; 2
 
 // Whether each record is good by itself.
 pub fn records(image: &[u8], n: usize) -> bool
-    requires { ⌜ Sized (now image) n ⌝ }
-    ensures { λ b. ⌜ b ≡ recordsb (now (image .entry)) n ⌝ }
+    requires { Sized image.now n }
+    ensures { result ≡ recordsb image.now n }
 {
     let v = image::fields::version(image);
     let classes = rules::descriptor::classes();

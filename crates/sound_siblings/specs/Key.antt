@@ -1,7 +1,7 @@
 -- The key of a file among its siblings.
-use Prim.Native.Nat.{ℕ, _+_, _*_, _%_}
-use Rattle·sound.specs.Table.{View}
+use Rattle.std.specs.Prelude.{ℕ, ◌+◌, ◌*◌, ◌%◌}
+use Rattle.sound.specs.Table.{View}
 
 -- parent and identifier in 16 bits
-unfoldable pub siblingKey : (ℕ → View) → ℕ → ℕ
-siblingKey v s = (v s .identifier + v s .parent * 40503) % 65536
+unfoldable pub sibling_key : (ℕ → View) → ℕ → ℕ
+sibling_key v s = ((v s).identifier + (v s).parent * 40503) % 65536

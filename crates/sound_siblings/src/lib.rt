@@ -3,20 +3,20 @@
 // A walk over all records has a set of the keys seen: a file whose key is new can have no sibling like it before it,
 // and only one whose key was seen looks at them. Any key would be right; this one is spread so that few files share
 // one.
-ghost use mathlib.Core.Path.{_≡_};
-ghost use Prim.Native.Nat.{_+_, _*_, _%_, _<_};
-ghost use Rattle·keys.specs.Marks.{Keyed};
-ghost use Rattle·image.specs.Layout.{Sized};
-ghost use Rattle·sound.specs.Table.{viewAt, isFile};
-ghost use Rattle·sound.specs.Kin.{siblingsAt};
-ghost use Rattle·sound_siblings·specs.specs.Key.{siblingKey};
+ghost use Rattle.std.specs.Prelude.{◌≡◌, ◌+◌, ◌*◌, ◌%◌, ◌<◌};
+ghost use Rattle.keys.specs.Marks.{Keyed};
+ghost use Rattle.image.specs.Layout.{Sized};
+ghost use Rattle.sound.specs.Table.{view_at, is_file};
+ghost use Rattle.sound.specs.Kin.{siblings_at};
+ghost use Rattle.sound_siblings.specs.Key.{sibling_key};
+
 use image::fields;
 use kinship::search;
 
 // Whether s differs from each sibling before it.
 fn siblings_at(image: &[u8], n: usize, s: usize) -> bool
-    requires { ⌜ Sized (now image) n × (s < n) ⌝ }
-    ensures { λ r. ⌜ r ≡ siblingsAt (viewAt (now (image .entry))) s ⌝ }
+    requires { Sized image.now n × (s < n) }
+    ensures { result ≡ siblings_at (view_at image.now) s }
 {
     if !search::is_file(image, s) {
         return true;
@@ -35,18 +35,18 @@ fn siblings_at(image: &[u8], n: usize, s: usize) -> bool
 
 // Parent and identifier in 16 bits.
 fn key_of(parent: usize, identifier: u16) -> u16
-    requires { ⌜ parent < 65536 ⌝ }
-    ensures { λ r. ⌜ (r ≡ (identifier + parent * 40503) % 65536) × (r < 65536) ⌝ }
+    requires { parent < 65536 }
+    ensures { (result ≡ (identifier + parent * 40503) % 65536) × (result < 65536) }
 {
     (((identifier as u32) + (parent as u32) * 40503) % 65536) as u16
 }
 
 // Whether s differs from its siblings before it; only one whose key was seen looks at them. Its key is put in.
 pub fn alone(seen: &mut [u64; 1024], image: &[u8], n: usize, s: usize) -> bool
-    requires { ⌜ Sized (now image) n × (s < n) ⌝ }
-    requires { ⌜ Keyed (isFile (viewAt (now image))) (siblingKey (viewAt (now image))) s (now seen) ⌝ }
-    ensures { λ r. ⌜ (r ≡ siblingsAt (viewAt (now (image .entry))) s)
-        × Keyed (isFile (viewAt (now (image .entry)))) (siblingKey (viewAt (now (image .entry)))) (s + 1) (now (seen .exit)) ⌝ }
+    requires sized { Sized image.now n × (s < n) }
+    requires keyed { Keyed (is_file (view_at image.now)) (sibling_key (view_at image.now)) s seen.old }
+    ensures { (result ≡ siblings_at (view_at image.now) s)
+        × Keyed (is_file (view_at image.now)) (sibling_key (view_at image.now)) (s + 1) seen.new }
 {
     if !search::is_file(image, s) {
         return true;

@@ -4,21 +4,20 @@
 // (`sound_records`), the root, parents and levels, identifiers and charges (`sound_links`), names (`sound_names`),
 // what is current, where bodies lie (`pool`). Walking up is safe only once parents and levels are known good, names
 // are short only once each record is, and the pool only once the root is.
-ghost use mathlib.Core.Path.{_≡_};
-ghost use mathlib.Core.Bool.{true};
-ghost use Rattle·image.specs.Layout.{Sized, countOf};
-ghost use Rattle·sound.specs.Table.{viewAt};
-ghost use Rattle·sound.specs.Kin.{kinb};
-ghost use Rattle·sound.specs.Sound.{recordsb, bodiesb, soundb};
+ghost use Rattle.std.specs.Prelude.{◌≡◌, true};
+ghost use Rattle.image.specs.Layout.{Sized, count_of};
+ghost use Rattle.sound.specs.Table.{view_at};
+ghost use Rattle.sound.specs.Kin.{kinb};
+ghost use Rattle.sound.specs.Sound.{recordsb, bodiesb, soundb};
 
 pub mod current;
 pub mod root;
 
 // Whether all holds that must hold between records.
 fn kin(image: &[u8], n: usize) -> bool
-    requires { ⌜ Sized (now image) n ⌝ }
-    requires { ⌜ recordsb (now image) n ≡ true ⌝ }
-    ensures { λ r. ⌜ r ≡ kinb n (viewAt (now (image .entry))) ⌝ }
+    requires sized { Sized image.now n }
+    requires n_value { recordsb image.now n ≡ true }
+    ensures { result ≡ kinb n (view_at image.now) }
 {
     if !root::stands(image, n) {
         return false;
@@ -31,8 +30,8 @@ fn kin(image: &[u8], n: usize) -> bool
 
 // Whether bodies lie in the pool, which is as long as the root's total, apart; where the version has none, none does otherwise.
 fn bodies(image: &[u8], n: usize) -> bool
-    requires { ⌜ Sized (now image) n × ((n ≡ countOf (now image)) × (kinb n (viewAt (now image)) ≡ true)) ⌝ }
-    ensures { λ r. ⌜ r ≡ bodiesb (now (image .entry)) ⌝ }
+    requires { Sized image.now n × ((n ≡ count_of image.now) × (kinb n (view_at image.now) ≡ true)) }
+    ensures { result ≡ bodiesb image.now }
 {
     if !image::version::has_bodies(image::fields::version(image)) {
         return true;
@@ -42,7 +41,7 @@ fn bodies(image: &[u8], n: usize) -> bool
 
 // Whether an image is sound, for any bytes of any length.
 pub fn sound(image: &[u8]) -> bool
-    ensures { λ r. ⌜ r ≡ soundb (now (image .entry)) ⌝ }
+    ensures { result ≡ soundb image.now }
 {
     if !sound_records::header::agrees(image) {
         return false;

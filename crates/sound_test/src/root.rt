@@ -1,14 +1,15 @@
 // The root in slot 0 (01 "Image").
-ghost use mathlib.Core.Path.{_≡_};
-ghost use Rattle·image.specs.Layout.{Sized};
-ghost use Rattle·sound.specs.Table.{viewAt};
-ghost use Rattle·sound.specs.Kin.{rootb};
+ghost use Rattle.std.specs.Prelude.{◌≡◌};
+ghost use Rattle.image.specs.Layout.{Sized};
+ghost use Rattle.sound.specs.Table.{view_at};
+ghost use Rattle.sound.specs.Kin.{rootb};
+
 use rules::descriptor;
 
 // Whether slot 0 is a DF, 3F00, parent 0, level 0, with a total that the slots can hold.
 pub fn stands(image: &[u8], n: usize) -> bool
-    requires { ⌜ Sized (now image) n ⌝ }
-    ensures { λ r. ⌜ r ≡ rootb n (viewAt (now (image .entry))) ⌝ }
+    requires { Sized image.now n }
+    ensures { result ≡ rootb n (view_at image.now) }
 {
     if image::fields::kind(image, 0) != descriptor::DF {
         return false;

@@ -3,19 +3,19 @@
 //
 // A walk over the slots: each climbs to a record that is known, or that stands no deeper than the directory; then all
 // that it passed are known too. So no record is passed by two climbs, and one whose parent is known climbs nowhere.
-ghost use mathlib.Core.Path.{_≡_};
-ghost use Prim.Native.Nat.{_+_, _<_};
-ghost use Rattle·image.specs.Layout.{Within};
-ghost use Rattle·sound.specs.Table.{viewAt};
-ghost use Rattle·sound.specs.Kinship.{atOrBeneath, beneath as isBeneath, filesBeneath};
-ghost use Rattle·kinship.specs.Climb.{Rooted, Stands};
-ghost use Rattle·subtree·specs.specs.Known.{markOf, isOpen, Known, MarkOrNone, Keeps, Settled};
+ghost use Rattle.std.specs.Prelude.{◌≡◌, ◌+◌, ◌<◌};
+ghost use Rattle.image.specs.Layout.{Within};
+ghost use Rattle.sound.specs.Table.{view_at};
+ghost use Rattle.sound.specs.Kinship.{at_or_beneath, beneath as lies_beneath, files_beneath};
+ghost use Rattle.kinship.specs.Climb.{Rooted, Stands};
+ghost use Rattle.subtree.specs.Known.{mark_of, is_open, Known, MarkOrNone, Keeps, Settled};
+
 use image::fields;
 
 // Whether s is not known yet, and deeper than level `high`.
 fn open(marks: &[u8; 1023], image: &[u8], high: usize, s: usize) -> bool
-    requires { ⌜ Within (now image) s ⌝ }
-    ensures { λ r. ⌜ r ≡ isOpen (viewAt (now (image .entry))) high (now (marks .entry)) s ⌝ }
+    requires { Within image.now s }
+    ensures { result ≡ is_open (view_at image.now) high marks.now s }
 {
     if marks[s] != 0 {
         return false;
@@ -25,10 +25,10 @@ fn open(marks: &[u8; 1023], image: &[u8], high: usize, s: usize) -> bool
 
 // The mark of s: that of the first record on the way up that is known or no deeper than d.
 fn find(marks: &[u8; 1023], image: &[u8], n: usize, d: usize, s: usize) -> u8
-    requires { ⌜ Rooted (now image) n ⌝ }
-    requires { ⌜ (d < n) × Stands (now image) n s ⌝ }
-    requires { ⌜ Known (viewAt (now image)) n d (now marks) ⌝ }
-    ensures { λ r. ⌜ r ≡ markOf (atOrBeneath (viewAt (now (image .entry))) d s) ⌝ }
+    requires rooted { Rooted image.now n }
+    requires d_lt_n { (d < n) × Stands image.now n s }
+    requires known { Known (view_at image.now) n d marks.now }
+    ensures { result ≡ mark_of (at_or_beneath (view_at image.now) d s) }
 {
     let high = fields::level(image, d);
     let mut t = s;
@@ -47,11 +47,11 @@ fn find(marks: &[u8; 1023], image: &[u8], n: usize, d: usize, s: usize) -> u8
 
 // Gives the mark of s to all that `find` passed.
 fn spread(marks: &mut [u8; 1023], image: &[u8], n: usize, d: usize, s: usize, mark: u8)
-    requires { ⌜ Rooted (now image) n ⌝ }
-    requires { ⌜ (d < n) × Stands (now image) n s ⌝ }
-    requires { ⌜ Known (viewAt (now image)) n d (now marks) ⌝ }
-    requires { ⌜ mark ≡ markOf (atOrBeneath (viewAt (now image)) d s) ⌝ }
-    ensures { λ _. ⌜ Known (viewAt (now (image .entry))) n d (now (marks .exit)) × Keeps (now (marks .entry)) (now (marks .exit)) ⌝ }
+    requires rooted { Rooted image.now n }
+    requires d_lt_n { (d < n) × Stands image.now n s }
+    requires known { Known (view_at image.now) n d marks.old }
+    requires mark_value { mark ≡ mark_of (at_or_beneath (view_at image.now) d s) }
+    ensures { Known (view_at image.now) n d marks.new × Keeps marks.old marks.new }
 {
     let high = fields::level(image, d);
     let mut t = s;
@@ -64,10 +64,10 @@ fn spread(marks: &mut [u8; 1023], image: &[u8], n: usize, d: usize, s: usize, ma
 // The mark of s where that takes no climb: s is no deeper than d, or its parent's mark is its own, which is 0 as long as it is not
 // known. Parents mostly stand in lower slots, so most records are settled here.
 fn at_once(marks: &[u8; 1023], image: &[u8], n: usize, d: usize, s: usize) -> u8
-    requires { ⌜ Rooted (now image) n ⌝ }
-    requires { ⌜ (d < n) × Stands (now image) n s ⌝ }
-    requires { ⌜ Known (viewAt (now image)) n d (now marks) ⌝ }
-    ensures { λ r. ⌜ MarkOrNone (viewAt (now (image .entry))) d s r ⌝ }
+    requires rooted { Rooted image.now n }
+    requires d_lt_n { (d < n) × Stands image.now n s }
+    requires known { Known (view_at image.now) n d marks.now }
+    ensures { MarkOrNone (view_at image.now) d s result }
 {
     if fields::level(image, d) < fields::level(image, s) {
         return marks[fields::parent(image, s)];
@@ -80,10 +80,10 @@ fn at_once(marks: &[u8; 1023], image: &[u8], n: usize, d: usize, s: usize) -> u8
 
 // Makes s known.
 fn settle(marks: &mut [u8; 1023], image: &[u8], n: usize, d: usize, s: usize)
-    requires { ⌜ Rooted (now image) n ⌝ }
-    requires { ⌜ (d < n) × (s < n) ⌝ }
-    requires { ⌜ Settled (viewAt (now image)) n d s (now marks) ⌝ }
-    ensures { λ _. ⌜ Settled (viewAt (now (image .entry))) n d (s + 1) (now (marks .exit)) ⌝ }
+    requires rooted { Rooted image.now n }
+    requires d_lt_n { (d < n) × (s < n) }
+    requires settled { Settled (view_at image.now) n d s marks.old }
+    ensures { Settled (view_at image.now) n d (s + 1) marks.new }
 {
     if marks[s] != 0 {
         return;
@@ -104,10 +104,10 @@ fn settle(marks: &mut [u8; 1023], image: &[u8], n: usize, d: usize, s: usize)
 
 // Marks every slot: 1 where it holds d or a file beneath it, else 2. The array comes with zeros.
 pub fn settle_all(marks: &mut [u8; 1023], image: &[u8], n: usize, d: usize)
-    requires { ⌜ Rooted (now image) n ⌝ }
-    requires { ⌜ d < n ⌝ }
-    requires { ⌜ Settled (viewAt (now image)) n d 0 (now marks) ⌝ }
-    ensures { λ _. ⌜ Settled (viewAt (now (image .entry))) n d n (now (marks .exit)) ⌝ }
+    requires rooted { Rooted image.now n }
+    requires d_lt_n { d < n }
+    requires settled { Settled (view_at image.now) n d 0 marks.old }
+    ensures { Settled (view_at image.now) n d n marks.new }
 {
     let mut s = 0;
     while s < n {
@@ -118,9 +118,9 @@ pub fn settle_all(marks: &mut [u8; 1023], image: &[u8], n: usize, d: usize)
 
 // Whether slot s, whose mark is known, holds a file beneath directory d.
 fn is_beneath(marks: &[u8; 1023], image: &[u8], n: usize, d: usize, s: usize) -> bool
-    requires { ⌜ Rooted (now image) n × (s < n) ⌝ }
-    requires { ⌜ Settled (viewAt (now image)) n d n (now marks) ⌝ }
-    ensures { λ r. ⌜ r ≡ isBeneath (viewAt (now (image .entry))) d s ⌝ }
+    requires rooted { Rooted image.now n × (s < n) }
+    requires settled { Settled (view_at image.now) n d n marks.now }
+    ensures { result ≡ lies_beneath (view_at image.now) d s }
 {
     if marks[s] != 1 {
         return false;
@@ -130,9 +130,9 @@ fn is_beneath(marks: &[u8; 1023], image: &[u8], n: usize, d: usize, s: usize) ->
 
 // How many files lie beneath directory d.
 pub fn beneath(image: &[u8], n: usize, d: usize) -> u32
-    requires { ⌜ Rooted (now image) n ⌝ }
-    requires { ⌜ d < n ⌝ }
-    ensures { λ r. ⌜ r ≡ filesBeneath n (viewAt (now (image .entry))) d ⌝ }
+    requires rooted { Rooted image.now n }
+    requires d_lt_n { d < n }
+    ensures { result ≡ files_beneath n (view_at image.now) d }
 {
     let mut marks = [0u8; 1023];
     settle_all(&mut marks, image, n, d);

@@ -6,6 +6,7 @@ pub mod gather;
 pub mod value;
 
 // One data object at a place: its tag, and where its value starts and ends.
+#[derive(Drop)]
 pub enum Object {
     Whole { tag: u8, start: usize, end: usize },
     Broken,
@@ -13,6 +14,7 @@ pub enum Object {
 
 // The objects that a template holds, by their number in 01's list: where the value of each starts and ends,
 // 0 and 0 for one that is not there; and the place after the last.
+#[derive(Drop)]
 pub struct Objects {
     pub starts: [usize; 12],
     pub ends: [usize; 12],
@@ -20,6 +22,7 @@ pub struct Objects {
 }
 
 // A stretch of CREATE's data, where a value stands: from start to end.
+#[derive(Drop)]
 pub struct Span {
     pub start: usize,
     pub end: usize,

@@ -1,13 +1,12 @@
 // The values of single objects, each read from its own part of the data, for any bytes (01 "CREATE").
-ghost use mathlib.Core.Path.{_≡_};
-ghost use Rattle·template·specs.specs.Values.{firstOf, pairOf, recordLengthOf, numberOf, fitsName};
-use numbers::u16_at;
-use numbers::u32_at;
-use numbers::wide;
+ghost use Rattle.std.specs.Prelude.{◌≡◌};
+ghost use Rattle.template.specs.Values.{first_of, pair_of, record_length_of, number_of, fits_name};
+
+use numbers::{u16_at, u32_at, wide};
 
 // The first byte; 0 where there is none.
 pub fn first(v: &[u8]) -> u8
-    ensures { λ r. ⌜ r ≡ firstOf (now (v .entry)) ⌝ }
+    ensures { result ≡ first_of v.now }
 {
     if v.len() < 1 {
         return 0;
@@ -17,7 +16,7 @@ pub fn first(v: &[u8]) -> u8
 
 // The 16-bit number in two bytes; 0 for any other length.
 pub fn pair(v: &[u8]) -> u16
-    ensures { λ r. ⌜ r ≡ pairOf (now (v .entry)) ⌝ }
+    ensures { result ≡ pair_of v.now }
 {
     if v.len() == 2 {
         return u16_at(v, 0);
@@ -27,7 +26,7 @@ pub fn pair(v: &[u8]) -> u16
 
 // The record length in the four bytes of 82; 0 for any other length.
 pub fn record_length(v: &[u8]) -> u16
-    ensures { λ r. ⌜ r ≡ recordLengthOf (now (v .entry)) ⌝ }
+    ensures { result ≡ record_length_of v.now }
 {
     if v.len() == 4 {
         return u16_at(v, 2);
@@ -37,7 +36,7 @@ pub fn record_length(v: &[u8]) -> u16
 
 // A size in two to four bytes; 0 for any other length.
 pub fn number(v: &[u8]) -> u32
-    ensures { λ r. ⌜ r ≡ numberOf (now (v .entry)) ⌝ }
+    ensures { result ≡ number_of v.now }
 {
     if v.len() == 2 {
         return u16_at(v, 0) as u32;
@@ -55,7 +54,7 @@ pub fn number(v: &[u8]) -> u32
 
 // Whether a name has 1 to 16 bytes.
 pub fn fits_name(v: &[u8]) -> bool
-    ensures { λ r. ⌜ r ≡ fitsName (now (v .entry)) ⌝ }
+    ensures { result ≡ fits_name v.now }
 {
     if v.len() < 1 {
         return false;

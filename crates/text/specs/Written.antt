@@ -1,10 +1,7 @@
 -- What was written into a buffer, and what of it can be lent on.
-use Prim.Native.Nat.{ℕ, _+_, _≤_}
-use mathlib.Core.Path.{_≡_}
-use mathlib.Core.List.{List, [], _∷_}
-use lib.ListN.{length, take}
-use Rattle·laws.specs.Lists.{splice}
-use Rattle·laws.specs.Settled.{Settles}
+use Rattle.std.specs.Prelude.{ℕ, ◌+◌, ◌≤◌, ◌≡◌, List, [], ◌∷◌, length, take}
+use Rattle.laws.specs.Lists.{splice}
+use Rattle.laws.specs.Settled.{Settles}
 
 -- the text stands from `at` on, r is the place after it, and the rest of the buffer is as it came
 pub record WroteAt (at r : ℕ) (before after text : List ℕ) : Type 0 where
@@ -26,4 +23,4 @@ big = 66 ∷ 73 ∷ 71 ∷ 10 ∷ []
 
 -- what was written settles the number and the buffer (proofs/Written, `wrote-once`)
 abbrev pub WroteOnce : Type 0
-WroteOnce = (before text : List ℕ) → Settles (ℕ × List ℕ) (λ p. Wrote (p .0) before (p .1) text)
+WroteOnce = (before text : List ℕ) → Settles (ℕ × List ℕ) (λ p. Wrote p.0 before p.1 text)

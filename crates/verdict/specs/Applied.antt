@@ -1,44 +1,42 @@
 -- What a verdict gives: its word, and image and pool afterwards, byte for byte. A refusal leaves them as they came.
-use Prim.Native.Nat.{ℕ}
-use mathlib.Core.List.{List}
-use lib.ListN.{drop}
-use Rattle·laws.specs.Lists.{splice}
-use Rattle·template.specs.Objects.{bytesAt}
-use Rattle·image.specs.Layout.{setLife, setCurrent}
-use Rattle·sound.specs.Effects.{made, filled, deleted, wiped}
-use Rattle·verdict·specs.specs.declared.Verdict.{Verdict}
-use Rattle·verdict·specs.specs.declared.Verdict.the-variants.{Refuse, Select, Create, Delete, SetLife, Read, Update}
-use Rattle·verdict·specs.specs.Words.{done}
+use Rattle.std.specs.Prelude.{ℕ, List, drop}
+use Rattle.laws.specs.Lists.{splice}
+use Rattle.template.specs.Objects.{bytes_at}
+use Rattle.image.specs.Layout.{set_life, set_current}
+use Rattle.sound.specs.Effects.{made, filled, deleted, wiped}
+use Rattle.verdict.specs.declared.Verdict.{Verdict}
+use Rattle.verdict.specs.declared.Verdict.TheVariants.{Refuse, Select, Create, Delete, SetLife, Read, Update}
+use Rattle.verdict.specs.Words.{done}
 
-abbrev pub wordOf : Verdict → ℕ
-wordOf (Refuse word) = word
-wordOf (Select d e word) = word
-wordOf (Create x) = done
-wordOf (Delete s) = done
-wordOf (SetLife s life) = done
-wordOf (Read at n) = done
-wordOf (Update at) = done
+abbrev pub word_of : Verdict → ℕ
+word_of (Refuse word) = word
+word_of (Select d e word) = word
+word_of (Create x) = done
+word_of (Delete s) = done
+word_of (SetLife s life) = done
+word_of (Read at n) = done
+word_of (Update at) = done
 
 -- the data of CREATE and UPDATE: what follows the five bytes up to Lc
-abbrev pub sentData : List ℕ → List ℕ
-sentData c = drop 5 c
+abbrev pub sent_data : List ℕ → List ℕ
+sent_data c = drop 5 c
 
 -- the image after a verdict on the command c
-abbrev pub appliedOf : List ℕ → List ℕ → Verdict → List ℕ
-appliedOf img c (Refuse word) = img
-appliedOf img c (Select d e word) = setCurrent img d e
-appliedOf img c (Create x) = made img (x .slot) (x .head) (bytesAt (sentData c) (x .name)) (bytesAt (sentData c) (x .rule))
-appliedOf img c (Delete s) = deleted img s
-appliedOf img c (SetLife s life) = setLife img s life
-appliedOf img c (Read at n) = img
-appliedOf img c (Update at) = img
+abbrev pub applied_of : List ℕ → List ℕ → Verdict → List ℕ
+applied_of img c (Refuse word) = img
+applied_of img c (Select d e word) = set_current img d e
+applied_of img c (Create x) = made img x.slot x.head (bytes_at (sent_data c) x.name) (bytes_at (sent_data c) x.rule)
+applied_of img c (Delete s) = deleted img s
+applied_of img c (SetLife s life) = set_life img s life
+applied_of img c (Read at n) = img
+applied_of img c (Update at) = img
 
 -- .. and the pool
-abbrev pub pooledOf : List ℕ → List ℕ → List ℕ → Verdict → List ℕ
-pooledOf img pool c (Refuse word) = pool
-pooledOf img pool c (Select d e word) = pool
-pooledOf img pool c (Create x) = filled img pool (x .head)
-pooledOf img pool c (Delete s) = wiped img pool s
-pooledOf img pool c (SetLife s life) = pool
-pooledOf img pool c (Read at n) = pool
-pooledOf img pool c (Update at) = splice pool at (sentData c)
+abbrev pub pooled_of : List ℕ → List ℕ → List ℕ → Verdict → List ℕ
+pooled_of img pool c (Refuse word) = pool
+pooled_of img pool c (Select d e word) = pool
+pooled_of img pool c (Create x) = filled img pool x.head
+pooled_of img pool c (Delete s) = wiped img pool s
+pooled_of img pool c (SetLife s life) = pool
+pooled_of img pool c (Read at n) = pool
+pooled_of img pool c (Update at) = splice pool at (sent_data c)

@@ -6,6 +6,7 @@ pub mod words;
 
 // What the caller hands over beside the command: the sets of what has been authenticated, and the byte of
 // open channels, of which only bits 1 to 3 count.
+#[derive(Drop)]
 pub struct State {
     pub sets: rules::Sets,
     pub channels: u8,
@@ -13,6 +14,7 @@ pub struct State {
 
 // A record to be made: its slot, its numbers, and where its name and its rule stand in CREATE's data, which follow the
 // five bytes up to Lc.
+#[derive(Drop)]
 pub struct NewRecord {
     pub slot: usize,
     pub head: image::Head,
@@ -21,6 +23,7 @@ pub struct NewRecord {
 }
 
 // What is due: a refusal with its word, or one effect with the numbers that it needs.
+#[derive(Drop)]
 pub enum Verdict {
     Refuse(u16),
     // The current DF and EF slots afterwards, and the word.

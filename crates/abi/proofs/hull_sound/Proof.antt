@@ -1,11 +1,11 @@
 -- `hull_sound`: 1 where the image is sound, else 0.
-use Rattle·laws.proofs.Branches.{answers}
-use borrow.Author.Needs.{needs}
-use Rattle·abi·proofs.proofs.hull_sound.Statement.{statement}
-use Rattle·abi·proofs.proofs.hull_sound.Tie as tie
+use Rattle.laws.proofs.Branches.{answers}
+use borrow.Author.Rules.{rules}
+use Rattle.abi.proofs.hull_sound.Statement.{statement}
+use Rattle.abi.proofs.hull_sound.Tie as tie
 
 sound-requires : tie.Need-sound-requires
-sound-requires c κs = search needs
+sound-requires c κs = search rules
 
 returns : tie.Need-returns
 returns c = search answers

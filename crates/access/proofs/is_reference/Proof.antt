@@ -1,10 +1,10 @@
 -- `is_reference`: three bytes, then the form.
-use Rattle·access·proofs.proofs.Formed.{not-three, three}
-use Rattle·access·proofs.proofs.is_reference.Statement.{statement}
-use Rattle·access·proofs.proofs.is_reference.Tie as tie
+use Rattle.access.proofs.Formed.{not_three, three}
+use Rattle.access.proofs.is_reference.Statement.{statement}
+use Rattle.access.proofs.is_reference.Tie as tie
 
 returns : tie.Need-returns
-returns c = search not-three
+returns c = search not_three
 
 returns-2 : tie.Need-returns-2
 returns-2 c = search three

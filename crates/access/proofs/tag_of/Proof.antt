@@ -1,7 +1,7 @@
--- `tag_of`: its early returns are the lines of `tagOf`.
-use Rattle·laws.proofs.Branches.{branches}
-use Rattle·access·proofs.proofs.tag_of.Statement.{statement}
-use Rattle·access·proofs.proofs.tag_of.Tie as tie
+-- `tag_of`: its early returns are the lines of `tag_of`.
+use Rattle.laws.proofs.Branches.{branches}
+use Rattle.access.proofs.tag_of.Statement.{statement}
+use Rattle.access.proofs.tag_of.Tie as tie
 
 returns : tie.Need-returns
 returns c = search branches depth 30

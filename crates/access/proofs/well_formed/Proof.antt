@@ -1,23 +1,23 @@
 -- `well_formed`: a law for each way out.
-use Rattle·access·proofs.proofs.Formed.{formed}
-use borrow.Author.Needs.{needs}
-use Rattle·access·proofs.proofs.well_formed.Statement.{statement}
-use Rattle·access·proofs.proofs.well_formed.Tie as tie
+use Rattle.access.proofs.Formed.{formed}
+use borrow.Author.Rules.{rules}
+use Rattle.access.proofs.well_formed.Statement.{statement}
+use Rattle.access.proofs.well_formed.Tie as tie
 
 well-formed-requires : tie.Need-well-formed-requires
-well-formed-requires c κs = search needs
+well-formed-requires c κs = search rules
 
 returns : tie.Need-returns
 returns c = search formed
 
 is-reference-requires : tie.Need-is-reference-requires
-is-reference-requires c κs = search needs
+is-reference-requires c κs = search rules
 
 returns-2 : tie.Need-returns-2
 returns-2 c = search formed
 
 well-formed-requires-2 : tie.Need-well-formed-requires-2
-well-formed-requires-2 c κs = search needs
+well-formed-requires-2 c κs = search rules
 
 returns-3 : tie.Need-returns-3
 returns-3 c = search formed

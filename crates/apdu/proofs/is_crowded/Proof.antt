@@ -1,20 +1,20 @@
 -- `is_crowded`: asked only where the command wants to be alone.
-use Rattle·laws.proofs.Chains.{calls}
+use Rattle.laws.proofs.Chains.{calls}
 use mathlib.Core.Path.{refl}
-use Rattle·apdu·specs.specs.Apdu.{crowded}
-use borrow.Author.Needs.{needs}
-use Rattle·apdu·proofs.proofs.is_crowded.Statement.{statement}
-use Rattle·apdu·proofs.proofs.is_crowded.Tie as tie
+use Rattle.apdu.specs.Apdu.{crowded}
+use borrow.Author.Rules.{rules}
+use Rattle.apdu.proofs.is_crowded.Statement.{statement}
+use Rattle.apdu.proofs.is_crowded.Tie as tie
 
 wants-alone-requires : tie.Need-wants-alone-requires
-wants-alone-requires c κs = search needs
+wants-alone-requires c κs = search rules
 
 returns : tie.Need-returns
 unfolding crowded
 returns c = search (calls, refl) depth 30
 
 other-channel-requires : tie.Need-other-channel-requires
-other-channel-requires c κs = search needs
+other-channel-requires c κs = search rules
 
 returns-2 : tie.Need-returns-2
 unfolding crowded

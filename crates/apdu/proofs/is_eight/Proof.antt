@@ -1,26 +1,26 @@
 -- `is_eight`: length, then Lc, then Le.
-use Rattle·laws.proofs.Chains.{ands}
-use Rattle·apdu·specs.specs.Apdu.{isEight}
-use borrow.Author.Needs.{needs}
-use Rattle·apdu·proofs.proofs.is_eight.Statement.{statement}
-use Rattle·apdu·proofs.proofs.is_eight.Tie as tie
+use Rattle.laws.proofs.Chains.{ands}
+use Rattle.apdu.specs.Apdu.{is_eight}
+use borrow.Author.Rules.{rules}
+use Rattle.apdu.proofs.is_eight.Statement.{statement}
+use Rattle.apdu.proofs.is_eight.Tie as tie
 
 returns : tie.Need-returns
-unfolding isEight
+unfolding is_eight
 returns c = search ands depth 30
 
 shared-slice-read-if2 : tie.Need-shared-slice-read-if2
-shared-slice-read-if2 c = search needs
+shared-slice-read-if2 c = search rules
 
 returns-2 : tie.Need-returns-2
-unfolding isEight
+unfolding is_eight
 returns-2 c = search ands depth 30
 
 shared-slice-read-result : tie.Need-shared-slice-read-result
-shared-slice-read-result c = search needs
+shared-slice-read-result c = search rules
 
 returns-3 : tie.Need-returns-3
-unfolding isEight
+unfolding is_eight
 returns-3 c = search ands depth 30
 
 pub is-eight-spec : {M : Type 1} → statement M

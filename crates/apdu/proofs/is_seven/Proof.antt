@@ -1,19 +1,19 @@
 -- `is_seven`: length, then Lc.
-use Rattle·laws.proofs.Chains.{ands}
-use Rattle·apdu·specs.specs.Apdu.{isSeven}
-use borrow.Author.Needs.{needs}
-use Rattle·apdu·proofs.proofs.is_seven.Statement.{statement}
-use Rattle·apdu·proofs.proofs.is_seven.Tie as tie
+use Rattle.laws.proofs.Chains.{ands}
+use Rattle.apdu.specs.Apdu.{is_seven}
+use borrow.Author.Rules.{rules}
+use Rattle.apdu.proofs.is_seven.Statement.{statement}
+use Rattle.apdu.proofs.is_seven.Tie as tie
 
 returns : tie.Need-returns
-unfolding isSeven
+unfolding is_seven
 returns c = search ands depth 30
 
 shared-slice-read-result : tie.Need-shared-slice-read-result
-shared-slice-read-result c = search needs
+shared-slice-read-result c = search rules
 
 returns-2 : tie.Need-returns-2
-unfolding isSeven
+unfolding is_seven
 returns-2 c = search ands depth 30
 
 pub is-seven-spec : {M : Type 1} → statement M

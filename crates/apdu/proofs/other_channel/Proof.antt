@@ -1,11 +1,11 @@
 -- `other_channel`: bits 1 to 3.
 use mathlib.Core.Path.{refl}
-use Rattle·apdu·specs.specs.Apdu.{otherChannel}
-use Rattle·apdu·proofs.proofs.other_channel.Statement.{statement}
-use Rattle·apdu·proofs.proofs.other_channel.Tie as tie
+use Rattle.apdu.specs.Apdu.{other_channel}
+use Rattle.apdu.proofs.other_channel.Statement.{statement}
+use Rattle.apdu.proofs.other_channel.Tie as tie
 
 returns : tie.Need-returns
-unfolding otherChannel
+unfolding other_channel
 returns c = refl
 
 pub other-channel-spec : {M : Type 1} → statement M

@@ -1,17 +1,17 @@
--- `card::pool_fits`: its two ways out are the two sides of `poolFits`.
-use Rattle·card·proofs.proofs.Called.{pool-any, pool-long, sound-long, root-within}
-use borrow.Author.Needs.{needs}
-use Rattle·card·proofs.proofs.pool_fits.Statement.{statement}
-use Rattle·card·proofs.proofs.pool_fits.Tie as tie
+-- `card::pool_fits`: its two ways out are the two sides of `pool_fits`.
+use Rattle.card.proofs.Called.{pool_any, pool-long, sound-long, root-within}
+use borrow.Author.Rules.{rules}
+use Rattle.card.proofs.pool_fits.Statement.{statement}
+use Rattle.card.proofs.pool_fits.Tie as tie
 
 version-requires : tie.Need-version-requires
 version-requires c κs = search sound-long
 
 has-bodies-requires : tie.Need-has-bodies-requires
-has-bodies-requires c κs = search needs
+has-bodies-requires c κs = search rules
 
 returns : tie.Need-returns
-returns c = search pool-any
+returns c = search pool_any
 
 size-requires : tie.Need-size-requires
 size-requires c κs = search root-within

@@ -1,23 +1,23 @@
 -- `judge_bodies::if_usable`: its early returns are the steps of `usable`.
-use Rattle·laws.proofs.Branches.{tests, answers, unlesses}
-use borrow.Author.Needs.{needs}
-use Rattle·judge_bodies·proofs.proofs.if_usable.Statement.{statement}
-use Rattle·judge_bodies·proofs.proofs.if_usable.Tie as tie
+use Rattle.laws.proofs.Branches.{tests, answers, unlesses}
+use borrow.Author.Rules.{rules}
+use Rattle.judge_bodies.proofs.if_usable.Statement.{statement}
+use Rattle.judge_bodies.proofs.if_usable.Tie as tie
 
 may-touch-requires : tie.Need-may-touch-requires
-may-touch-requires c κs = search needs
+may-touch-requires c κs = search rules
 
 returns : tie.Need-returns
 returns c = search (unlesses, answers, tests) depth 30
 
 is-activated-requires : tie.Need-is-activated-requires
-is-activated-requires c κs = search needs
+is-activated-requires c κs = search rules
 
 returns-2 : tie.Need-returns-2
 returns-2 c = search (unlesses, answers, tests) depth 30
 
 terminated-up-requires : tie.Need-terminated-up-requires
-terminated-up-requires c κs = search needs
+terminated-up-requires c κs = search rules
 
 returns-3 : tie.Need-returns-3
 returns-3 c = search (unlesses, answers, tests) depth 30

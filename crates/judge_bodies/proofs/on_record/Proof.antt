@@ -1,48 +1,48 @@
--- `judge_bodies::on_record`: its early returns are the steps of `onRecord`.
-use Rattle·laws.proofs.Branches.{answers, given}
-use Rattle·judge_bodies·proofs.proofs.Touching.{touches}
-use Rattle·pool.proofs.Numbered.{times-small, from-one}
-use borrow.Author.Needs.{needs}
-use Prim.Native.Nat.{_-_}
+-- `judge_bodies::on_record`: its early returns are the steps of `on_record`.
+use Rattle.laws.proofs.Branches.{answers, given}
+use Rattle.judge_bodies.proofs.Touching.{touches}
+use Rattle.pool.proofs.Numbered.{times-small, from_one}
+use borrow.Author.Rules.{rules}
+use Prim.Native.Nat.{◌-◌}
 use native.Mathlib.Omega.{arith}
-use Rattle·judge_bodies·proofs.proofs.on_record.Statement.{statement}
-use Rattle·judge_bodies·proofs.proofs.on_record.Tie as tie
+use Rattle.judge_bodies.proofs.on_record.Statement.{statement}
+use Rattle.judge_bodies.proofs.on_record.Tie as tie
 
 has-records-requires : tie.Need-has-records-requires
-has-records-requires c κs = search needs
+has-records-requires c κs = search rules
 
 returns : tie.Need-returns
 returns c = search (given, answers) depth 30
 
 has-record-requires : tie.Need-has-record-requires
-has-record-requires c κs = search needs
+has-record-requires c κs = search rules
 
 returns-2 : tie.Need-returns-2
 returns-2 c = search (given, answers) depth 30
 
 record-length-requires : tie.Need-record-length-requires
-record-length-requires c κs = search needs
+record-length-requires c κs = search rules
 
-cast-length : tie.Need-cast-length
-cast-length c = search needs
+cast-length : tie.Need-overflow-cast-length
+cast-length c = search rules
 
 returns-3 : tie.Need-returns-3
 returns-3 c = search (given, answers) depth 30
 
-sub-touching-it : tie.Need-sub-touching-it
-sub-touching-it c = search from-one
+sub-touching-it : tie.Need-overflow-sub-touching-it
+sub-touching-it c = search from_one
 
-mul-touching-it : tie.Need-mul-touching-it
+mul-touching-it : tie.Need-overflow-mul-touching-it
 mul-touching-it c =
-    let i = c .before .before .before .before .before .before .before .args .i in
-    let z = c .before .record-length .result in
-    omega (arith, times-small (i - 1) z (omega arith) (search needs))
+    let i = c.before.before.before.before.before.before.before.args.i in
+    let z = c.before.record-length.result in
+    omega (arith, times-small (i - 1) z (omega arith) (search rules))
 
 touching-it-requires : tie.Need-touching-it-requires
 touching-it-requires c κs =
-    let i = c .before .before .before .before .before .before .before .args .i in
-    let z = c .before .record-length .result in
-    (search needs, omega (arith, times-small (i - 1) z (omega arith) (search needs)))
+    let i = c.before.before.before.before.before.before.before.args.i in
+    let z = c.before.record-length.result in
+    (search rules, omega (arith, times-small (i - 1) z (omega arith) (search rules)))
 
 returns-4 : tie.Need-returns-4
 returns-4 c = search (given, answers, touches) depth 30

@@ -1,7 +1,7 @@
 -- `judge_bodies::right_to`: by what is asked.
-use Rattle·laws.proofs.Branches.{on, off}
-use Rattle·judge_bodies·proofs.proofs.right_to.Statement.{statement}
-use Rattle·judge_bodies·proofs.proofs.right_to.Tie as tie
+use Rattle.laws.proofs.Branches.{on, off}
+use Rattle.judge_bodies.proofs.right_to.Statement.{statement}
+use Rattle.judge_bodies.proofs.right_to.Tie as tie
 
 returns : tie.Need-returns
 returns c = search on

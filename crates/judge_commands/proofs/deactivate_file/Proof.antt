@@ -1,27 +1,27 @@
 -- `judge_commands::deactivate_file`: its early returns are the steps of `deactivate`.
-use Rattle·laws.proofs.Branches.{tests, answers}
-use Rattle·laws.proofs.Branches.{unlesses}
-use Rattle·judge_target.specs.Steps.{followed}
-use borrow.Author.Needs.{needs}
-use Rattle·judge_commands·proofs.proofs.deactivate_file.Statement.{statement}
-use Rattle·judge_commands·proofs.proofs.deactivate_file.Tie as tie
+use Rattle.laws.proofs.Branches.{tests, answers}
+use Rattle.laws.proofs.Branches.{unlesses}
+use Rattle.judge_target.specs.Steps.{followed}
+use borrow.Author.Rules.{rules}
+use Rattle.judge_commands.proofs.deactivate_file.Statement.{statement}
+use Rattle.judge_commands.proofs.deactivate_file.Tie as tie
 
 allowed-requires : tie.Need-allowed-requires
-allowed-requires c κs = search needs
+allowed-requires c κs = search rules
 
 returns : tie.Need-returns
 unfolding followed
 returns c = search (unlesses, answers, tests) depth 30
 
 terminated-up-requires : tie.Need-terminated-up-requires
-terminated-up-requires c κs = search needs
+terminated-up-requires c κs = search rules
 
 returns-2 : tie.Need-returns-2
 unfolding followed
 returns-2 c = search (unlesses, answers, tests) depth 30
 
 is-activated-requires : tie.Need-is-activated-requires
-is-activated-requires c κs = search needs
+is-activated-requires c κs = search rules
 
 returns-3 : tie.Need-returns-3
 unfolding followed

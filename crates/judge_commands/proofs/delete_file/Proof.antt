@@ -1,37 +1,37 @@
 -- `judge_commands::delete_file`: by what the search found.
-use mathlib.Core.Path.{sym, _∙_}
-use Rattle·judge_commands·specs.specs.Commands.{deleting}
-use Rattle·judge_target.proofs.Finding.{found-use, found-none}
-use Rattle·judge_target.proofs.FromSound.{child-stands}
-use Rattle·judge_target.specs.Steps.{followed}
-use borrow.Author.Needs.{needs}
-use Rattle·judge_commands·proofs.proofs.delete_file.Statement.{statement}
-use Rattle·judge_commands·proofs.proofs.delete_file.Tie as tie
+use mathlib.Core.Path.{sym, ◌∙◌}
+use Rattle.judge_commands.specs.Commands.{deleting}
+use Rattle.judge_target.proofs.Finding.{found_use, found_none}
+use Rattle.judge_target.proofs.FromSound.{child_stands}
+use Rattle.judge_target.specs.Steps.{followed}
+use borrow.Author.Rules.{rules}
+use Rattle.judge_commands.proofs.delete_file.Statement.{statement}
+use Rattle.judge_commands.proofs.delete_file.Tie as tie
 
 child-named-requires : tie.Need-child-named-requires
-child-named-requires c κs = search needs
+child-named-requires c κs = search rules
 
 enum-known-s : tie.Need-enum-known-s
-enum-known-s c = search needs
+enum-known-s c = search rules
 
 deleting-it-requires : tie.Need-deleting-it-requires
 deleting-it-requires c κs =
-    (search needs, child-stands _ _ _ _ _ (sym (c .before .before .before .child-named .ensures) ∙ c .before .s .given .1))
+    (search rules, child_stands _ _ _ _ _ (sym c.before.before.before.child-named.ensures ∙ c.before.s.given.1))
 
-enum-told : tie.Need-enum-told
-enum-told c = search needs
+enum_told : tie.Need-enum-told
+enum_told c = search rules
 
 returns : tie.Need-returns
 unfolding followed
 returns c =
-    found-use _ (deleting _ _ _ _) _ (c .before .before .before .before .child-named .ensures) (c .before .before .s .given .1)
-    (c .deleting-it .ensures)
+    found_use _ (deleting _ _ _ _) _ c.before.before.before.before.child-named.ensures c.before.before.s.given.1
+    c.deleting-it.ensures
 
 returns-2 : tie.Need-returns-2
 unfolding followed
-returns-2 c = found-none _ (deleting _ _ _ _) _ (c .before .before .child-named .ensures) (c .enum-told .given .1)
+returns-2 c = found_none _ (deleting _ _ _ _) _ c.before.before.child-named.ensures c.enum_told.given.1
 
 pub delete-file-spec : {M : Type 1} → statement M
 delete-file-spec =
     tie.close
-    (tie.spec child-named-requires enum-known-s deleting-it-requires enum-told returns returns-2)
+    (tie.spec child-named-requires enum-known-s deleting-it-requires enum_told returns returns-2)

@@ -1,11 +1,11 @@
 -- `judge_commands::deleting_it`: by whether it may be deleted.
-use Rattle·laws.proofs.Branches.{branches}
-use borrow.Author.Needs.{needs}
-use Rattle·judge_commands·proofs.proofs.deleting_it.Statement.{statement}
-use Rattle·judge_commands·proofs.proofs.deleting_it.Tie as tie
+use Rattle.laws.proofs.Branches.{branches}
+use borrow.Author.Rules.{rules}
+use Rattle.judge_commands.proofs.deleting_it.Statement.{statement}
+use Rattle.judge_commands.proofs.deleting_it.Tie as tie
 
 may-delete-requires : tie.Need-may-delete-requires
-may-delete-requires c κs = search needs
+may-delete-requires c κs = search rules
 
 returns : tie.Need-returns
 returns c = search branches depth 30

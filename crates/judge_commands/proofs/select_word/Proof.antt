@@ -1,26 +1,26 @@
 -- `judge_commands::select_word`: by the life cycle.
-use Rattle·laws.proofs.Branches.{branches}
-use Rattle·judge_commands·specs.specs.Commands.{selectWord}
-use borrow.Author.Needs.{needs}
-use Rattle·judge_commands·proofs.proofs.select_word.Statement.{statement}
-use Rattle·judge_commands·proofs.proofs.select_word.Tie as tie
+use Rattle.laws.proofs.Branches.{branches}
+use Rattle.judge_commands.specs.Commands.{select_word}
+use borrow.Author.Rules.{rules}
+use Rattle.judge_commands.proofs.select_word.Statement.{statement}
+use Rattle.judge_commands.proofs.select_word.Tie as tie
 
 is-deactivated-requires : tie.Need-is-deactivated-requires
-is-deactivated-requires c κs = search needs
+is-deactivated-requires c κs = search rules
 
 returns : tie.Need-returns
-unfolding selectWord
+unfolding select_word
 returns c = search branches depth 30
 
 is-terminated-requires : tie.Need-is-terminated-requires
-is-terminated-requires c κs = search needs
+is-terminated-requires c κs = search rules
 
 returns-2 : tie.Need-returns-2
-unfolding selectWord
+unfolding select_word
 returns-2 c = search branches depth 30
 
 returns-3 : tie.Need-returns-3
-unfolding selectWord
+unfolding select_word
 returns-3 c = search branches depth 30
 
 pub select-word-spec : {M : Type 1} → statement M

@@ -1,13 +1,13 @@
--- `judge_commands::terminate_card`: its early returns are the steps of `terminateTheCard`.
-use Rattle·laws.proofs.Branches.{tests, answers}
-use Rattle·laws.proofs.Branches.{unlesses}
-use Rattle·judge_target.specs.Steps.{followed}
-use borrow.Author.Needs.{needs}
-use Rattle·judge_commands·proofs.proofs.terminate_card.Statement.{statement}
-use Rattle·judge_commands·proofs.proofs.terminate_card.Tie as tie
+-- `judge_commands::terminate_card`: its early returns are the steps of `terminate_the_card`.
+use Rattle.laws.proofs.Branches.{tests, answers}
+use Rattle.laws.proofs.Branches.{unlesses}
+use Rattle.judge_target.specs.Steps.{followed}
+use borrow.Author.Rules.{rules}
+use Rattle.judge_commands.proofs.terminate_card.Statement.{statement}
+use Rattle.judge_commands.proofs.terminate_card.Tie as tie
 
 allowed-requires : tie.Need-allowed-requires
-allowed-requires c κs = search needs
+allowed-requires c κs = search rules
 
 returns : tie.Need-returns
 unfolding followed

@@ -1,13 +1,13 @@
--- `judge_commands::terminate_df`: its early returns are the steps of `terminateTheDf`.
-use Rattle·laws.proofs.Branches.{tests, answers}
-use Rattle·laws.proofs.Branches.{unlesses}
-use Rattle·judge_target.specs.Steps.{followed}
-use borrow.Author.Needs.{needs}
-use Rattle·judge_commands·proofs.proofs.terminate_df.Statement.{statement}
-use Rattle·judge_commands·proofs.proofs.terminate_df.Tie as tie
+-- `judge_commands::terminate_df`: its early returns are the steps of `terminate_the_df`.
+use Rattle.laws.proofs.Branches.{tests, answers}
+use Rattle.laws.proofs.Branches.{unlesses}
+use Rattle.judge_target.specs.Steps.{followed}
+use borrow.Author.Rules.{rules}
+use Rattle.judge_commands.proofs.terminate_df.Statement.{statement}
+use Rattle.judge_commands.proofs.terminate_df.Tie as tie
 
 allowed-requires : tie.Need-allowed-requires
-allowed-requires c κs = search needs
+allowed-requires c κs = search rules
 
 returns : tie.Need-returns
 unfolding followed
@@ -18,7 +18,7 @@ unfolding followed
 returns-2 c = search (unlesses, answers, tests) depth 30
 
 terminated-up-requires : tie.Need-terminated-up-requires
-terminated-up-requires c κs = search needs
+terminated-up-requires c κs = search rules
 
 returns-3 : tie.Need-returns-3
 unfolding followed

@@ -1,28 +1,28 @@
 -- `judge_create::new_file`: the steps for its numbers and its name, a part of the data.
-use Rattle·laws.specs.Lists.{part}
-use Rattle·judge_create·proofs.proofs.Creating.{head-is}
-use borrow.Author.Needs.{needs}
-use Rattle·judge_create·proofs.proofs.new_file.Statement.{statement}
-use Rattle·judge_create·proofs.proofs.new_file.Tie as tie
+use Rattle.laws.specs.Lists.{part}
+use Rattle.judge_create.proofs.Creating.{head_is}
+use borrow.Author.Rules.{rules}
+use Rattle.judge_create.proofs.new_file.Statement.{statement}
+use Rattle.judge_create.proofs.new_file.Tie as tie
 
 head-of-requires : tie.Need-head-of-requires
-head-of-requires c κs = search needs
+head-of-requires c κs = search rules
 
-sub-admitted : tie.Need-sub-admitted
-sub-admitted c = search needs
+sub-admitted : tie.Need-overflow-sub-admitted
+sub-admitted c = search rules
 
-part-admitted-start : tie.Need-part-admitted-start
-part-admitted-start c = search needs
+part-admitted-start : tie.Need-slice-bounds-admitted-start
+part-admitted-start c = search rules
 
-part-admitted-end : tie.Need-part-admitted-end
-part-admitted-end c = search needs
+part-admitted-end : tie.Need-slice-bounds-admitted-end
+part-admitted-end c = search rules
 
 admitted-requires : tie.Need-admitted-requires
-admitted-requires c κs = search needs
+admitted-requires c κs = search rules
 
 returns : tie.Need-returns
 unfolding part
-returns c = search head-is
+returns c = search head_is
 
 pub new-file-spec : {M : Type 1} → statement M
 new-file-spec =

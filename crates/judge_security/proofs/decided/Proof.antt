@@ -1,67 +1,67 @@
 -- `decided`: by the instruction.
 use mathlib.Core.Path.{refl}
-use Rattle·judge_security·proofs.proofs.Deciding.{on-new, on-child, on-body}
-use Rattle·laws.proofs.Branches.{is-eq, not-eq, called, refused}
-use Rattle·judge_security·specs.specs.Security.{decisionFor}
-use Rattle·judge.proofs.Plans.{delete-long, create-long}
-use borrow.Author.Needs.{needs}
-use Rattle·judge_security·proofs.proofs.decided.Statement.{statement}
-use Rattle·judge_security·proofs.proofs.decided.Tie as tie
+use Rattle.judge_security.proofs.Deciding.{on_new, on-child, on-body}
+use Rattle.laws.proofs.Branches.{is_eq, not-eq, called, refused}
+use Rattle.judge_security.specs.Security.{decision_for}
+use Rattle.judge.proofs.Plans.{delete-long, create-long}
+use borrow.Author.Rules.{rules}
+use Rattle.judge_security.proofs.decided.Statement.{statement}
+use Rattle.judge_security.proofs.decided.Tie as tie
 
 shared-slice-read-i : tie.Need-shared-slice-read-i
-shared-slice-read-i c = search needs
+shared-slice-read-i c = search rules
 
 returns : tie.Need-returns
-unfolding decisionFor
-returns c = search (is-eq, refl) depth 30
+unfolding decision_for
+returns c = search (is_eq, refl) depth 30
 
 sent-data-requires : tie.Need-sent-data-requires
-sent-data-requires c κs = create-long _ (c .before .before .before .before .before .before .pre .1 .1 .1) refl (c .if2 .taken)
+sent-data-requires c κs = create-long _ c.before.before.before.before.before.before.requires.1.1.1 refl c.if2.true
 
 version-requires : tie.Need-version-requires
-version-requires c κs = search needs
+version-requires c κs = search rules
 
 new-right-requires : tie.Need-new-right-requires
-new-right-requires c κs = search needs
+new-right-requires c κs = search rules
 
 decided-requires : tie.Need-decided-requires
-decided-requires c κs = search needs
+decided-requires c κs = search rules
 
 returns-2 : tie.Need-returns-2
-unfolding decisionFor
-returns-2 c = search (not-eq, is-eq, on-new) depth 30
+unfolding decision_for
+returns-2 c = search (not-eq, is_eq, on_new) depth 30
 
 sent-identifier-requires : tie.Need-sent-identifier-requires
-sent-identifier-requires c κs = delete-long _ (c .before .before .before .before .before .before .before .pre .1 .1 .1) refl (c .if3 .taken)
+sent-identifier-requires c κs = delete-long _ c.before.before.before.before.before.before.before.requires.1.1.1 refl c.if3.true
 
 on-deletion-requires : tie.Need-on-deletion-requires
-on-deletion-requires c κs = search needs
+on-deletion-requires c κs = search rules
 
 returns-3 : tie.Need-returns-3
-unfolding decisionFor
-returns-3 c = search (not-eq, is-eq, on-child) depth 30
+unfolding decision_for
+returns-3 c = search (not-eq, is_eq, on-child) depth 30
 
 is-body-requires : tie.Need-is-body-requires
-is-body-requires c κs = search needs
+is-body-requires c κs = search rules
 
 is-read-requires : tie.Need-is-read-requires
-is-read-requires c κs = search needs
+is-read-requires c κs = search rules
 
 right-to-requires : tie.Need-right-to-requires
-right-to-requires c κs = search needs
+right-to-requires c κs = search rules
 
 on-ef-requires : tie.Need-on-ef-requires
-on-ef-requires c κs = search needs
+on-ef-requires c κs = search rules
 
 returns-4 : tie.Need-returns-4
-unfolding decisionFor
+unfolding decision_for
 returns-4 c = search (not-eq, called, on-body) depth 30
 
 on-current-requires : tie.Need-on-current-requires
-on-current-requires c κs = search needs
+on-current-requires c κs = search rules
 
 returns-5 : tie.Need-returns-5
-unfolding decisionFor
+unfolding decision_for
 returns-5 c = search (not-eq, refused) depth 30
 
 pub decided-spec : {M : Type 1} → statement M

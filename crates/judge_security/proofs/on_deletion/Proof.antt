@@ -1,20 +1,20 @@
 -- `on_deletion`: by either rule.
-use Rattle·judge_security·specs.specs.Security.{deletion}
-use borrow.Author.Needs.{needs}
-use Rattle·judge_security·proofs.proofs.on_deletion.Statement.{statement}
-use Rattle·judge_security·proofs.proofs.on_deletion.Tie as tie
+use Rattle.judge_security.specs.Security.{deletion}
+use borrow.Author.Rules.{rules}
+use Rattle.judge_security.proofs.on_deletion.Statement.{statement}
+use Rattle.judge_security.proofs.on_deletion.Tie as tie
 
 child-requires : tie.Need-child-requires
-child-requires c κs = search needs
+child-requires c κs = search rules
 
 decided-requires : tie.Need-decided-requires
-decided-requires c κs = search needs
+decided-requires c κs = search rules
 
 decided-requires-2 : tie.Need-decided-requires-2
-decided-requires-2 c κs = search needs
+decided-requires-2 c κs = search rules
 
 either-requires : tie.Need-either-requires
-either-requires c κs = search needs
+either-requires c κs = search rules
 
 returns : tie.Need-returns
 unfolding deletion

@@ -1,27 +1,27 @@
--- `has`: the bitIn of the key in its word.
+-- `has`: the bit_in of the key in its word.
 use mathlib.Core.Path.{refl}
-use Rattle·keys·specs.specs.Marks.{marked, bitIn}
-use borrow.Author.Needs.{needs}
-use Rattle·keys·proofs.proofs.has.Statement.{statement}
-use Rattle·keys·proofs.proofs.has.Tie as tie
+use Rattle.keys.specs.Marks.{marked, bit_in}
+use borrow.Author.Rules.{rules}
+use Rattle.keys.proofs.has.Statement.{statement}
+use Rattle.keys.proofs.has.Tie as tie
 
-cast-word : tie.Need-cast-word
-cast-word c = search needs
+cast-word : tie.Need-overflow-cast-word
+cast-word c = search rules
 
-mul-word : tie.Need-mul-word
-mul-word c = search needs
+mul-word : tie.Need-overflow-mul-word
+mul-word c = search rules
 
 element-copy-out-word : tie.Need-element-copy-out-word
-element-copy-out-word c = search needs
+element-copy-out-word c = search rules
 
-cast-result : tie.Need-cast-result
-cast-result c = search needs
+cast-result : tie.Need-overflow-cast-result
+cast-result c = search rules
 
-shr-result : tie.Need-shr-result
-shr-result c = search needs
+shr-result : tie.Need-overflow-shr-result
+shr-result c = search rules
 
 returns : tie.Need-returns
-unfolding marked bitIn
+unfolding marked bit_in
 returns c = refl
 
 pub has-spec : {M : Type 1} → statement M

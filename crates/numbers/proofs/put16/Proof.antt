@@ -1,32 +1,32 @@
 -- `numbers::put16` writes a splice of two bytes: two stores side by side.
 use native.Mathlib.Omega.{arith}
 use lib.ListN.{length-set}
-use Rattle·laws.proofs.Splices.{set-two}
-use borrow.Author.Needs.{needs}
-use Rattle·numbers·proofs.proofs.put16.Statement.{statement}
-use Rattle·numbers·proofs.proofs.put16.Tie as tie
+use Rattle.laws.proofs.Splices.{set-two}
+use borrow.Author.Rules.{rules}
+use Rattle.numbers.proofs.put16.Statement.{statement}
+use Rattle.numbers.proofs.put16.Tie as tie
 
-cast-s : tie.Need-cast-s
-cast-s c = search needs
+cast-s : tie.Need-overflow-cast-s
+cast-s c = search rules
 
 slice-write-s : tie.Need-slice-write-s
-slice-write-s c = search needs
+slice-write-s c = search rules
 
-cast-s-2 : tie.Need-cast-s-2
-cast-s-2 c = search needs
+cast-s-2 : tie.Need-overflow-cast-s-2
+cast-s-2 c = search rules
 
-add-s : tie.Need-add-s
-add-s c = search needs
+add-s : tie.Need-overflow-add-s
+add-s c = search rules
 
 slice-write-s-2 : tie.Need-slice-write-s-2
 slice-write-s-2 c = simp length-set (omega arith)
 
-same-length : tie.Need-same-length
-same-length c = search needs
+same_length : tie.Need-same-length
+same_length c = search rules
 
 returns : tie.Need-returns
-returns c = set-two _ _ _ _ (search needs)
+returns c = set-two _ _ _ _ (search rules)
 
 pub put16-spec : {M : Type 1} → statement M
 put16-spec =
-    tie.close (tie.spec cast-s slice-write-s cast-s-2 add-s slice-write-s-2 same-length returns)
+    tie.close (tie.spec cast-s slice-write-s cast-s-2 add-s slice-write-s-2 same_length returns)

@@ -1,17 +1,17 @@
 -- `numbers::put8` writes a splice of one byte: one store.
-use Rattle·laws.proofs.Splices.{set-one}
-use borrow.Author.Needs.{needs}
-use Rattle·numbers·proofs.proofs.put8.Statement.{statement}
-use Rattle·numbers·proofs.proofs.put8.Tie as tie
+use Rattle.laws.proofs.Splices.{set-one}
+use borrow.Author.Rules.{rules}
+use Rattle.numbers.proofs.put8.Statement.{statement}
+use Rattle.numbers.proofs.put8.Tie as tie
 
 slice-write-s : tie.Need-slice-write-s
-slice-write-s c = search needs
+slice-write-s c = search rules
 
-same-length : tie.Need-same-length
-same-length c = search needs
+same_length : tie.Need-same-length
+same_length c = search rules
 
 returns : tie.Need-returns
-returns c = set-one _ _ _ (search needs)
+returns c = set-one _ _ _ (search rules)
 
 pub put8-spec : {M : Type 1} → statement M
-put8-spec = tie.close (tie.spec slice-write-s same-length returns)
+put8-spec = tie.close (tie.spec slice-write-s same_length returns)

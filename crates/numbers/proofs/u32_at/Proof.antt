@@ -1,33 +1,33 @@
 -- `numbers::u32_at` gives the number that stands there.
-use Rattle·numbers·specs.specs.Numbers.{u32At}
-use borrow.Author.Needs.{needs}
-use Rattle·numbers·proofs.proofs.u32_at.Statement.{statement}
-use Rattle·numbers·proofs.proofs.u32_at.Tie as tie
+use Rattle.numbers.specs.Numbers.{u32_at}
+use borrow.Author.Rules.{rules}
+use Rattle.numbers.proofs.u32_at.Statement.{statement}
+use Rattle.numbers.proofs.u32_at.Tie as tie
 
 u16-at-requires : tie.Need-u16-at-requires
-u16-at-requires c κs = search needs
+u16-at-requires c κs = search rules
 
-cast-hi : tie.Need-cast-hi
-cast-hi c = search needs
+cast-hi : tie.Need-overflow-cast-hi
+cast-hi c = search rules
 
-add-u16-at : tie.Need-add-u16-at
-add-u16-at c = search needs
+add-u16-at : tie.Need-overflow-add-u16-at
+add-u16-at c = search rules
 
 u16-at-requires-2 : tie.Need-u16-at-requires-2
-u16-at-requires-2 c κs = search needs
+u16-at-requires-2 c κs = search rules
 
-cast-lo : tie.Need-cast-lo
-cast-lo c = search needs
+cast-lo : tie.Need-overflow-cast-lo
+cast-lo c = search rules
 
-mul-result : tie.Need-mul-result
-mul-result c = search needs
+mul-result : tie.Need-overflow-mul-result
+mul-result c = search rules
 
-add-result : tie.Need-add-result
-add-result c = search needs
+add-result : tie.Need-overflow-add-result
+add-result c = search rules
 
 returns : tie.Need-returns
-unfolding u32At
-returns c = search needs
+unfolding u32_at
+returns c = search rules
 
 pub u32-at-spec : {M : Type 1} → statement M
 u32-at-spec =

@@ -1,28 +1,28 @@
 -- `put_head`: a line only where the data is no template.
-use Rattle·objects_text·proofs.proofs.Marks.{head-right, head-wrong}
-use borrow.Author.Needs.{needs}
-use Rattle·objects_text·proofs.proofs.put_head.Statement.{statement}
-use Rattle·objects_text·proofs.proofs.put_head.Tie as tie
+use Rattle.objects_text.proofs.Marks.{head-right, head-wrong}
+use borrow.Author.Rules.{rules}
+use Rattle.objects_text.proofs.put_head.Statement.{statement}
+use Rattle.objects_text.proofs.put_head.Tie as tie
 
 is-template-requires : tie.Need-is-template-requires
-is-template-requires c κs = search needs
+is-template-requires c κs = search rules
 
 returns : tie.Need-returns
-returns c = head-right _ _ (c .before .is-template .ensures) (c .if1 .taken)
+returns c = head-right _ _ c.before.is-template.ensures c.if1.true
 
 slice-aggregate-put-mark : tie.Need-slice-aggregate-put-mark
-slice-aggregate-put-mark c = search needs
+slice-aggregate-put-mark c = search rules
 
 put-mark-requires : tie.Need-put-mark-requires
-put-mark-requires c κs = search needs
+put-mark-requires c κs = search rules
 
-same-length : tie.Need-same-length
-same-length c = search needs
+same_length : tie.Need-same-length
+same_length c = search rules
 
 returns-2 : tie.Need-returns-2
 returns-2 c =
-    head-wrong _ (c .before .before .before .before .before .before .is-template .ensures)
-    (c .before .before .before .before .before .if1 .left) (c .before .before .put-mark .ensures)
+    head-wrong _ c.before.before.before.before.before.before.is-template.ensures
+    c.before.before.before.before.before.if1.false c.before.before.put-mark.ensures
 
 pub put-head-spec : {M : Type 1} → statement M
 put-head-spec =
@@ -32,5 +32,5 @@ put-head-spec =
     returns
     slice-aggregate-put-mark
     put-mark-requires
-    same-length
+    same_length
     returns-2)

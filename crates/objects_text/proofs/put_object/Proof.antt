@@ -1,84 +1,83 @@
 -- `put_object`: the line of a whole object, and nothing else.
 use native.Mathlib.Omega.{arith}
-use Rattle·objects_text·proofs.proofs.Marks.{mark-room}
-use Rattle·objects_text·proofs.proofs.Found.{no-line, in-order, short, inside-data, line-put}
-use borrow.Author.Needs.{needs}
-use Rattle·objects_text·proofs.proofs.put_object.Statement.{statement}
-use Rattle·objects_text·proofs.proofs.put_object.Tie as tie
+use Rattle.objects_text.proofs.Marks.{mark_room}
+use Rattle.objects_text.proofs.Found.{no_line, in_order, short, inside_data, line_put}
+use borrow.Author.Rules.{rules}
+use Rattle.objects_text.proofs.put_object.Statement.{statement}
+use Rattle.objects_text.proofs.put_object.Tie as tie
 
 object-requires : tie.Need-object-requires
-object-requires c κs = search needs
+object-requires c κs = search rules
 
 enum-known-tag : tie.Need-enum-known-tag
-enum-known-tag c = search needs
+enum-known-tag c = search rules
 
-enum-told : tie.Need-enum-told
-enum-told c = search needs
+enum_told : tie.Need-enum-told
+enum_told c = search rules
 
 returns : tie.Need-returns
 returns c =
-    no-line _ _ _ (c .before .before .object .ensures) _ _ (c .enum-told .given .1)
-    (omega (arith, c .before .before .before .before .before .pre .1))
+    no_line _ _ _ c.before.before.object.ensures _ _ c.enum_told.given.1
+    (omega (arith, c.before.before.before.before.before.requires.1))
 
 wide-requires : tie.Need-wide-requires
-wide-requires c κs = search needs
+wide-requires c κs = search rules
 
-sub-long : tie.Need-sub-long
-sub-long c = in-order _ _ _ (c .before .before .before .before .object .ensures) _ _ _ (c .before .before .tag .given .1)
+sub-long : tie.Need-overflow-sub-long
+sub-long c = in_order _ _ _ c.before.before.before.before.object.ensures _ _ _ c.before.before.tag.given.1
 
-cast-long : tie.Need-cast-long
+cast-long : tie.Need-overflow-cast-long
 cast-long c =
     record {
-      fits = omega (arith, short _ _ _ (c .before .before .before .before .object .ensures) _ _ _ (c .before .before .tag .given .1));
+      fits = omega (arith, short _ _ _ c.before.before.before.before.object.ensures _ _ _ c.before.before.tag.given.1);
     }
 
 digit-requires : tie.Need-digit-requires
-digit-requires c κs = search needs
+digit-requires c κs = search rules
 
 digit-requires-2 : tie.Need-digit-requires-2
-digit-requires-2 c κs = search needs
+digit-requires-2 c κs = search rules
 
 digit-requires-3 : tie.Need-digit-requires-3
 digit-requires-3 c κs =
     omega (
       arith,
-      short _ _ _ (c .before .before .before .before .before .before .object .ensures) _ _ _
-          (c .before .before .before .before .tag .given .1),
+      short _ _ _ c.before.before.before.before.before.before.object.ensures _ _ _
+          c.before.before.before.before.tag.given.1,
     )
 
 digit-requires-4 : tie.Need-digit-requires-4
-digit-requires-4 c κs = search needs
+digit-requires-4 c κs = search rules
 
-cast-put-mark : tie.Need-cast-put-mark
-cast-put-mark c = search needs
+cast-put-mark : tie.Need-overflow-cast-put-mark
+cast-put-mark c = search rules
 
 slice-aggregate-put-mark : tie.Need-slice-aggregate-put-mark
-slice-aggregate-put-mark c = search needs
+slice-aggregate-put-mark c = search rules
 
 put-mark-requires : tie.Need-put-mark-requires
-put-mark-requires c κs = search needs
+put-mark-requires c κs = search rules
 
 put-rest-requires : tie.Need-put-rest-requires
 put-rest-requires c κs =
-    let known = c .before .before .before .before .before .before .before .before .before .before .before in
-    let found = known .before .before .before in
-    (
-      in-order _ _ _ (found .object .ensures) _ _ _ (known .before .tag .given .1),
-      inside-data _ _ _ (found .object .ensures) _ _ _ (known .before .tag .given .1),
-      mark-room _ _ _ _ _ (c .before .before .before .put-mark .ensures) (found .before .before .before .pre .1),
+    let known = c.before.before.before.before.before.before.before.before.before.before.before in
+    let found = known.before.before.before in (
+      in_order _ _ _ found.object.ensures _ _ _ known.before.tag.given.1,
+      inside_data _ _ _ found.object.ensures _ _ _ known.before.tag.given.1,
+      mark_room _ _ _ _ _ c.before.before.before.put-mark.ensures found.before.before.before.requires.1,
     )
 
-same-length : tie.Need-same-length
-same-length c = search needs
+same_length : tie.Need-same-length
+same_length c = search rules
 
 returns-2 : tie.Need-returns-2
 returns-2 c =
-    let digits = c .before .before .before .before .before .before .before .before .before in
-    let known = digits .before .before .before .before .before in
-    line-put _ _ _ (known .before .before .before .object .ensures) _ _ _ (known .before .tag .given .1)
-    (digits .before .before .before .before .wide .ensures .0) (digits .before .before .before .digit .ensures)
-    (digits .before .before .digit2 .ensures) (digits .before .digit3 .ensures) (digits .digit4 .ensures)
-    (c .before .before .before .before .before .before .put-mark .ensures) (c .before .before .put-rest .ensures)
+    let digits = c.before.before.before.before.before.before.before.before.before in
+    let known = digits.before.before.before.before.before in
+    line_put _ _ _ known.before.before.before.object.ensures _ _ _ known.before.tag.given.1
+    digits.before.before.before.before.wide.ensures.0 digits.before.before.before.digit.ensures
+    digits.before.before.digit2.ensures digits.before.digit3.ensures digits.digit4.ensures
+    c.before.before.before.before.before.before.put-mark.ensures c.before.before.put_rest.ensures
 
 pub put-object-spec : {M : Type 1} → statement M
 put-object-spec =
@@ -86,7 +85,7 @@ put-object-spec =
     (tie.spec
     object-requires
     enum-known-tag
-    enum-told
+    enum_told
     returns
     wide-requires
     sub-long
@@ -99,5 +98,5 @@ put-object-spec =
     slice-aggregate-put-mark
     put-mark-requires
     put-rest-requires
-    same-length
+    same_length
     returns-2)

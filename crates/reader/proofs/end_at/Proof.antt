@@ -1,23 +1,23 @@
 -- Where the object at a place ends, by the object that stands there.
-use Rattle·reader·proofs.proofs.Places.{after-whole, after-broken}
-use borrow.Author.Needs.{needs}
-use Rattle·reader·proofs.proofs.end_at.Statement.{statement}
-use Rattle·reader·proofs.proofs.end_at.Tie as tie
+use Rattle.reader.proofs.Places.{after-whole, after-broken}
+use borrow.Author.Rules.{rules}
+use Rattle.reader.proofs.end_at.Statement.{statement}
+use Rattle.reader.proofs.end_at.Tie as tie
 
 object-at-requires : tie.Need-object-at-requires
-object-at-requires c κs = search needs
+object-at-requires c κs = search rules
 
 enum-known-end : tie.Need-enum-known-end
-enum-known-end c = search needs
+enum-known-end c = search rules
 
-enum-told : tie.Need-enum-told
-enum-told c = search needs
+enum_told : tie.Need-enum-told
+enum_told c = search rules
 
 returns : tie.Need-returns
-returns c = after-whole _ _ _ (c .before .before .before .object-at .ensures) _ _ _ (c .before .end .given .1)
+returns c = after-whole _ _ _ c.before.before.before.object-at.ensures _ _ _ c.before.end.given.1
 
 returns-2 : tie.Need-returns-2
-returns-2 c = after-broken _ _ _ (c .before .before .object-at .ensures) (c .enum-told .given .1)
+returns-2 c = after-broken _ _ _ c.before.before.object-at.ensures c.enum_told.given.1
 
 pub end-at-spec : {M : Type 1} → statement M
-end-at-spec = tie.close (tie.spec object-at-requires enum-known-end enum-told returns returns-2)
+end-at-spec = tie.close (tie.spec object-at-requires enum-known-end enum_told returns returns-2)

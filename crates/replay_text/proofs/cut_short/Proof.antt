@@ -1,17 +1,17 @@
 -- `cut_short`: the length first, then the command.
-use Rattle·replay_text·proofs.proofs.Lines.{cut-length, cut-command}
-use borrow.Author.Needs.{needs}
-use Rattle·replay_text·proofs.proofs.cut_short.Statement.{statement}
-use Rattle·replay_text·proofs.proofs.cut_short.Tie as tie
+use Rattle.replay_text.proofs.Lines.{cut-length, cut-command}
+use borrow.Author.Rules.{rules}
+use Rattle.replay_text.proofs.cut_short.Statement.{statement}
+use Rattle.replay_text.proofs.cut_short.Tie as tie
 
-add-if1 : tie.Need-add-if1
-add-if1 c = search needs
+add-if1 : tie.Need-overflow-add-if1
+add-if1 c = search rules
 
 returns : tie.Need-returns
 returns c = search cut-length
 
 end-of-requires : tie.Need-end-of-requires
-end-of-requires c κs = search needs
+end-of-requires c κs = search rules
 
 returns-2 : tie.Need-returns-2
 returns-2 c = search cut-command

@@ -1,20 +1,20 @@
 -- `search_df_plainly`: the slot of the DF, by the plain walk.
-use Rattle·searches·proofs.proofs.Told.{is-sized, told-none, told-df}
-use borrow.Author.Needs.{needs}
-use Rattle·searches·proofs.proofs.search_df_plainly.Statement.{statement}
-use Rattle·searches·proofs.proofs.search_df_plainly.Tie as tie
+use Rattle.searches.proofs.Told.{is_sized, told_none, told-df}
+use borrow.Author.Rules.{rules}
+use Rattle.searches.proofs.search_df_plainly.Statement.{statement}
+use Rattle.searches.proofs.search_df_plainly.Tie as tie
 
 slots-requires : tie.Need-slots-requires
-slots-requires c κs = search needs
+slots-requires c κs = search rules
 
 returns : tie.Need-returns
-returns c = search told-none
+returns c = search told_none
 
 df-named-requires : tie.Need-df-named-requires
-df-named-requires c κs = search is-sized
+df-named-requires c κs = search is_sized
 
 number-requires : tie.Need-number-requires
-number-requires c κs = search needs
+number-requires c κs = search rules
 
 returns-2 : tie.Need-returns-2
 returns-2 c = search told-df

@@ -1,23 +1,23 @@
 -- `may_share`: a DF asks for two directories, any other file for one.
-use Rattle·sound_ancestry·proofs.proofs.Noting.{shares-df, shares-ef}
-use borrow.Author.Needs.{needs}
-use Rattle·sound_ancestry·proofs.proofs.may_share.Statement.{statement}
-use Rattle·sound_ancestry·proofs.proofs.may_share.Tie as tie
+use Rattle.sound_ancestry.proofs.Noting.{shares-df, shares-ef}
+use borrow.Author.Rules.{rules}
+use Rattle.sound_ancestry.proofs.may_share.Statement.{statement}
+use Rattle.sound_ancestry.proofs.may_share.Tie as tie
 
 identifier-requires : tie.Need-identifier-requires
-identifier-requires c κs = search needs
+identifier-requires c κs = search rules
 
 kind-requires : tie.Need-kind-requires
-kind-requires c κs = search needs
+kind-requires c κs = search rules
 
 has-requires : tie.Need-has-requires
-has-requires c κs = search needs
+has-requires c κs = search rules
 
 returns : tie.Need-returns
 returns c = search shares-df
 
 has-requires-2 : tie.Need-has-requires-2
-has-requires-2 c κs = search needs
+has-requires-2 c κs = search rules
 
 returns-2 : tie.Need-returns-2
 returns-2 c = search shares-ef

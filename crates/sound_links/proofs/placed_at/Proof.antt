@@ -1,36 +1,36 @@
 -- `placed_at`: a file has as parent a DF with level one less.
 use mathlib.Core.Path.{refl}
-use Rattle·sound_links·proofs.proofs.Placing.{placed-free, placed-high, placed-kind, placed-last}
-use borrow.Author.Needs.{needs}
-use Rattle·sound_links·proofs.proofs.placed_at.Statement.{statement}
-use Rattle·sound_links·proofs.proofs.placed_at.Tie as tie
+use Rattle.sound_links.proofs.Placing.{placed-free, placed-high, placed-kind, placed-last}
+use borrow.Author.Rules.{rules}
+use Rattle.sound_links.proofs.placed_at.Statement.{statement}
+use Rattle.sound_links.proofs.placed_at.Tie as tie
 
 is-file-requires : tie.Need-is-file-requires
-is-file-requires c κs = search needs
+is-file-requires c κs = search rules
 
 returns : tie.Need-returns
 returns c = search placed-free
 
 parent-requires : tie.Need-parent-requires
-parent-requires c κs = search needs
+parent-requires c κs = search rules
 
 returns-2 : tie.Need-returns-2
 returns-2 c = search placed-high
 
 kind-requires : tie.Need-kind-requires
-kind-requires c κs = search needs
+kind-requires c κs = search rules
 
 returns-3 : tie.Need-returns-3
 returns-3 c = search placed-kind
 
 level-requires : tie.Need-level-requires
-level-requires c κs = search needs
+level-requires c κs = search rules
 
 level-requires-2 : tie.Need-level-requires-2
-level-requires-2 c κs = search needs
+level-requires-2 c κs = search rules
 
-add-result : tie.Need-add-result
-add-result c = search needs
+add-result : tie.Need-overflow-add-result
+add-result c = search rules
 
 returns-4 : tie.Need-returns-4
 returns-4 c = search (placed-last, refl)

@@ -1,57 +1,57 @@
 -- `key_of`: the four words of the name.
 use native.Mathlib.Omega.{arith}
-use Rattle·sound_names·proofs.proofs.Alike.{name-key}
-use borrow.Author.Needs.{needs}
-use Rattle·sound_names·proofs.proofs.key_of.Statement.{statement}
-use Rattle·sound_names·proofs.proofs.key_of.Tie as tie
+use Rattle.sound_names.proofs.Alike.{name-key}
+use borrow.Author.Rules.{rules}
+use Rattle.sound_names.proofs.key_of.Statement.{statement}
+use Rattle.sound_names.proofs.key_of.Tie as tie
 
 u32-at-requires : tie.Need-u32-at-requires
-u32-at-requires c κs = search needs
+u32-at-requires c κs = search rules
 
-cast-a : tie.Need-cast-a
-cast-a c = search needs
+cast-a : tie.Need-overflow-cast-a
+cast-a c = search rules
 
 u32-at-requires-2 : tie.Need-u32-at-requires-2
-u32-at-requires-2 c κs = search needs
+u32-at-requires-2 c κs = search rules
 
-cast-b : tie.Need-cast-b
-cast-b c = search needs
+cast-b : tie.Need-overflow-cast-b
+cast-b c = search rules
 
 u32-at-requires-3 : tie.Need-u32-at-requires-3
-u32-at-requires-3 c κs = search needs
+u32-at-requires-3 c κs = search rules
 
-cast-c : tie.Need-cast-c
-cast-c c = search needs
+cast-c : tie.Need-overflow-cast-c
+cast-c c = search rules
 
 u32-at-requires-4 : tie.Need-u32-at-requires-4
-u32-at-requires-4 c κs = search needs
+u32-at-requires-4 c κs = search rules
 
-cast-d : tie.Need-cast-d
-cast-d c = search needs
+cast-d : tie.Need-overflow-cast-d
+cast-d c = search rules
 
-mul-result : tie.Need-mul-result
-mul-result c = search needs
+mul-result : tie.Need-overflow-mul-result
+mul-result c = search rules
 
-mul-result-2 : tie.Need-mul-result-2
-mul-result-2 c = search needs
+mul-result-2 : tie.Need-overflow-mul-result-2
+mul-result-2 c = search rules
 
-add-result : tie.Need-add-result
-add-result c = search needs
+add-result : tie.Need-overflow-add-result
+add-result c = search rules
 
-mul-result-3 : tie.Need-mul-result-3
-mul-result-3 c = search needs
+mul-result-3 : tie.Need-overflow-mul-result-3
+mul-result-3 c = search rules
 
-add-result-2 : tie.Need-add-result-2
-add-result-2 c = search needs
+add-result-2 : tie.Need-overflow-add-result-2
+add-result-2 c = search rules
 
-mul-result-4 : tie.Need-mul-result-4
-mul-result-4 c = search needs
+mul-result-4 : tie.Need-overflow-mul-result-4
+mul-result-4 c = search rules
 
-add-result-3 : tie.Need-add-result-3
-add-result-3 c = search needs
+add-result-3 : tie.Need-overflow-add-result-3
+add-result-3 c = search rules
 
-cast-result : tie.Need-cast-result
-cast-result c = search needs
+cast-result : tie.Need-overflow-cast-result
+cast-result c = search rules
 
 returns : tie.Need-returns
 returns c = (search name-key, omega arith)

@@ -1,53 +1,53 @@
 -- `find`: all that the way up passed are at or beneath d as s is.
-use Rattle·sound.specs.Table.{viewAt}
-use Rattle·subtree·proofs.proofs.Way.{Passed, pass-start, pass-more, pass-less}
-use Rattle·subtree·proofs.proofs.Marks.{find-known, find-here, find-other}
-use borrow.Author.Needs.{needs}
-use Rattle·subtree·proofs.proofs.find.Statement.{statement}
-use Rattle·subtree·proofs.proofs.find.Tie as tie
+use Rattle.sound.specs.Table.{view_at}
+use Rattle.subtree.proofs.Way.{Passed, pass_start, pass_more, pass_less}
+use Rattle.subtree.proofs.Marks.{find_known, find_here, find_other}
+use borrow.Author.Rules.{rules}
+use Rattle.subtree.proofs.find.Statement.{statement}
+use Rattle.subtree.proofs.find.Tie as tie
 
-abbrev Inv-loop : tie.InvT-loop
-Inv-loop marks image n d s high t₀ t = Passed image n d s t
+abbrev invariant-loop : tie.invariant-loop
+invariant-loop marks image n d s high t₀ t = Passed image n d s t
 
-abbrev μ-loop : tie.MeasureT-loop
-μ-loop marks image n d s high t₀ t = viewAt image t .level
+abbrev decreases-loop : tie.decreases-loop
+decreases-loop marks image n d s high t₀ t = (view_at image t).level
 
-level-requires : tie.Need-level-requires Inv-loop μ-loop
-level-requires c κs = search needs
+level-requires : tie.Need-level-requires invariant-loop decreases-loop
+level-requires c κs = search rules
 
-loop-holds : tie.Need-loop-holds Inv-loop μ-loop
-loop-holds c = search pass-start
+loop-holds : tie.Need-loop-init invariant-loop decreases-loop
+loop-holds c = search pass_start
 
-open-requires : tie.Need-open-requires Inv-loop μ-loop
-open-requires c κs = search needs
+open-requires : tie.Need-open-requires invariant-loop decreases-loop
+open-requires c κs = search rules
 
-parent-requires : tie.Need-parent-requires Inv-loop μ-loop
-parent-requires c κs = search needs
+parent-requires : tie.Need-parent-requires invariant-loop decreases-loop
+parent-requires c κs = search rules
 
-loop-less : tie.Need-loop-less Inv-loop μ-loop
-loop-less c = search pass-less
+loop-less : tie.Need-loop-smaller invariant-loop decreases-loop
+loop-less c = search pass_less
 
-loop-again : tie.Need-loop-again Inv-loop μ-loop
-loop-again c = search pass-more
+loop-again : tie.Need-loop-preserved invariant-loop decreases-loop
+loop-again c = search pass_more
 
-element-copy-out-mark : tie.Need-element-copy-out-mark Inv-loop μ-loop
-element-copy-out-mark c = search needs
+element-copy-out-mark : tie.Need-element-copy-out-mark invariant-loop decreases-loop
+element-copy-out-mark c = search rules
 
-returns : tie.Need-returns Inv-loop μ-loop
-returns c = search find-known
+returns : tie.Need-returns invariant-loop decreases-loop
+returns c = search find_known
 
-returns-2 : tie.Need-returns-2 Inv-loop μ-loop
-returns-2 c = search find-here
+returns-2 : tie.Need-returns-2 invariant-loop decreases-loop
+returns-2 c = search find_here
 
-returns-3 : tie.Need-returns-3 Inv-loop μ-loop
-returns-3 c = search find-other
+returns-3 : tie.Need-returns-3 invariant-loop decreases-loop
+returns-3 c = search find_other
 
-pub find-spec : {M : Type 1} → statement M
-find-spec =
+pub find_spec : {M : Type 1} → statement M
+find_spec =
     tie.close
     (tie.spec
-    Inv-loop
-    μ-loop
+    invariant-loop
+    decreases-loop
     level-requires
     loop-holds
     open-requires

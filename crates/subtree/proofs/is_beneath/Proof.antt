@@ -1,12 +1,12 @@
 -- `is_beneath`: at or beneath, and not d.
 use mathlib.Core.Path.{refl}
-use Rattle·subtree·proofs.proofs.Marks.{told-no, told-yes}
-use borrow.Author.Needs.{needs}
-use Rattle·subtree·proofs.proofs.is_beneath.Statement.{statement}
-use Rattle·subtree·proofs.proofs.is_beneath.Tie as tie
+use Rattle.subtree.proofs.Marks.{told-no, told-yes}
+use borrow.Author.Rules.{rules}
+use Rattle.subtree.proofs.is_beneath.Statement.{statement}
+use Rattle.subtree.proofs.is_beneath.Tie as tie
 
 element-copy-out-if1 : tie.Need-element-copy-out-if1
-element-copy-out-if1 c = search needs
+element-copy-out-if1 c = search rules
 
 returns : tie.Need-returns
 returns c = search told-no

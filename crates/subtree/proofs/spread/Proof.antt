@@ -1,48 +1,48 @@
 -- `spread`: all that the way up passed have the mark of s.
-use Rattle·sound.specs.Table.{viewAt}
-use Rattle·subtree·specs.specs.Known.{Known, Keeps}
-use Rattle·subtree·proofs.proofs.Way.{Passed, pass-start, pass-more, pass-less}
-use Rattle·subtree·proofs.proofs.Marks.{keeps-all, spread-known, spread-keeps}
-use borrow.Author.Needs.{needs}
-use Rattle·subtree·proofs.proofs.spread.Statement.{statement}
-use Rattle·subtree·proofs.proofs.spread.Tie as tie
+use Rattle.sound.specs.Table.{view_at}
+use Rattle.subtree.specs.Known.{Known, Keeps}
+use Rattle.subtree.proofs.Way.{Passed, pass_start, pass_more, pass_less}
+use Rattle.subtree.proofs.Marks.{keeps_all, spread-known, spread_keeps}
+use borrow.Author.Rules.{rules}
+use Rattle.subtree.proofs.spread.Statement.{statement}
+use Rattle.subtree.proofs.spread.Tie as tie
 
-abbrev Inv-loop : tie.InvT-loop
-Inv-loop marks₀ image n d s mark high t₀ marks t = Passed image n d s t × (Known (viewAt image) n d marks × Keeps marks₀ marks)
+abbrev invariant-loop : tie.invariant-loop
+invariant-loop marks₀ image n d s mark high t₀ marks t = Passed image n d s t × (Known (view_at image) n d marks × Keeps marks₀ marks)
 
-abbrev μ-loop : tie.MeasureT-loop
-μ-loop marks₀ image n d s mark high t₀ marks t = viewAt image t .level
+abbrev decreases-loop : tie.decreases-loop
+decreases-loop marks₀ image n d s mark high t₀ marks t = (view_at image t).level
 
-level-requires : tie.Need-level-requires Inv-loop μ-loop
-level-requires c κs = search needs
+level-requires : tie.Need-level-requires invariant-loop decreases-loop
+level-requires c κs = search rules
 
-loop-holds : tie.Need-loop-holds Inv-loop μ-loop
-loop-holds c = (search pass-start, (search needs, keeps-all _))
+loop-holds : tie.Need-loop-init invariant-loop decreases-loop
+loop-holds c = (search pass_start, (search rules, keeps_all _))
 
-open-requires : tie.Need-open-requires Inv-loop μ-loop
-open-requires c κs = search needs
+open-requires : tie.Need-open-requires invariant-loop decreases-loop
+open-requires c κs = search rules
 
-element-write-marks : tie.Need-element-write-marks Inv-loop μ-loop
-element-write-marks c = search needs
+element-write-marks : tie.Need-element-write-marks invariant-loop decreases-loop
+element-write-marks c = search rules
 
-parent-requires : tie.Need-parent-requires Inv-loop μ-loop
-parent-requires c κs = search needs
+parent-requires : tie.Need-parent-requires invariant-loop decreases-loop
+parent-requires c κs = search rules
 
-loop-less : tie.Need-loop-less Inv-loop μ-loop
-loop-less c = search pass-less
+loop-less : tie.Need-loop-smaller invariant-loop decreases-loop
+loop-less c = search pass_less
 
-loop-again : tie.Need-loop-again Inv-loop μ-loop
-loop-again c = (search pass-more, (search spread-known, search spread-keeps))
+loop-again : tie.Need-loop-preserved invariant-loop decreases-loop
+loop-again c = (search pass_more, (search spread-known, search spread_keeps))
 
-returns : tie.Need-returns Inv-loop μ-loop
-returns c = search needs
+returns : tie.Need-returns invariant-loop decreases-loop
+returns c = search rules
 
 pub spread-spec : {M : Type 1} → statement M
 spread-spec =
     tie.close
     (tie.spec
-    Inv-loop
-    μ-loop
+    invariant-loop
+    decreases-loop
     level-requires
     loop-holds
     open-requires

@@ -1,29 +1,29 @@
 -- `digit`: `0` to `9`, then `A` to `F`.
-use Rattle·text·specs.specs.Digits.{digitOf}
-use Rattle·laws.proofs.Branches.{is-lt, not-lt}
+use Rattle.text.specs.Digits.{digit_of}
+use Rattle.laws.proofs.Branches.{is_lt, not-lt}
 use mathlib.Core.Path.{refl}
-use borrow.Author.Needs.{needs}
-use Rattle·text·proofs.proofs.digit.Statement.{statement}
-use Rattle·text·proofs.proofs.digit.Tie as tie
+use borrow.Author.Rules.{rules}
+use Rattle.text.proofs.digit.Statement.{statement}
+use Rattle.text.proofs.digit.Tie as tie
 
-cast-result : tie.Need-cast-result
-cast-result c = search needs
+cast-result : tie.Need-overflow-cast-result
+cast-result c = search rules
 
-add-result : tie.Need-add-result
-add-result c = search needs
+add-result : tie.Need-overflow-add-result
+add-result c = search rules
 
 returns : tie.Need-returns
-unfolding digitOf
-returns c = search (is-lt, refl)
+unfolding digit_of
+returns c = search (is_lt, refl)
 
-cast-result-2 : tie.Need-cast-result-2
-cast-result-2 c = search needs
+cast-result-2 : tie.Need-overflow-cast-result-2
+cast-result-2 c = search rules
 
-add-result-2 : tie.Need-add-result-2
-add-result-2 c = search needs
+add-result-2 : tie.Need-overflow-add-result-2
+add-result-2 c = search rules
 
 returns-2 : tie.Need-returns-2
-unfolding digitOf
+unfolding digit_of
 returns-2 c = search (not-lt, refl)
 
 pub digit-spec : {M : Type 1} → statement M

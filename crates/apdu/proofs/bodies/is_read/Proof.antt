@@ -1,15 +1,15 @@
 -- `bodies::is_read`: READ of either kind.
-use Rattle·laws.proofs.Chains.{ors}
-use Rattle·apdu·specs.specs.Apdu.{isRead}
-use Rattle·apdu·proofs.proofs.bodies.is_read.Statement.{statement}
-use Rattle·apdu·proofs.proofs.bodies.is_read.Tie as tie
+use Rattle.laws.proofs.Chains.{ors}
+use Rattle.apdu.specs.Apdu.{is_read}
+use Rattle.apdu.proofs.bodies.is_read.Statement.{statement}
+use Rattle.apdu.proofs.bodies.is_read.Tie as tie
 
 returns : tie.Need-returns
-unfolding isRead
+unfolding is_read
 returns c = search ors depth 30
 
 returns-2 : tie.Need-returns-2
-unfolding isRead
+unfolding is_read
 returns-2 c = search ors depth 30
 
 pub is-read-spec : {M : Type 1} → statement M

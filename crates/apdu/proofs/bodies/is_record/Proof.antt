@@ -1,15 +1,15 @@
 -- `bodies::is_record`: READ or UPDATE RECORD.
-use Rattle·laws.proofs.Chains.{ors}
-use Rattle·apdu·specs.specs.Apdu.{isRecord}
-use Rattle·apdu·proofs.proofs.bodies.is_record.Statement.{statement}
-use Rattle·apdu·proofs.proofs.bodies.is_record.Tie as tie
+use Rattle.laws.proofs.Chains.{ors}
+use Rattle.apdu.specs.Apdu.{is_record}
+use Rattle.apdu.proofs.bodies.is_record.Statement.{statement}
+use Rattle.apdu.proofs.bodies.is_record.Tie as tie
 
 returns : tie.Need-returns
-unfolding isRecord
+unfolding is_record
 returns c = search ors depth 30
 
 returns-2 : tie.Need-returns-2
-unfolding isRecord
+unfolding is_record
 returns-2 c = search ors depth 30
 
 pub is-record-spec : {M : Type 1} → statement M

@@ -1,15 +1,15 @@
 -- An object is absent exactly where its start is 0.
-use Rattle·create_data·specs.specs.Form.{lacks}
+use Rattle.create_data.specs.Form.{lacks}
 use mathlib.Core.Path.{refl}
-use borrow.Author.Needs.{needs}
-use Rattle·create_data·proofs.proofs.form.is_absent.Statement.{statement}
-use Rattle·create_data·proofs.proofs.form.is_absent.Tie as tie
+use borrow.Author.Rules.{rules}
+use Rattle.create_data.proofs.form.is_absent.Statement.{statement}
+use Rattle.create_data.proofs.form.is_absent.Tie as tie
 
-mul-result : tie.Need-mul-result
-mul-result c = search needs
+mul-result : tie.Need-overflow-mul-result
+mul-result c = search rules
 
 element-copy-out-result : tie.Need-element-copy-out-result
-element-copy-out-result c = search needs
+element-copy-out-result c = search rules
 
 returns : tie.Need-returns
 unfolding lacks

@@ -1,13 +1,13 @@
 -- The first byte of a value.
-use borrow.Author.Needs.{needs}
-use Rattle·create_data·proofs.proofs.judge.byte_in.Statement.{statement}
-use Rattle·create_data·proofs.proofs.judge.byte_in.Tie as tie
+use borrow.Author.Rules.{rules}
+use Rattle.create_data.proofs.judge.byte_in.Statement.{statement}
+use Rattle.create_data.proofs.judge.byte_in.Tie as tie
 
 value-in-requires : tie.Need-value-in-requires
-value-in-requires c κs = search needs
+value-in-requires c κs = search rules
 
 first-requires : tie.Need-first-requires
-first-requires c κs = search needs
+first-requires c κs = search rules
 
 returns : tie.Need-returns
 returns c = cc

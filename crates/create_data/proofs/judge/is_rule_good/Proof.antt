@@ -1,26 +1,26 @@
 -- The rule, there once, judged by its form in its part of the data.
-use Rattle·create_data·proofs.proofs.Judging.{rule-twice, rule-judged}
-use borrow.Author.Needs.{needs}
-use Rattle·create_data·proofs.proofs.judge.is_rule_good.Statement.{statement}
-use Rattle·create_data·proofs.proofs.judge.is_rule_good.Tie as tie
+use Rattle.create_data.proofs.Judging.{rule_twice, rule-judged}
+use borrow.Author.Rules.{rules}
+use Rattle.create_data.proofs.judge.is_rule_good.Statement.{statement}
+use Rattle.create_data.proofs.judge.is_rule_good.Tie as tie
 
 has-one-rule-requires : tie.Need-has-one-rule-requires
-has-one-rule-requires c κs = search needs
+has-one-rule-requires c κs = search rules
 
 returns : tie.Need-returns
-returns c = search rule-twice
+returns c = search rule_twice
 
 rule-in-requires : tie.Need-rule-in-requires
-rule-in-requires c κs = search needs
+rule-in-requires c κs = search rules
 
 form-in-requires : tie.Need-form-in-requires
-form-in-requires c κs = search needs
+form-in-requires c κs = search rules
 
 value-in-requires : tie.Need-value-in-requires
-value-in-requires c κs = search needs
+value-in-requires c κs = search rules
 
 fits-record-requires : tie.Need-fits-record-requires
-fits-record-requires c κs = search needs
+fits-record-requires c κs = search rules
 
 returns-2 : tie.Need-returns-2
 returns-2 c = search rule-judged

@@ -1,13 +1,13 @@
 -- The last two bytes of a value of four.
-use borrow.Author.Needs.{needs}
-use Rattle·create_data·proofs.proofs.judge.record_length_in.Statement.{statement}
-use Rattle·create_data·proofs.proofs.judge.record_length_in.Tie as tie
+use borrow.Author.Rules.{rules}
+use Rattle.create_data.proofs.judge.record_length_in.Statement.{statement}
+use Rattle.create_data.proofs.judge.record_length_in.Tie as tie
 
 value-in-requires : tie.Need-value-in-requires
-value-in-requires c κs = search needs
+value-in-requires c κs = search rules
 
 record-length-requires : tie.Need-record-length-requires
-record-length-requires c κs = search needs
+record-length-requires c κs = search rules
 
 returns : tie.Need-returns
 returns c = cc

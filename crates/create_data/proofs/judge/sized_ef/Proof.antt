@@ -1,26 +1,26 @@
 -- An EF by its size and record length.
-use Rattle·create_data·proofs.proofs.Judging.{size-none, length-bad, ef-made}
-use borrow.Author.Needs.{needs}
-use Rattle·create_data·proofs.proofs.judge.sized_ef.Statement.{statement}
-use Rattle·create_data·proofs.proofs.judge.sized_ef.Tie as tie
+use Rattle.create_data.proofs.Judging.{size_none, length-bad, ef-made}
+use borrow.Author.Rules.{rules}
+use Rattle.create_data.proofs.judge.sized_ef.Statement.{statement}
+use Rattle.create_data.proofs.judge.sized_ef.Tie as tie
 
 size-in-requires : tie.Need-size-in-requires
-size-in-requires c κs = search needs
+size-in-requires c κs = search rules
 
 returns : tie.Need-returns
-returns c = search size-none
+returns c = search size_none
 
 record-length-in-requires : tie.Need-record-length-in-requires
-record-length-in-requires c κs = search needs
+record-length-in-requires c κs = search rules
 
 good-length-requires : tie.Need-good-length-requires
-good-length-requires c κs = search needs
+good-length-requires c κs = search rules
 
 returns-2 : tie.Need-returns-2
 returns-2 c = search length-bad
 
 new-file-requires : tie.Need-new-file-requires
-new-file-requires c κs = search needs
+new-file-requires c κs = search rules
 
 returns-3 : tie.Need-returns-3
 returns-3 c = search ef-made

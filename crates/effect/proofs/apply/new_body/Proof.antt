@@ -1,11 +1,11 @@
 -- `apply::new_body`: an EF its size, where the version has bodies.
-use Rattle·effect·proofs.proofs.Bodies.{body-never, body-other, body-ef}
-use borrow.Author.Needs.{needs}
-use Rattle·effect·proofs.proofs.apply.new_body.Statement.{statement}
-use Rattle·effect·proofs.proofs.apply.new_body.Tie as tie
+use Rattle.effect.proofs.Bodies.{body-never, body-other, body-ef}
+use borrow.Author.Rules.{rules}
+use Rattle.effect.proofs.apply.new_body.Statement.{statement}
+use Rattle.effect.proofs.apply.new_body.Tie as tie
 
 has-bodies-requires : tie.Need-has-bodies-requires
-has-bodies-requires c κs = search needs
+has-bodies-requires c κs = search rules
 
 returns : tie.Need-returns
 returns c = search body-never
@@ -13,8 +13,8 @@ returns c = search body-never
 returns-2 : tie.Need-returns-2
 returns-2 c = search body-other
 
-cast-result : tie.Need-cast-result
-cast-result c = search needs
+cast-result : tie.Need-overflow-cast-result
+cast-result c = search rules
 
 returns-3 : tie.Need-returns-3
 returns-3 c = search body-ef

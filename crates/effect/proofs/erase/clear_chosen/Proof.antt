@@ -1,63 +1,63 @@
 -- `erase::clear_chosen`: the invariant is that the marked records below s are cleared, and no other.
-use Prim.Native.Nat.{_-_, _≤_}
-use mathlib.Core.Path.{_≡_, sym}
+use Prim.Native.Nat.{◌-◌, ◌≤◌}
+use mathlib.Core.Path.{◌≡◌, sym}
 use native.Mathlib.Omega.{arith}
 use lib.Dec.{eqb}
-use lib.ListN.{length, getD}
-use borrow.Author.Needs.{needs}
-use Rattle·sound.specs.Effects.{clearBelow}
-use Rattle·sound.proofs.Cleared.{clear-none, clear-turn}
-use Rattle·effect·proofs.proofs.erase.clear_chosen.Statement.{statement}
-use Rattle·effect·proofs.proofs.erase.clear_chosen.Tie as tie
+use lib.ListN.{length, get_or}
+use borrow.Author.Rules.{rules}
+use Rattle.sound.specs.Effects.{clear_below}
+use Rattle.sound.proofs.Cleared.{clear_none, clear_turn}
+use Rattle.effect.proofs.erase.clear_chosen.Statement.{statement}
+use Rattle.effect.proofs.erase.clear_chosen.Tie as tie
 
-abbrev Inv-loop : tie.InvT-loop
-Inv-loop image₀ n marks s₀ image s =
-    ((s ≤ n) × (length image ≡ length image₀)) × (image ≡ clearBelow s (λ k. eqb (getD marks k 0) 1) image₀)
+abbrev invariant-loop : tie.invariant-loop
+invariant-loop image₀ n marks s₀ image s =
+    ((s ≤ n) × (length image ≡ length image₀)) × (image ≡ clear_below s (λ k. eqb (get_or marks k 0) 1) image₀)
 
-abbrev μ-loop : tie.MeasureT-loop
-μ-loop image₀ n marks s₀ image s = n - s
+abbrev decreases-loop : tie.decreases-loop
+decreases-loop image₀ n marks s₀ image s = n - s
 
-loop-holds : tie.Need-loop-holds Inv-loop μ-loop
-loop-holds c = (search needs, sym (clear-none _ _))
+loop-holds : tie.Need-loop-init invariant-loop decreases-loop
+loop-holds c = (search rules, sym (clear_none _ _))
 
-element-copy-out-clear-if : tie.Need-element-copy-out-clear-if Inv-loop μ-loop
-element-copy-out-clear-if c = search needs
+element-copy-out-clear-if : tie.Need-element-copy-out-clear-if invariant-loop decreases-loop
+element-copy-out-clear-if c = search rules
 
-clear-if-requires : tie.Need-clear-if-requires Inv-loop μ-loop
-clear-if-requires c κs = search needs
+clear-if-requires : tie.Need-clear-if-requires invariant-loop decreases-loop
+clear-if-requires c κs = search rules
 
-add-s : tie.Need-add-s Inv-loop μ-loop
-add-s c = search needs
+add-s : tie.Need-overflow-add-s invariant-loop decreases-loop
+add-s c = search rules
 
-loop-less : tie.Need-loop-less Inv-loop μ-loop
-loop-less c = search needs
+loop-less : tie.Need-loop-smaller invariant-loop decreases-loop
+loop-less c = search rules
 
-loop-again : tie.Need-loop-again Inv-loop μ-loop
+loop-again : tie.Need-loop-preserved invariant-loop decreases-loop
 loop-again c = (
-  search needs,
-  clear-turn _ _ _ _ _ (c .before .before .before .before .before .before .loop .inv .1)
-      (c .before .before .clear-if .ensures),
+  search rules,
+  clear_turn _ _ _ _ _ c.before.before.before.before.before.before.loop.invariant.1
+      c.before.before.clear-if.ensures,
 )
 
-same-length : tie.Need-same-length Inv-loop μ-loop
-same-length c = search needs
+same_length : tie.Need-same-length invariant-loop decreases-loop
+same_length c = search rules
 
-returns : tie.Need-returns Inv-loop μ-loop
+returns : tie.Need-returns invariant-loop decreases-loop
 returns c =
-    let e : c .before .loop .s ≡ c .before .before .before .args .n = omega arith in
+    let e : c.before.loop.s ≡ c.before.before.before.args.n = omega arith in
     cc
 
 pub clear-chosen-spec : {M : Type 1} → statement M
 clear-chosen-spec =
     tie.close
     (tie.spec
-    Inv-loop
-    μ-loop
+    invariant-loop
+    decreases-loop
     loop-holds
     element-copy-out-clear-if
     clear-if-requires
     add-s
     loop-less
     loop-again
-    same-length
+    same_length
     returns)

@@ -1,14 +1,14 @@
 -- `erase::ef_left`: none where it was the deleted one.
-use Rattle·laws.proofs.Branches.{is-eq, not-eq}
-use borrow.Author.Needs.{needs}
-use Rattle·effect·proofs.proofs.erase.ef_left.Statement.{statement}
-use Rattle·effect·proofs.proofs.erase.ef_left.Tie as tie
+use Rattle.laws.proofs.Branches.{is_eq, not-eq}
+use borrow.Author.Rules.{rules}
+use Rattle.effect.proofs.erase.ef_left.Statement.{statement}
+use Rattle.effect.proofs.erase.ef_left.Tie as tie
 
 returns : tie.Need-returns
-returns c = search is-eq
+returns c = search is_eq
 
-cast-result : tie.Need-cast-result
-cast-result c = search needs
+cast-result : tie.Need-overflow-cast-result
+cast-result c = search rules
 
 returns-2 : tie.Need-returns-2
 returns-2 c = search not-eq

@@ -1,35 +1,35 @@
 -- `erase::erase`: records and bodies go, then what is current.
-use Rattle·effect·proofs.proofs.Writes.{deleted-is, wiped-is}
-use borrow.Author.Needs.{needs}
-use Rattle·effect·proofs.proofs.erase.erase.Statement.{statement}
-use Rattle·effect·proofs.proofs.erase.erase.Tie as tie
+use Rattle.effect.proofs.Writes.{deleted_is, wiped_is}
+use borrow.Author.Rules.{rules}
+use Rattle.effect.proofs.erase.erase.Statement.{statement}
+use Rattle.effect.proofs.erase.erase.Tie as tie
 
 current-df-requires : tie.Need-current-df-requires
-current-df-requires c κs = search needs
+current-df-requires c κs = search rules
 
 current-ef-requires : tie.Need-current-ef-requires
-current-ef-requires c κs = search needs
+current-ef-requires c κs = search rules
 
 ef-left-requires : tie.Need-ef-left-requires
-ef-left-requires c κs = search needs
+ef-left-requires c κs = search rules
 
 clear-requires : tie.Need-clear-requires
-clear-requires c κs = search needs
+clear-requires c κs = search rules
 
-cast-set-current : tie.Need-cast-set-current
-cast-set-current c = search needs
+cast-set-current : tie.Need-overflow-cast-set-current
+cast-set-current c = search rules
 
 set-current-requires : tie.Need-set-current-requires
-set-current-requires c κs = search needs
+set-current-requires c κs = search rules
 
-same-length : tie.Need-same-length
-same-length c = search needs
+same_length : tie.Need-same-length
+same_length c = search rules
 
 same-length-2 : tie.Need-same-length-2
-same-length-2 c = search needs
+same-length-2 c = search rules
 
 returns : tie.Need-returns
-returns c = (search deleted-is, search wiped-is)
+returns c = (search deleted_is, search wiped_is)
 
 pub erase-spec : {M : Type 1} → statement M
 erase-spec =
@@ -41,6 +41,6 @@ erase-spec =
     clear-requires
     cast-set-current
     set-current-requires
-    same-length
+    same_length
     same-length-2
     returns)

@@ -1,8 +1,8 @@
 -- `tell::chosen`: the EF, else the DF.
-use Rattle·laws.proofs.Branches.{branches}
-use Rattle·effect·specs.specs.Told.{chosen}
-use Rattle·effect·proofs.proofs.tell.chosen.Statement.{statement}
-use Rattle·effect·proofs.proofs.tell.chosen.Tie as tie
+use Rattle.laws.proofs.Branches.{branches}
+use Rattle.effect.specs.Told.{chosen}
+use Rattle.effect.proofs.tell.chosen.Statement.{statement}
+use Rattle.effect.proofs.tell.chosen.Tie as tie
 
 returns : tie.Need-returns
 unfolding chosen

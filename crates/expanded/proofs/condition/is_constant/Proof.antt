@@ -1,12 +1,12 @@
--- `condition::is_constant`: the first two lines of `formedPlain`.
-use Rattle·laws.proofs.Branches.{tests}
-use Rattle·expanded·specs.specs.Condition.{formedPlain}
-use Rattle·expanded·proofs.proofs.Nested.{formed-empty}
-use Rattle·expanded·proofs.proofs.condition.is_constant.Statement.{statement}
-use Rattle·expanded·proofs.proofs.condition.is_constant.Tie as tie
+-- `condition::is_constant`: the first two lines of `formed_plain`.
+use Rattle.laws.proofs.Branches.{tests}
+use Rattle.expanded.specs.Condition.{formed_plain}
+use Rattle.expanded.proofs.Nested.{formed-empty}
+use Rattle.expanded.proofs.condition.is_constant.Statement.{statement}
+use Rattle.expanded.proofs.condition.is_constant.Tie as tie
 
 returns : tie.Need-returns
-unfolding formedPlain
+unfolding formed_plain
 returns c = search tests
 
 returns-2 : tie.Need-returns-2

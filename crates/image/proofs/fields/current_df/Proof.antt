@@ -1,19 +1,19 @@
 -- `fields::current_df` gives the current DF slot, and its bound.
 use native.Mathlib.Omega.{arith}
-use Rattle·image·specs.specs.Layout.{currentDfOf}
-use borrow.Author.Needs.{needs}
-use Rattle·image·proofs.proofs.fields.current_df.Statement.{statement}
-use Rattle·image·proofs.proofs.fields.current_df.Tie as tie
+use Rattle.image.specs.Layout.{current_df_of}
+use borrow.Author.Rules.{rules}
+use Rattle.image.proofs.fields.current_df.Statement.{statement}
+use Rattle.image.proofs.fields.current_df.Tie as tie
 
 u16-at-requires : tie.Need-u16-at-requires
-u16-at-requires c κs = search needs
+u16-at-requires c κs = search rules
 
-cast-result : tie.Need-cast-result
-cast-result c = search needs
+cast-result : tie.Need-overflow-cast-result
+cast-result c = search rules
 
 returns : tie.Need-returns
-unfolding currentDfOf
-returns c = (c .u16-at .ensures, omega arith)
+unfolding current_df_of
+returns c = (c.u16-at.ensures, omega arith)
 
 pub current-df-spec : {M : Type 1} → statement M
 current-df-spec = tie.close (tie.spec u16-at-requires cast-result returns)

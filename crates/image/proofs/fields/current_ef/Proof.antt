@@ -1,19 +1,19 @@
 -- `fields::current_ef` gives the current EF slot, and its bound.
 use native.Mathlib.Omega.{arith}
-use Rattle·image·specs.specs.Layout.{currentEfOf}
-use borrow.Author.Needs.{needs}
-use Rattle·image·proofs.proofs.fields.current_ef.Statement.{statement}
-use Rattle·image·proofs.proofs.fields.current_ef.Tie as tie
+use Rattle.image.specs.Layout.{current_ef_of}
+use borrow.Author.Rules.{rules}
+use Rattle.image.proofs.fields.current_ef.Statement.{statement}
+use Rattle.image.proofs.fields.current_ef.Tie as tie
 
 u16-at-requires : tie.Need-u16-at-requires
-u16-at-requires c κs = search needs
+u16-at-requires c κs = search rules
 
-cast-result : tie.Need-cast-result
-cast-result c = search needs
+cast-result : tie.Need-overflow-cast-result
+cast-result c = search rules
 
 returns : tie.Need-returns
-unfolding currentEfOf
-returns c = (c .u16-at .ensures, omega arith)
+unfolding current_ef_of
+returns c = (c.u16-at.ensures, omega arith)
 
 pub current-ef-spec : {M : Type 1} → statement M
 current-ef-spec = tie.close (tie.spec u16-at-requires cast-result returns)

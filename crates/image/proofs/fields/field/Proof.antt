@@ -1,55 +1,54 @@
 -- `fields::field` gives the bytes of a field of record s, as many as its length says.
-use Prim.Native.Nat.{_+_, _*_}
+use Prim.Native.Nat.{◌+◌, ◌*◌}
 use mathlib.Core.Path.{refl}
 use native.Mathlib.Omega.{arith}
-use denote.Ref.{now}
-use Rattle·image·proofs.proofs.Places.{byte-in, field-in}
-use borrow.Author.Needs.{needs}
-use Rattle·image·proofs.proofs.fields.field.Statement.{statement}
-use Rattle·image·proofs.proofs.fields.field.Tie as tie
+use Rattle.image.proofs.Places.{byte_in, field_in}
+use borrow.Author.Rules.{rules}
+use Rattle.image.proofs.fields.field.Statement.{statement}
+use Rattle.image.proofs.fields.field.Tie as tie
 
-mul-at : tie.Need-mul-at
-mul-at c = search needs
+mul_at : tie.Need-overflow-mul-at
+mul_at c = search rules
 
-add-at : tie.Need-add-at
-add-at c = search needs
+add_at : tie.Need-overflow-add-at
+add_at c = search rules
 
-add-n : tie.Need-add-n
-add-n c = search needs
+add-n : tie.Need-overflow-add-n
+add-n c = search rules
 
 shared-slice-read-n : tie.Need-shared-slice-read-n
-shared-slice-read-n c = search needs
+shared-slice-read-n c = search rules
 
-cast-n : tie.Need-cast-n
-cast-n c = omega (arith, c .shared-slice-known .given (16 + 64 * c .before .args .s + c .before .args .k))
+cast-n : tie.Need-overflow-cast-n
+cast-n c = omega (arith, c.shared-slice-known.given (16 + 64 * c.before.args.s + c.before.args.k))
 
-add-from : tie.Need-add-from
-add-from c = search needs
+add-from : tie.Need-overflow-add-from
+add-from c = search rules
 
-add-from-2 : tie.Need-add-from-2
-add-from-2 c = search needs
+add-from-2 : tie.Need-overflow-add-from-2
+add-from-2 c = search rules
 
-add-to : tie.Need-add-to
-add-to c = omega (arith, byte-in (now (c .before .args .image)) (c .before .args .s) (c .before .args .k) (omega arith))
+add-to : tie.Need-overflow-add-to
+add-to c = omega (arith, byte_in c.before.args.image.now c.before.args.s c.before.args.k (omega arith))
 
-sub-result : tie.Need-sub-result
-sub-result c = search needs
+sub-result : tie.Need-overflow-sub-result
+sub-result c = search rules
 
-part-result-start : tie.Need-part-result-start
-part-result-start c = search needs
+part-result-start : tie.Need-slice-bounds-result-start
+part-result-start c = search rules
 
-part-result-end : tie.Need-part-result-end
-part-result-end c = omega (arith, byte-in (now (c .before .args .image)) (c .before .args .s) (c .before .args .k) (omega arith))
+part-result-end : tie.Need-slice-bounds-result-end
+part-result-end c = omega (arith, byte_in c.before.args.image.now c.before.args.s c.before.args.k (omega arith))
 
 returns : tie.Need-returns
-returns c = field-in _ _ _ (c .before .before .pre .0 .0) (c .before .before .pre .0 .1) (c .before .before .pre .1) _ refl
+returns c = field_in _ _ _ c.before.before.requires.0.0 c.before.before.requires.0.1 c.before.before.requires.1 _ refl
 
 pub field-spec : {M : Type 1} → statement M
 field-spec =
     tie.close
     (tie.spec
-    mul-at
-    add-at
+    mul_at
+    add_at
     add-n
     shared-slice-read-n
     cast-n

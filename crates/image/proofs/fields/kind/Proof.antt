@@ -1,21 +1,21 @@
 -- `fields::kind` gives the kind of record s.
 use mathlib.Core.Path.{sym}
-use Rattle·image·proofs.proofs.Places.{kind-in}
-use borrow.Author.Needs.{needs}
-use Rattle·image·proofs.proofs.fields.kind.Statement.{statement}
-use Rattle·image·proofs.proofs.fields.kind.Tie as tie
+use Rattle.image.proofs.Places.{kind_in}
+use borrow.Author.Rules.{rules}
+use Rattle.image.proofs.fields.kind.Statement.{statement}
+use Rattle.image.proofs.fields.kind.Tie as tie
 
-mul-result : tie.Need-mul-result
-mul-result c = search needs
+mul-result : tie.Need-overflow-mul-result
+mul-result c = search rules
 
-add-result : tie.Need-add-result
-add-result c = search needs
+add-result : tie.Need-overflow-add-result
+add-result c = search rules
 
 shared-slice-read-result : tie.Need-shared-slice-read-result
-shared-slice-read-result c = search needs
+shared-slice-read-result c = search rules
 
 returns : tie.Need-returns
-returns c = sym (kind-in _ _)
+returns c = sym (kind_in _ _)
 
 pub kind-spec : {M : Type 1} → statement M
 kind-spec = tie.close (tie.spec mul-result add-result shared-slice-read-result returns)

@@ -1,21 +1,21 @@
 -- `fields::life_cycle` gives the life-cycle byte of record s.
 use mathlib.Core.Path.{sym}
-use Rattle·image·proofs.proofs.Places.{life-in}
-use borrow.Author.Needs.{needs}
-use Rattle·image·proofs.proofs.fields.life_cycle.Statement.{statement}
-use Rattle·image·proofs.proofs.fields.life_cycle.Tie as tie
+use Rattle.image.proofs.Places.{life-in}
+use borrow.Author.Rules.{rules}
+use Rattle.image.proofs.fields.life_cycle.Statement.{statement}
+use Rattle.image.proofs.fields.life_cycle.Tie as tie
 
-mul-result : tie.Need-mul-result
-mul-result c = search needs
+mul-result : tie.Need-overflow-mul-result
+mul-result c = search rules
 
-add-result : tie.Need-add-result
-add-result c = search needs
+add-result : tie.Need-overflow-add-result
+add-result c = search rules
 
-add-result-2 : tie.Need-add-result-2
-add-result-2 c = search needs
+add-result-2 : tie.Need-overflow-add-result-2
+add-result-2 c = search rules
 
 shared-slice-read-result : tie.Need-shared-slice-read-result
-shared-slice-read-result c = search needs
+shared-slice-read-result c = search rules
 
 returns : tie.Need-returns
 returns c = sym (life-in _ _)

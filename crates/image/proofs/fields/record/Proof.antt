@@ -1,26 +1,26 @@
 -- `fields::record` gives the 64 bytes of record s.
-use Rattle·image·proofs.proofs.Places.{record-in}
-use borrow.Author.Needs.{needs}
-use Rattle·image·proofs.proofs.fields.record.Statement.{statement}
-use Rattle·image·proofs.proofs.fields.record.Tie as tie
+use Rattle.image.proofs.Places.{record-in}
+use borrow.Author.Rules.{rules}
+use Rattle.image.proofs.fields.record.Statement.{statement}
+use Rattle.image.proofs.fields.record.Tie as tie
 
-mul-from : tie.Need-mul-from
-mul-from c = search needs
+mul-from : tie.Need-overflow-mul-from
+mul-from c = search rules
 
-add-from : tie.Need-add-from
-add-from c = search needs
+add-from : tie.Need-overflow-add-from
+add-from c = search rules
 
-add-to : tie.Need-add-to
-add-to c = search needs
+add-to : tie.Need-overflow-add-to
+add-to c = search rules
 
-sub-result : tie.Need-sub-result
-sub-result c = search needs
+sub-result : tie.Need-overflow-sub-result
+sub-result c = search rules
 
-part-result-start : tie.Need-part-result-start
-part-result-start c = search needs
+part-result-start : tie.Need-slice-bounds-result-start
+part-result-start c = search rules
 
-part-result-end : tie.Need-part-result-end
-part-result-end c = search needs
+part-result-end : tie.Need-slice-bounds-result-end
+part-result-end c = search rules
 
 returns : tie.Need-returns
 returns c = record-in _ _

@@ -1,29 +1,29 @@
 -- `fields::start` gives where the body of record s starts, and its bound.
-use mathlib.Core.Path.{sym, _∙_}
+use mathlib.Core.Path.{sym, ◌∙◌}
 use native.Mathlib.Omega.{arith}
-use Rattle·image·proofs.proofs.Places.{start-in}
-use borrow.Author.Needs.{needs}
-use Rattle·image·proofs.proofs.fields.start.Statement.{statement}
-use Rattle·image·proofs.proofs.fields.start.Tie as tie
+use Rattle.image.proofs.Places.{start-in}
+use borrow.Author.Rules.{rules}
+use Rattle.image.proofs.fields.start.Statement.{statement}
+use Rattle.image.proofs.fields.start.Tie as tie
 
-mul-u16-at : tie.Need-mul-u16-at
-mul-u16-at c = search needs
+mul-u16-at : tie.Need-overflow-mul-u16-at
+mul-u16-at c = search rules
 
-add-u16-at : tie.Need-add-u16-at
-add-u16-at c = search needs
+add-u16-at : tie.Need-overflow-add-u16-at
+add-u16-at c = search rules
 
-add-u16-at-2 : tie.Need-add-u16-at-2
-add-u16-at-2 c = search needs
+add-u16-at-2 : tie.Need-overflow-add-u16-at-2
+add-u16-at-2 c = search rules
 
 u16-at-requires : tie.Need-u16-at-requires
-u16-at-requires c κs = search needs
+u16-at-requires c κs = search rules
 
-cast-result : tie.Need-cast-result
-cast-result c = search needs
+cast-result : tie.Need-overflow-cast-result
+cast-result c = search rules
 
 returns : tie.Need-returns
-returns c = (c .u16-at .ensures ∙ sym (start-in _ _), omega arith)
+returns c = (c.u16-at.ensures ∙ sym (start-in _ _), omega arith)
 
-pub start-spec : {M : Type 1} → statement M
-start-spec =
+pub start_spec : {M : Type 1} → statement M
+start_spec =
     tie.close (tie.spec mul-u16-at add-u16-at add-u16-at-2 u16-at-requires cast-result returns)

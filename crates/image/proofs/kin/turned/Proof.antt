@@ -1,15 +1,15 @@
 -- `kin::turned`: both bytes, in the other order.
 use mathlib.Core.Path.{refl}
-use Rattle·image·specs.specs.Kin.{turned}
-use borrow.Author.Needs.{needs}
-use Rattle·image·proofs.proofs.kin.turned.Statement.{statement}
-use Rattle·image·proofs.proofs.kin.turned.Tie as tie
+use Rattle.image.specs.Kin.{turned}
+use borrow.Author.Rules.{rules}
+use Rattle.image.proofs.kin.turned.Statement.{statement}
+use Rattle.image.proofs.kin.turned.Tie as tie
 
-mul-result : tie.Need-mul-result
-mul-result c = search needs
+mul-result : tie.Need-overflow-mul-result
+mul-result c = search rules
 
-add-result : tie.Need-add-result
-add-result c = search needs
+add-result : tie.Need-overflow-add-result
+add-result c = search rules
 
 returns : tie.Need-returns
 unfolding turned

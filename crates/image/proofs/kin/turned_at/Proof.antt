@@ -1,32 +1,32 @@
 -- `kin::turned_at`: both bytes, read in the other order.
-use Rattle·image·proofs.proofs.Words.{turned-read, two-bytes}
-use borrow.Author.Needs.{needs}
-use Rattle·image·proofs.proofs.kin.turned_at.Statement.{statement}
-use Rattle·image·proofs.proofs.kin.turned_at.Tie as tie
+use Rattle.image.proofs.Words.{turned_read, two_bytes}
+use borrow.Author.Rules.{rules}
+use Rattle.image.proofs.kin.turned_at.Statement.{statement}
+use Rattle.image.proofs.kin.turned_at.Tie as tie
 
 shared-slice-read-wide : tie.Need-shared-slice-read-wide
-shared-slice-read-wide c = search needs
+shared-slice-read-wide c = search rules
 
 wide-requires : tie.Need-wide-requires
-wide-requires c κs = search needs
+wide-requires c κs = search rules
 
-add-wide : tie.Need-add-wide
-add-wide c = search needs
+add_wide : tie.Need-overflow-add-wide
+add_wide c = search rules
 
 shared-slice-read-wide-2 : tie.Need-shared-slice-read-wide-2
-shared-slice-read-wide-2 c = search needs
+shared-slice-read-wide-2 c = search rules
 
 wide-requires-2 : tie.Need-wide-requires-2
-wide-requires-2 c κs = search needs
+wide-requires-2 c κs = search rules
 
-mul-result : tie.Need-mul-result
-mul-result c = search needs
+mul-result : tie.Need-overflow-mul-result
+mul-result c = search rules
 
-add-result : tie.Need-add-result
-add-result c = search needs
+add-result : tie.Need-overflow-add-result
+add-result c = search rules
 
 returns : tie.Need-returns
-returns c = (search (turned-read, needs), search (two-bytes, needs))
+returns c = (search (turned_read, rules), search (two_bytes, rules))
 
 pub turned-at-spec : {M : Type 1} → statement M
 turned-at-spec =
@@ -34,7 +34,7 @@ turned-at-spec =
     (tie.spec
     shared-slice-read-wide
     wide-requires
-    add-wide
+    add_wide
     shared-slice-read-wide-2
     wide-requires-2
     mul-result

@@ -1,13 +1,13 @@
 -- `order::is_known`: by the version that the image has.
-use borrow.Author.Needs.{needs}
-use Rattle·judge·proofs.proofs.order.is_known.Statement.{statement}
-use Rattle·judge·proofs.proofs.order.is_known.Tie as tie
+use borrow.Author.Rules.{rules}
+use Rattle.judge.proofs.order.is_known.Statement.{statement}
+use Rattle.judge.proofs.order.is_known.Tie as tie
 
 version-requires : tie.Need-version-requires
-version-requires c κs = search needs
+version-requires c κs = search rules
 
 is-known-requires : tie.Need-is-known-requires
-is-known-requires c κs = search needs
+is-known-requires c κs = search rules
 
 returns : tie.Need-returns
 returns c = cc

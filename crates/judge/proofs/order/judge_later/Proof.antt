@@ -1,35 +1,35 @@
 -- `order::judge_later`: its early returns are the steps E to G.
-use Rattle·laws.proofs.Branches.{answers, unlesses}
-use mathlib.Core.Path.{sym, _∙_}
+use Rattle.laws.proofs.Branches.{answers, unlesses}
+use mathlib.Core.Path.{sym, ◌∙◌}
 use borrow.Author.Tests.{not-false}
-use borrow.Author.Needs.{needs}
-use Rattle·judge·proofs.proofs.order.judge_later.Statement.{statement}
-use Rattle·judge·proofs.proofs.order.judge_later.Tie as tie
+use borrow.Author.Rules.{rules}
+use Rattle.judge.proofs.order.judge_later.Statement.{statement}
+use Rattle.judge.proofs.order.judge_later.Tie as tie
 
 shared-slice-read-is-crowded : tie.Need-shared-slice-read-is-crowded
-shared-slice-read-is-crowded c = search needs
+shared-slice-read-is-crowded c = search rules
 
 is-crowded-requires : tie.Need-is-crowded-requires
-is-crowded-requires c κs = search needs
+is-crowded-requires c κs = search rules
 
 returns : tie.Need-returns
 returns c = search (unlesses, answers) depth 30
 
 fit-parameters-requires : tie.Need-fit-parameters-requires
-fit-parameters-requires c κs = search needs
+fit-parameters-requires c κs = search rules
 
 returns-2 : tie.Need-returns-2
 returns-2 c = search (unlesses, answers) depth 30
 
 fit-length-requires : tie.Need-fit-length-requires
-fit-length-requires c κs = search needs
+fit-length-requires c κs = search rules
 
 returns-3 : tie.Need-returns-3
 returns-3 c = search (unlesses, answers) depth 30
 
 by-instruction-requires : tie.Need-by-instruction-requires
 by-instruction-requires c κs =
-    (search needs, (search needs, (search needs, sym (c .before .fit-length .ensures) ∙ not-false _ (c .if3 .left))))
+    (search rules, (search rules, (search rules, sym c.before.Fit-length.ensures ∙ not-false _ c.if3.false)))
 
 returns-4 : tie.Need-returns-4
 returns-4 c = search (unlesses, answers) depth 30

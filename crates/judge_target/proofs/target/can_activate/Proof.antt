@@ -1,13 +1,13 @@
 -- `target::can_activate`: the class of the byte that stands there.
-use borrow.Author.Needs.{needs}
-use Rattle·judge_target·proofs.proofs.target.can_activate.Statement.{statement}
-use Rattle·judge_target·proofs.proofs.target.can_activate.Tie as tie
+use borrow.Author.Rules.{rules}
+use Rattle.judge_target.proofs.target.can_activate.Statement.{statement}
+use Rattle.judge_target.proofs.target.can_activate.Tie as tie
 
 life-cycle-requires : tie.Need-life-cycle-requires
-life-cycle-requires c κs = search needs
+life-cycle-requires c κs = search rules
 
 can-activate-requires : tie.Need-can-activate-requires
-can-activate-requires c κs = search needs
+can-activate-requires c κs = search rules
 
 returns : tie.Need-returns
 returns c = cc

@@ -1,13 +1,13 @@
 -- `target::is_activated`: the class of the byte that stands there.
-use borrow.Author.Needs.{needs}
-use Rattle·judge_target·proofs.proofs.target.is_activated.Statement.{statement}
-use Rattle·judge_target·proofs.proofs.target.is_activated.Tie as tie
+use borrow.Author.Rules.{rules}
+use Rattle.judge_target.proofs.target.is_activated.Statement.{statement}
+use Rattle.judge_target.proofs.target.is_activated.Tie as tie
 
 life-cycle-requires : tie.Need-life-cycle-requires
-life-cycle-requires c κs = search needs
+life-cycle-requires c κs = search rules
 
 is-activated-requires : tie.Need-is-activated-requires
-is-activated-requires c κs = search needs
+is-activated-requires c κs = search rules
 
 returns : tie.Need-returns
 returns c = cc

@@ -1,17 +1,17 @@
 -- `count::one`: 1 or 0.
 use native.Mathlib.Omega.{arith}
-use Rattle·kinship·proofs.proofs.Counts.{one-is, none-is}
-use Rattle·kinship·proofs.proofs.count.one.Statement.{statement}
-use Rattle·kinship·proofs.proofs.count.one.Tie as tie
+use Rattle.kinship.proofs.Counts.{one_is, none_is}
+use Rattle.kinship.proofs.count.one.Statement.{statement}
+use Rattle.kinship.proofs.count.one.Tie as tie
 
 returns : tie.Need-returns
-returns c = (search one-is, omega arith)
+returns c = (search one_is, omega arith)
 
 returns-2 : tie.Need-returns-2
-returns-2 c = (search none-is, omega arith)
+returns-2 c = (search none_is, omega arith)
 
-pub one-spec : {M : Type 1} → statement M
-one-spec =
+pub one_spec : {M : Type 1} → statement M
+one_spec =
     tie.close
     (tie.spec
     returns

@@ -1,52 +1,52 @@
 -- `names::alike`: the invariant is that the bytes passed are the same.
-use Prim.Native.Nat.{_-_, _≤_}
-use mathlib.Core.Path.{_≡_}
+use Prim.Native.Nat.{◌-◌, ◌≤◌}
+use mathlib.Core.Path.{◌≡◌}
 use mathlib.Core.Bool.{true}
 use lib.ListN.{length}
-use Rattle·kinship·proofs.proofs.Sameness.{sameUpTo, sameness}
-use borrow.Author.Needs.{needs}
-use Rattle·kinship·proofs.proofs.names.alike.Statement.{statement}
-use Rattle·kinship·proofs.proofs.names.alike.Tie as tie
+use Rattle.kinship.proofs.Sameness.{same_up_to, sameness}
+use borrow.Author.Rules.{rules}
+use Rattle.kinship.proofs.names.alike.Statement.{statement}
+use Rattle.kinship.proofs.names.alike.Tie as tie
 
-abbrev Inv-loop : tie.InvT-loop
-Inv-loop a b k₀ k = (k ≤ length a) × (sameUpTo a b k ≡ true)
+abbrev invariant-loop : tie.invariant-loop
+invariant-loop a b k₀ k = (k ≤ length a) × (same_up_to a b k ≡ true)
 
-abbrev μ-loop : tie.MeasureT-loop
-μ-loop a b k₀ k = length a - k
+abbrev decreases-loop : tie.decreases-loop
+decreases-loop a b k₀ k = length a - k
 
-returns : tie.Need-returns Inv-loop μ-loop
+returns : tie.Need-returns invariant-loop decreases-loop
 returns c = search sameness
 
-loop-holds : tie.Need-loop-holds Inv-loop μ-loop
-loop-holds c = search (sameness, needs)
+loop-holds : tie.Need-loop-init invariant-loop decreases-loop
+loop-holds c = search (sameness, rules)
 
-shared-slice-read-if2 : tie.Need-shared-slice-read-if2 Inv-loop μ-loop
-shared-slice-read-if2 c = search needs
+shared-slice-read-if2 : tie.Need-shared-slice-read-if2 invariant-loop decreases-loop
+shared-slice-read-if2 c = search rules
 
-shared-slice-read-if2-2 : tie.Need-shared-slice-read-if2-2 Inv-loop μ-loop
-shared-slice-read-if2-2 c = search needs
+shared-slice-read-if2-2 : tie.Need-shared-slice-read-if2-2 invariant-loop decreases-loop
+shared-slice-read-if2-2 c = search rules
 
-returns-2 : tie.Need-returns-2 Inv-loop μ-loop
-returns-2 c = search (sameness, needs)
+returns-2 : tie.Need-returns-2 invariant-loop decreases-loop
+returns-2 c = search (sameness, rules)
 
-add-k : tie.Need-add-k Inv-loop μ-loop
-add-k c = search needs
+add-k : tie.Need-overflow-add-k invariant-loop decreases-loop
+add-k c = search rules
 
-loop-less : tie.Need-loop-less Inv-loop μ-loop
-loop-less c = search needs
+loop-less : tie.Need-loop-smaller invariant-loop decreases-loop
+loop-less c = search rules
 
-loop-again : tie.Need-loop-again Inv-loop μ-loop
-loop-again c = search (sameness, needs)
+loop-again : tie.Need-loop-preserved invariant-loop decreases-loop
+loop-again c = search (sameness, rules)
 
-returns-3 : tie.Need-returns-3 Inv-loop μ-loop
-returns-3 c = search (sameness, needs)
+returns-3 : tie.Need-returns-3 invariant-loop decreases-loop
+returns-3 c = search (sameness, rules)
 
-pub alike-spec : {M : Type 1} → statement M
-alike-spec =
+pub alike_spec : {M : Type 1} → statement M
+alike_spec =
     tie.close
     (tie.spec
-    Inv-loop
-    μ-loop
+    invariant-loop
+    decreases-loop
     returns
     loop-holds
     shared-slice-read-if2

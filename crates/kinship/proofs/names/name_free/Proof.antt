@@ -1,52 +1,52 @@
 -- `names::name_free`: the invariant is that no record passed has the name.
-use borrow.Author.Needs.{needs}
-use Prim.Native.Nat.{_-_, _≤_}
-use mathlib.Core.Path.{_≡_}
+use borrow.Author.Rules.{rules}
+use Prim.Native.Nat.{◌-◌, ◌≤◌}
+use mathlib.Core.Path.{◌≡◌}
 use mathlib.Core.Bool.{true}
-use Rattle·sound.specs.Table.{viewAt}
-use Rattle·kinship·proofs.proofs.Sameness.{freeUpTo, free-start, free-turn, free-empty, free-stop, free-end}
-use Rattle·kinship·proofs.proofs.names.name_free.Statement.{statement}
-use Rattle·kinship·proofs.proofs.names.name_free.Tie as tie
+use Rattle.sound.specs.Table.{view_at}
+use Rattle.kinship.proofs.Sameness.{free_up_to, free-start, free_turn, free-empty, free_stop, free-end}
+use Rattle.kinship.proofs.names.name_free.Statement.{statement}
+use Rattle.kinship.proofs.names.name_free.Tie as tie
 
-abbrev Inv-loop : tie.InvT-loop
-Inv-loop image n name s₀ s = (s ≤ n) × (freeUpTo (viewAt image) name s ≡ true)
+abbrev invariant-loop : tie.invariant-loop
+invariant-loop image n name s₀ s = (s ≤ n) × (free_up_to (view_at image) name s ≡ true)
 
-abbrev μ-loop : tie.MeasureT-loop
-μ-loop image n name s₀ s = n - s
+abbrev decreases-loop : tie.decreases-loop
+decreases-loop image n name s₀ s = n - s
 
-returns : tie.Need-returns Inv-loop μ-loop
+returns : tie.Need-returns invariant-loop decreases-loop
 returns c = search free-empty
 
-loop-holds : tie.Need-loop-holds Inv-loop μ-loop
-loop-holds c = (search needs, free-start _ _)
+loop-holds : tie.Need-loop-init invariant-loop decreases-loop
+loop-holds c = (search rules, free-start _ _)
 
-name-requires : tie.Need-name-requires Inv-loop μ-loop
-name-requires c κs = (search needs, c .before .before .before .before .before .pre .short _ (search needs))
+name-requires : tie.Need-name-requires invariant-loop decreases-loop
+name-requires c κs = (search rules, c.before.before.before.before.before.requires.short _ (search rules))
 
-same-requires : tie.Need-same-requires Inv-loop μ-loop
-same-requires c κs = search needs
+same-requires : tie.Need-same-requires invariant-loop decreases-loop
+same-requires c κs = search rules
 
-returns-2 : tie.Need-returns-2 Inv-loop μ-loop
-returns-2 c = search (free-stop, needs)
+returns-2 : tie.Need-returns-2 invariant-loop decreases-loop
+returns-2 c = search (free_stop, rules)
 
-add-s : tie.Need-add-s Inv-loop μ-loop
-add-s c = search needs
+add-s : tie.Need-overflow-add-s invariant-loop decreases-loop
+add-s c = search rules
 
-loop-less : tie.Need-loop-less Inv-loop μ-loop
-loop-less c = search needs
+loop-less : tie.Need-loop-smaller invariant-loop decreases-loop
+loop-less c = search rules
 
-loop-again : tie.Need-loop-again Inv-loop μ-loop
-loop-again c = (search needs, search free-turn)
+loop-again : tie.Need-loop-preserved invariant-loop decreases-loop
+loop-again c = (search rules, search free_turn)
 
-returns-3 : tie.Need-returns-3 Inv-loop μ-loop
-returns-3 c = search (free-end, needs)
+returns-3 : tie.Need-returns-3 invariant-loop decreases-loop
+returns-3 c = search (free-end, rules)
 
 pub name-free-spec : {M : Type 1} → statement M
 name-free-spec =
     tie.close
     (tie.spec
-    Inv-loop
-    μ-loop
+    invariant-loop
+    decreases-loop
     returns
     loop-holds
     name-requires

@@ -1,54 +1,54 @@
 -- `search::df_named`: the invariant is that no slot passed is one; foreign records between two that are asked are passed over.
-use Prim.Native.Nat.{_-_, _≤_}
-use mathlib.Core.Path.{_≡_}
-use Rattle·laws.specs.declared.Found.the-variants.{Nothing}
-use Rattle·laws.specs.Walks.{firstBelow}
-use Rattle·sound.specs.Table.{viewAt}
-use Rattle·laws.proofs.Firsts.{first-stop, first-end}
-use Rattle·kinship·specs.specs.Search.{isDfNamed, dfNamed}
-use Rattle·kinship·proofs.proofs.Foreign.{df-start, df-turn}
-use borrow.Author.Needs.{needs}
-use Rattle·kinship·proofs.proofs.search.df_named.Statement.{statement}
-use Rattle·kinship·proofs.proofs.search.df_named.Tie as tie
+use Prim.Native.Nat.{◌-◌, ◌≤◌}
+use mathlib.Core.Path.{◌≡◌}
+use Rattle.laws.specs.declared.Found.TheVariants.{Nothing}
+use Rattle.laws.specs.Walks.{first_below}
+use Rattle.sound.specs.Table.{view_at}
+use Rattle.laws.proofs.Firsts.{first_stop, first-end}
+use Rattle.kinship.specs.Search.{is_df_named, df_named}
+use Rattle.kinship.proofs.Foreign.{df-start, df_turn}
+use borrow.Author.Rules.{rules}
+use Rattle.kinship.proofs.search.df_named.Statement.{statement}
+use Rattle.kinship.proofs.search.df_named.Tie as tie
 
-abbrev Inv-loop : tie.InvT-loop
-Inv-loop image n d x s₀ s = (s ≤ n) × (firstBelow s (isDfNamed (viewAt image) d x) ≡ Nothing)
+abbrev invariant-loop : tie.invariant-loop
+invariant-loop image n d x s₀ s = (s ≤ n) × (first_below s (is_df_named (view_at image) d x) ≡ Nothing)
 
-abbrev μ-loop : tie.MeasureT-loop
-μ-loop image n d x s₀ s = n - s
+abbrev decreases-loop : tie.decreases-loop
+decreases-loop image n d x s₀ s = n - s
 
-loop-holds : tie.Need-loop-holds Inv-loop μ-loop
-loop-holds c = (search needs, search df-start)
+loop-holds : tie.Need-loop-init invariant-loop decreases-loop
+loop-holds c = (search rules, search df-start)
 
-is-df-named-requires : tie.Need-is-df-named-requires Inv-loop μ-loop
-is-df-named-requires c κs = search needs
+is-df-named-requires : tie.Need-is-df-named-requires invariant-loop decreases-loop
+is-df-named-requires c κs = search rules
 
-returns : tie.Need-returns Inv-loop μ-loop
-unfolding dfNamed
-returns c = search (first-stop, needs)
+returns : tie.Need-returns invariant-loop decreases-loop
+unfolding df_named
+returns c = search (first_stop, rules)
 
-add-next-kin : tie.Need-add-next-kin Inv-loop μ-loop
-add-next-kin c = search needs
+add-next-kin : tie.Need-overflow-add-next-kin invariant-loop decreases-loop
+add-next-kin c = search rules
 
-next-kin-requires : tie.Need-next-kin-requires Inv-loop μ-loop
-next-kin-requires c κs = search needs
+next-kin-requires : tie.Need-next-kin-requires invariant-loop decreases-loop
+next-kin-requires c κs = search rules
 
-loop-less : tie.Need-loop-less Inv-loop μ-loop
-loop-less c = search needs
+loop-less : tie.Need-loop-smaller invariant-loop decreases-loop
+loop-less c = search rules
 
-loop-again : tie.Need-loop-again Inv-loop μ-loop
-loop-again c = (search needs, search df-turn)
+loop-again : tie.Need-loop-preserved invariant-loop decreases-loop
+loop-again c = (search rules, search df_turn)
 
-returns-2 : tie.Need-returns-2 Inv-loop μ-loop
-unfolding dfNamed
-returns-2 c = search (first-end, needs)
+returns-2 : tie.Need-returns-2 invariant-loop decreases-loop
+unfolding df_named
+returns-2 c = search (first-end, rules)
 
 pub df-named-spec : {M : Type 1} → statement M
 df-named-spec =
     tie.close
     (tie.spec
-    Inv-loop
-    μ-loop
+    invariant-loop
+    decreases-loop
     loop-holds
     is-df-named-requires
     returns

@@ -1,18 +1,18 @@
 -- `fresh::fits_total`: at least 1, at most what the slots hold.
 use mathlib.Core.Path.{refl}
-use Rattle·maker·proofs.proofs.Buffers.{total-none, total-last}
-use borrow.Author.Needs.{needs}
-use Rattle·maker·proofs.proofs.fresh.fits_total.Statement.{statement}
-use Rattle·maker·proofs.proofs.fresh.fits_total.Tie as tie
+use Rattle.maker.proofs.Buffers.{total-none, total-last}
+use borrow.Author.Rules.{rules}
+use Rattle.maker.proofs.fresh.fits_total.Statement.{statement}
+use Rattle.maker.proofs.fresh.fits_total.Tie as tie
 
 returns : tie.Need-returns
 returns c = search total-none
 
-sub-most : tie.Need-sub-most
-sub-most c = search needs
+sub-most : tie.Need-overflow-sub-most
+sub-most c = search rules
 
-mul-most : tie.Need-mul-most
-mul-most c = search needs
+mul_most : tie.Need-overflow-mul-most
+mul_most c = search rules
 
 returns-2 : tie.Need-returns-2
 returns-2 c = search (total-last, refl)
@@ -23,5 +23,5 @@ fits-total-spec =
     (tie.spec
     returns
     sub-most
-    mul-most
+    mul_most
     returns-2)

@@ -1,53 +1,47 @@
 -- `fresh::put_header`: eight writes, each where the one before ended.
-use Prim.Native.Nat.{_≤_}
+use Prim.Native.Nat.{◌≤◌}
 use mathlib.Core.Path.{refl}
 use native.Mathlib.Omega.{arith}
 use lib.ListN.{length}
-use denote.Ref.{now}
-use Rattle·laws.proofs.Splices.{splice-step}
-use Rattle·sound.specs.Effects.{freshHeader}
-use borrow.Author.Needs.{needs}
-use Rattle·maker·proofs.proofs.fresh.put_header.Statement.{statement}
-use Rattle·maker·proofs.proofs.fresh.put_header.Tie as tie
+use Rattle.laws.proofs.Splices.{splice-step}
+use Rattle.sound.specs.Effects.{fresh_header}
+use borrow.Author.Rules.{rules}
+use Rattle.maker.proofs.fresh.put_header.Statement.{statement}
+use Rattle.maker.proofs.fresh.put_header.Tie as tie
 
 put8-requires : tie.Need-put8-requires
-put8-requires c κs = search needs
+put8-requires c κs = search rules
 
 put8-requires-2 : tie.Need-put8-requires-2
-put8-requires-2 c κs = search needs
+put8-requires-2 c κs = search rules
 
 put8-requires-3 : tie.Need-put8-requires-3
-put8-requires-3 c κs = search needs
+put8-requires-3 c κs = search rules
 
 put16-requires : tie.Need-put16-requires
-put16-requires c κs = search needs
+put16-requires c κs = search rules
 
 put16-requires-2 : tie.Need-put16-requires-2
-put16-requires-2 c κs = search needs
+put16-requires-2 c κs = search rules
 
 put16-requires-3 : tie.Need-put16-requires-3
-put16-requires-3 c κs = search needs
+put16-requires-3 c κs = search rules
 
 put16-requires-4 : tie.Need-put16-requires-4
-put16-requires-4 c κs = search needs
+put16-requires-4 c κs = search rules
 
 zero-out-requires : tie.Need-zero-out-requires
-zero-out-requires c κs = search needs
+zero-out-requires c κs = search rules
 
-same-length : tie.Need-same-length
-same-length c = search needs
+same_length : tie.Need-same-length
+same_length c = search rules
 
 returns : tie.Need-returns
-unfolding freshHeader
+unfolding fresh_header
 returns c =
     let p : 16 ≤ length
-    (now
-    (c .before .before .before .before .before .before .before .before .before .before .before .before .before .before .before .before
-    .before .before .before .before .before .before .before .before .before .before .before .before .before .before .before .before
-    .before .args .image)) =
-    c .before .before .before .before .before .before .before .before .before .before .before .before .before .before .before .before
-    .before .before .before .before .before .before .before .before .before .before .before .before .before .before .before .before
-    .before .pre in
+    c.before.before.before.before.before.before.before.before.before.before.before.before.before.before.before.before.before.before.before.before.before.before.before.before.before.before.before.before.before.before.before.before.before.args.image.now =
+    c.before.before.before.before.before.before.before.before.before.before.before.before.before.before.before.before.before.before.before.before.before.before.before.before.before.before.before.before.before.before.before.before.before.requires in
     splice-step _ _ _ _ _ _ _
     (splice-step _ _ _ _ _ _ _
     (splice-step _ _ _ _ _ _ _
@@ -55,22 +49,18 @@ returns c =
     (splice-step _ _ _ _ _ _ _
     (splice-step _ _ _ _ _ _ _
     (splice-step _ _ _ _ _ _ _
-    (c .before .before .before .before .before .before .before .before .before .before .before .before .before .before .before .before
-    .before .before .before .before .before .before .before .before .before .before .before .before .before .before .put8 .ensures)
+    c.before.before.before.before.before.before.before.before.before.before.before.before.before.before.before.before.before.before.before.before.before.before.before.before.before.before.before.before.before.before.put8.ensures
     (omega arith) refl
-    (c .before .before .before .before .before .before .before .before .before .before .before .before .before .before .before .before
-    .before .before .before .before .before .before .before .before .before .before .put82 .ensures))
+    c.before.before.before.before.before.before.before.before.before.before.before.before.before.before.before.before.before.before.before.before.before.before.before.before.before.before.put82.ensures)
     (omega arith) refl
-    (c .before .before .before .before .before .before .before .before .before .before .before .before .before .before .before .before
-    .before .before .before .before .before .before .put83 .ensures))
+    c.before.before.before.before.before.before.before.before.before.before.before.before.before.before.before.before.before.before.before.before.before.before.put83.ensures)
     (omega arith) refl
-    (c .before .before .before .before .before .before .before .before .before .before .before .before .before .before .before .before
-    .before .before .put16 .ensures))
+    c.before.before.before.before.before.before.before.before.before.before.before.before.before.before.before.before.before.before.put16.ensures)
     (omega arith) refl
-    (c .before .before .before .before .before .before .before .before .before .before .before .before .before .before .put162 .ensures))
-    (omega arith) refl (c .before .before .before .before .before .before .before .before .before .before .put163 .ensures))
-    (omega arith) refl (c .before .before .before .before .before .before .put164 .ensures))
-    (omega arith) refl (c .before .before .zero-out .ensures)
+    c.before.before.before.before.before.before.before.before.before.before.before.before.before.before.put162.ensures)
+    (omega arith) refl c.before.before.before.before.before.before.before.before.before.before.put163.ensures)
+    (omega arith) refl c.before.before.before.before.before.before.put164.ensures)
+    (omega arith) refl c.before.before.zero-out.ensures
 
 pub put-header-spec : {M : Type 1} → statement M
 put-header-spec =
@@ -84,5 +74,5 @@ put-header-spec =
     put16-requires-3
     put16-requires-4
     zero-out-requires
-    same-length
+    same_length
     returns)

@@ -1,32 +1,32 @@
 -- `report::figures`: the four numbers of the current DF.
-use Rattle·maker·proofs.proofs.Sums.{df-low, df-paid, rooted-read, figures-are}
-use borrow.Author.Needs.{needs}
-use Rattle·maker·proofs.proofs.report.figures.Statement.{statement}
-use Rattle·maker·proofs.proofs.report.figures.Tie as tie
+use Rattle.maker.proofs.Sums.{df-low, df-paid, rooted_read, figures_are}
+use borrow.Author.Rules.{rules}
+use Rattle.maker.proofs.report.figures.Statement.{statement}
+use Rattle.maker.proofs.report.figures.Tie as tie
 
 current-df-requires : tie.Need-current-df-requires
-current-df-requires c κs = search needs
+current-df-requires c κs = search rules
 
 size-requires : tie.Need-size-requires
-size-requires c κs = search (df-low, needs)
+size-requires c κs = search (df-low, rules)
 
-cast-total : tie.Need-cast-total
-cast-total c = search needs
+cast-total : tie.Need-overflow-cast-total
+cast-total c = search rules
 
 room-requires : tie.Need-room-requires
-room-requires c κs = (search needs, (search df-low, search df-paid))
+room-requires c κs = (search rules, (search df-low, search df-paid))
 
-cast-room : tie.Need-cast-room
-cast-room c = search needs
+cast-room : tie.Need-overflow-cast-room
+cast-room c = search rules
 
 children-requires : tie.Need-children-requires
-children-requires c κs = search needs
+children-requires c κs = search rules
 
 beneath-requires : tie.Need-beneath-requires
-beneath-requires c κs = (search rooted-read, search df-low)
+beneath-requires c κs = (search rooted_read, search df-low)
 
 returns : tie.Need-returns
-returns c = search figures-are
+returns c = search figures_are
 
 pub figures-spec : {M : Type 1} → statement M
 figures-spec =

@@ -1,15 +1,15 @@
 -- `body::start` gives the start, and its bound.
-use Rattle·pool·specs.specs.Bodies.{startAt}
-use borrow.Author.Needs.{needs}
-use Rattle·pool·proofs.proofs.body.start.Statement.{statement}
-use Rattle·pool·proofs.proofs.body.start.Tie as tie
+use Rattle.pool.specs.Bodies.{start_at}
+use borrow.Author.Rules.{rules}
+use Rattle.pool.proofs.body.start.Statement.{statement}
+use Rattle.pool.proofs.body.start.Tie as tie
 
 start-requires : tie.Need-start-requires
-start-requires c κs = search needs
+start-requires c κs = search rules
 
 returns : tie.Need-returns
-unfolding startAt
-returns c = search needs
+unfolding start_at
+returns c = search rules
 
-pub start-spec : {M : Type 1} → statement M
-start-spec = tie.close (tie.spec start-requires returns)
+pub start_spec : {M : Type 1} → statement M
+start_spec = tie.close (tie.spec start-requires returns)

@@ -1,54 +1,54 @@
 -- `index::ahead`: the best of the slots that were looked at, along the chain.
-use borrow.Author.Needs.{needs}
-use Rattle·pool·proofs.proofs.Nearest.{Nearest, near-start, near-less, near-more, near-end}
-use Rattle·pool·proofs.proofs.index.ahead.Statement.{statement}
-use Rattle·pool·proofs.proofs.index.ahead.Tie as tie
+use borrow.Author.Rules.{rules}
+use Rattle.pool.proofs.Nearest.{Nearest, near-start, near-less, near-more, near-end}
+use Rattle.pool.proofs.index.ahead.Statement.{statement}
+use Rattle.pool.proofs.index.ahead.Tie as tie
 
-abbrev Inv-loop : tie.InvT-loop
-Inv-loop index len p end best₀ x₀ best x = Nearest index len p best x
+abbrev invariant-loop : tie.invariant-loop
+invariant-loop index len p end best₀ x₀ best x = Nearest index len p best x
 
-abbrev μ-loop : tie.MeasureT-loop
-μ-loop index len p end best₀ x₀ best x = x
+abbrev decreases-loop : tie.decreases-loop
+decreases-loop index len p end best₀ x₀ best x = x
 
-add-least : tie.Need-add-least Inv-loop μ-loop
-add-least c = search needs
+add-least : tie.Need-overflow-add-least invariant-loop decreases-loop
+add-least c = search rules
 
-mul-least : tie.Need-mul-least Inv-loop μ-loop
-mul-least c = search needs
+mul-least : tie.Need-overflow-mul-least invariant-loop decreases-loop
+mul-least c = search rules
 
-least-requires : tie.Need-least-requires Inv-loop μ-loop
-least-requires c κs = search needs
+least-requires : tie.Need-least-requires invariant-loop decreases-loop
+least-requires c κs = search rules
 
-number-requires : tie.Need-number-requires Inv-loop μ-loop
-number-requires c κs = search needs
+number-requires : tie.Need-number-requires invariant-loop decreases-loop
+number-requires c κs = search rules
 
-loop-holds : tie.Need-loop-holds Inv-loop μ-loop
+loop-holds : tie.Need-loop-init invariant-loop decreases-loop
 loop-holds c = search near-start
 
-nearer-requires : tie.Need-nearer-requires Inv-loop μ-loop
-nearer-requires c κs = search needs
+nearer-requires : tie.Need-nearer-requires invariant-loop decreases-loop
+nearer-requires c κs = search rules
 
-add-number : tie.Need-add-number Inv-loop μ-loop
-add-number c = search needs
+add-number : tie.Need-overflow-add-number invariant-loop decreases-loop
+add-number c = search rules
 
-number-requires-2 : tie.Need-number-requires-2 Inv-loop μ-loop
-number-requires-2 c κs = search needs
+number-requires-2 : tie.Need-number-requires-2 invariant-loop decreases-loop
+number-requires-2 c κs = search rules
 
-loop-less : tie.Need-loop-less Inv-loop μ-loop
+loop-less : tie.Need-loop-smaller invariant-loop decreases-loop
 loop-less c = search near-less
 
-loop-again : tie.Need-loop-again Inv-loop μ-loop
+loop-again : tie.Need-loop-preserved invariant-loop decreases-loop
 loop-again c = search near-more
 
-returns : tie.Need-returns Inv-loop μ-loop
+returns : tie.Need-returns invariant-loop decreases-loop
 returns c = search near-end
 
 pub ahead-spec : {M : Type 1} → statement M
 ahead-spec =
     tie.close
     (tie.spec
-    Inv-loop
-    μ-loop
+    invariant-loop
+    decreases-loop
     add-least
     mul-least
     least-requires

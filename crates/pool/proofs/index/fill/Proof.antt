@@ -1,36 +1,36 @@
 -- `index::fill`: the slots below s are in the index.
-use Prim.Native.Nat.{_-_, _≤_}
-use borrow.Author.Needs.{needs}
-use Rattle·pool·specs.specs.Bodies.{startAt, bodyAt}
-use Rattle·pool·specs.specs.Index.{Chained}
-use Rattle·pool·proofs.proofs.Indexes.{chained-end}
-use Rattle·pool·proofs.proofs.index.fill.Statement.{statement}
-use Rattle·pool·proofs.proofs.index.fill.Tie as tie
+use Prim.Native.Nat.{◌-◌, ◌≤◌}
+use borrow.Author.Rules.{rules}
+use Rattle.pool.specs.Bodies.{start_at, body_at}
+use Rattle.pool.specs.Index.{Chained}
+use Rattle.pool.proofs.Indexes.{chained_end}
+use Rattle.pool.proofs.index.fill.Statement.{statement}
+use Rattle.pool.proofs.index.fill.Tie as tie
 
-abbrev Inv-loop : tie.InvT-loop
-Inv-loop index₀ image n s₀ index s = (s ≤ n) × Chained s (startAt image) (bodyAt image) index
+abbrev invariant-loop : tie.invariant-loop
+invariant-loop index₀ image n s₀ index s = (s ≤ n) × Chained s (start_at image) (body_at image) index
 
-abbrev μ-loop : tie.MeasureT-loop
-μ-loop index₀ image n s₀ index s = n - s
+abbrev decreases-loop : tie.decreases-loop
+decreases-loop index₀ image n s₀ index s = n - s
 
-loop-holds : tie.Need-loop-holds Inv-loop μ-loop
-loop-holds c = search needs
+loop-holds : tie.Need-loop-init invariant-loop decreases-loop
+loop-holds c = search rules
 
-put-requires : tie.Need-put-requires Inv-loop μ-loop
-put-requires c κs = search needs
+put-requires : tie.Need-put-requires invariant-loop decreases-loop
+put-requires c κs = search rules
 
-add-s : tie.Need-add-s Inv-loop μ-loop
-add-s c = search needs
+add-s : tie.Need-overflow-add-s invariant-loop decreases-loop
+add-s c = search rules
 
-loop-less : tie.Need-loop-less Inv-loop μ-loop
-loop-less c = search needs
+loop-less : tie.Need-loop-smaller invariant-loop decreases-loop
+loop-less c = search rules
 
-loop-again : tie.Need-loop-again Inv-loop μ-loop
-loop-again c = search needs
+loop-again : tie.Need-loop-preserved invariant-loop decreases-loop
+loop-again c = search rules
 
-returns : tie.Need-returns Inv-loop μ-loop
-returns c = search chained-end
+returns : tie.Need-returns invariant-loop decreases-loop
+returns c = search chained_end
 
-pub fill-spec : {M : Type 1} → statement M
-fill-spec =
-    tie.close (tie.spec Inv-loop μ-loop loop-holds put-requires add-s loop-less loop-again returns)
+pub fill_spec : {M : Type 1} → statement M
+fill_spec =
+    tie.close (tie.spec invariant-loop decreases-loop loop-holds put-requires add-s loop-less loop-again returns)

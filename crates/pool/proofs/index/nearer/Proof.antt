@@ -1,14 +1,14 @@
 -- `index::nearer`: a law for each way out.
-use Rattle·pool·proofs.proofs.Nearest.{nearer-below, nearer-past, nearer-is}
-use borrow.Author.Needs.{needs}
-use Rattle·pool·proofs.proofs.index.nearer.Statement.{statement}
-use Rattle·pool·proofs.proofs.index.nearer.Tie as tie
+use Rattle.pool.proofs.Nearest.{nearer-below, nearer-past, nearer-is}
+use borrow.Author.Rules.{rules}
+use Rattle.pool.proofs.index.nearer.Statement.{statement}
+use Rattle.pool.proofs.index.nearer.Tie as tie
 
-add-number : tie.Need-add-number
-add-number c = search needs
+add-number : tie.Need-overflow-add-number
+add-number c = search rules
 
 number-requires : tie.Need-number-requires
-number-requires c κs = search needs
+number-requires c κs = search rules
 
 returns : tie.Need-returns
 returns c = search nearer-below

@@ -1,79 +1,79 @@
 -- `moving::by_index`: bodies that start below p lie below `to` already, and nothing else was changed.
-use Prim.Native.Nat.{_-_}
+use Prim.Native.Nat.{◌-◌}
 use lib.ListN.{length}
-use borrow.Author.Needs.{needs}
-use Rattle·pool·proofs.proofs.Indexes.{chained-linked}
-use Rattle·pool·proofs.proofs.Walking.{Going, going-start, going-none, going-within, going-room, going-less, going-body, going-count}
-use Rattle·pool·proofs.proofs.Walking.{going-image, going-pool, ahead-less}
-use Rattle·pool·proofs.proofs.moving.by_index.Statement.{statement}
-use Rattle·pool·proofs.proofs.moving.by_index.Tie as tie
+use borrow.Author.Rules.{rules}
+use Rattle.pool.proofs.Indexes.{chained-linked}
+use Rattle.pool.proofs.Walking.{Going, going_start, going_none, going_within, going_room, going_less, going_body, going_count}
+use Rattle.pool.proofs.Walking.{going_image, going_pool, ahead_less}
+use Rattle.pool.proofs.moving.by_index.Statement.{statement}
+use Rattle.pool.proofs.moving.by_index.Tie as tie
 
-abbrev Inv-loop : tie.InvT-loop
-Inv-loop index image₀ n pool₀ len moved₀ to₀ p₀ image pool moved to p = Going n image₀ pool₀ image pool moved to p
+abbrev invariant-loop : tie.invariant-loop
+invariant-loop index image₀ n pool₀ len moved₀ to₀ p₀ image pool moved to p = Going n image₀ pool₀ image pool moved to p
 
-abbrev μ-loop : tie.MeasureT-loop
-μ-loop index image₀ n pool₀ len moved₀ to₀ p₀ image pool moved to p = length pool₀ - p
+abbrev decreases-loop : tie.decreases-loop
+decreases-loop index image₀ n pool₀ len moved₀ to₀ p₀ image pool moved to p = length pool₀ - p
 
-loop-holds : tie.Need-loop-holds Inv-loop μ-loop
-loop-holds c = search going-start
+loop-holds : tie.Need-loop-init invariant-loop decreases-loop
+loop-holds c = search going_start
 
-ahead-requires : tie.Need-ahead-requires Inv-loop μ-loop
-ahead-requires c κs = (search chained-linked, search needs)
+ahead-requires : tie.Need-ahead-requires invariant-loop decreases-loop
+ahead-requires c κs = (search chained-linked, search rules)
 
-loop-less : tie.Need-loop-less Inv-loop μ-loop
-loop-less c = search ahead-less
+loop-less : tie.Need-loop-smaller invariant-loop decreases-loop
+loop-less c = search ahead_less
 
-loop-again : tie.Need-loop-again Inv-loop μ-loop
-loop-again c = search going-none
+loop-again : tie.Need-loop-preserved invariant-loop decreases-loop
+loop-again c = search going_none
 
-sub-size : tie.Need-sub-size Inv-loop μ-loop
-sub-size c = search needs
+sub-size : tie.Need-overflow-sub-size invariant-loop decreases-loop
+sub-size c = search rules
 
-size-requires : tie.Need-size-requires Inv-loop μ-loop
-size-requires c κs = search going-within
+size-requires : tie.Need-size-requires invariant-loop decreases-loop
+size-requires c κs = search going_within
 
-move-down-requires : tie.Need-move-down-requires Inv-loop μ-loop
-move-down-requires c κs = (search needs, search going-room)
+move-down-requires : tie.Need-move-down-requires invariant-loop decreases-loop
+move-down-requires c κs = (search rules, search going_room)
 
-sub-set-start : tie.Need-sub-set-start Inv-loop μ-loop
-sub-set-start c = search needs
+sub-set-start : tie.Need-overflow-sub-set-start invariant-loop decreases-loop
+sub-set-start c = search rules
 
-set-start-requires : tie.Need-set-start-requires Inv-loop μ-loop
-set-start-requires c κs = (search going-within, search needs)
+set-start-requires : tie.Need-set-start-requires invariant-loop decreases-loop
+set-start-requires c κs = (search going_within, search rules)
 
-counted-requires : tie.Need-counted-requires Inv-loop μ-loop
-counted-requires c κs = search needs
+counted-requires : tie.Need-counted-requires invariant-loop decreases-loop
+counted-requires c κs = search rules
 
-add-moved : tie.Need-add-moved Inv-loop μ-loop
-add-moved c = search needs
+add-moved : tie.Need-overflow-add-moved invariant-loop decreases-loop
+add-moved c = search rules
 
-add-to : tie.Need-add-to Inv-loop μ-loop
-add-to c = search needs
+add-to : tie.Need-overflow-add-to invariant-loop decreases-loop
+add-to c = search rules
 
-add-p : tie.Need-add-p Inv-loop μ-loop
-add-p c = search needs
+add-p : tie.Need-overflow-add-p invariant-loop decreases-loop
+add-p c = search rules
 
-loop-less-2 : tie.Need-loop-less-2 Inv-loop μ-loop
-loop-less-2 c = search going-less
+loop-less-2 : tie.Need-loop-smaller-2 invariant-loop decreases-loop
+loop-less-2 c = search going_less
 
-loop-again-2 : tie.Need-loop-again-2 Inv-loop μ-loop
-loop-again-2 c = search going-body
+loop-again-2 : tie.Need-loop-preserved-2 invariant-loop decreases-loop
+loop-again-2 c = search going_body
 
-same-length : tie.Need-same-length Inv-loop μ-loop
-same-length c = search needs
+same_length : tie.Need-same-length invariant-loop decreases-loop
+same_length c = search rules
 
-same-length-2 : tie.Need-same-length-2 Inv-loop μ-loop
-same-length-2 c = search needs
+same-length-2 : tie.Need-same-length-2 invariant-loop decreases-loop
+same-length-2 c = search rules
 
-returns : tie.Need-returns Inv-loop μ-loop
-returns c = (search going-count, (search going-image, search going-pool))
+returns : tie.Need-returns invariant-loop decreases-loop
+returns c = (search going_count, (search going_image, search going_pool))
 
 pub by-index-spec : {M : Type 1} → statement M
 by-index-spec =
     tie.close
     (tie.spec
-    Inv-loop
-    μ-loop
+    invariant-loop
+    decreases-loop
     loop-holds
     ahead-requires
     loop-less
@@ -89,6 +89,6 @@ by-index-spec =
     add-p
     loop-less-2
     loop-again-2
-    same-length
+    same_length
     same-length-2
     returns)

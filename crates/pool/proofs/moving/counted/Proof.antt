@@ -1,14 +1,14 @@
 -- `moving::counted`: nothing where the body stays.
-use Rattle·pool·proofs.proofs.Walking.{count-none, count-some}
-use borrow.Author.Needs.{needs}
-use Rattle·pool·proofs.proofs.moving.counted.Statement.{statement}
-use Rattle·pool·proofs.proofs.moving.counted.Tie as tie
+use Rattle.pool.proofs.Walking.{count_none, count-some}
+use borrow.Author.Rules.{rules}
+use Rattle.pool.proofs.moving.counted.Statement.{statement}
+use Rattle.pool.proofs.moving.counted.Tie as tie
 
 returns : tie.Need-returns
-returns c = (search count-none, search needs)
+returns c = (search count_none, search rules)
 
 returns-2 : tie.Need-returns-2
-returns-2 c = (search count-some, search needs)
+returns-2 c = (search count-some, search rules)
 
-pub counted-spec : {M : Type 1} → statement M
-counted-spec = tie.close (tie.spec returns returns-2)
+pub counted_spec : {M : Type 1} → statement M
+counted_spec = tie.close (tie.spec returns returns-2)

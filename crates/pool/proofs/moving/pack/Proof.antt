@@ -1,23 +1,23 @@
 -- `moving::pack`: an index is filled, then the bodies are moved by it.
-use Rattle·pool·proofs.proofs.Indexes.{chained-none}
-use borrow.Author.Needs.{needs}
-use Rattle·pool·proofs.proofs.moving.pack.Statement.{statement}
-use Rattle·pool·proofs.proofs.moving.pack.Tie as tie
+use Rattle.pool.proofs.Indexes.{chained_none}
+use borrow.Author.Rules.{rules}
+use Rattle.pool.proofs.moving.pack.Statement.{statement}
+use Rattle.pool.proofs.moving.pack.Tie as tie
 
 fill-requires : tie.Need-fill-requires
-fill-requires c κs = (search needs, chained-none _ _)
+fill-requires c κs = (search rules, chained_none _ _)
 
 by-index-requires : tie.Need-by-index-requires
-by-index-requires c κs = search needs
+by-index-requires c κs = search rules
 
-same-length : tie.Need-same-length
-same-length c = search needs
+same_length : tie.Need-same-length
+same_length c = search rules
 
 same-length-2 : tie.Need-same-length-2
-same-length-2 c = search needs
+same-length-2 c = search rules
 
 returns : tie.Need-returns
-returns c = search needs
+returns c = search rules
 
 pub pack-spec : {M : Type 1} → statement M
-pack-spec = tie.close (tie.spec fill-requires by-index-requires same-length same-length-2 returns)
+pack-spec = tie.close (tie.spec fill-requires by-index-requires same_length same-length-2 returns)

@@ -1,29 +1,29 @@
 -- `wipe::wipe_if`: a law for each way out.
-use Rattle·pool·proofs.proofs.Wiping.{wipe-stays, wipe-empty, wipe-some, body-room}
-use borrow.Author.Needs.{needs}
-use Rattle·pool·proofs.proofs.wipe.wipe_if.Statement.{statement}
-use Rattle·pool·proofs.proofs.wipe.wipe_if.Tie as tie
+use Rattle.pool.proofs.Wiping.{wipe_stays, wipe_empty, wipe_some, body-room}
+use borrow.Author.Rules.{rules}
+use Rattle.pool.proofs.wipe.wipe_if.Statement.{statement}
+use Rattle.pool.proofs.wipe.wipe_if.Tie as tie
 
 returns : tie.Need-returns
-returns c = search wipe-stays
+returns c = search wipe_stays
 
 size-requires : tie.Need-size-requires
-size-requires c κs = search needs
+size-requires c κs = search rules
 
 returns-2 : tie.Need-returns-2
-returns-2 c = search wipe-empty
+returns-2 c = search wipe_empty
 
 start-requires : tie.Need-start-requires
-start-requires c κs = search needs
+start-requires c κs = search rules
 
 zero-out-requires : tie.Need-zero-out-requires
 zero-out-requires c κs = search body-room
 
-same-length : tie.Need-same-length
-same-length c = search needs
+same_length : tie.Need-same-length
+same_length c = search rules
 
 returns-3 : tie.Need-returns-3
-returns-3 c = search wipe-some
+returns-3 c = search wipe_some
 
 pub wipe-if-spec : {M : Type 1} → statement M
 wipe-if-spec =
@@ -34,5 +34,5 @@ wipe-if-spec =
     returns-2
     start-requires
     zero-out-requires
-    same-length
+    same_length
     returns-3)

@@ -1,31 +1,31 @@
 -- `deciding::named_record`: the byte at its place in the image.
-use mathlib.Core.Path.{sym, _∙_}
-use Rattle·referred·proofs.proofs.Places.{number-in}
-use borrow.Author.Needs.{needs}
-use Rattle·referred·proofs.proofs.deciding.named_record.Statement.{statement}
-use Rattle·referred·proofs.proofs.deciding.named_record.Tie as tie
+use mathlib.Core.Path.{sym, ◌∙◌}
+use Rattle.referred.proofs.Places.{number_in}
+use borrow.Author.Rules.{rules}
+use Rattle.referred.proofs.deciding.named_record.Statement.{statement}
+use Rattle.referred.proofs.deciding.named_record.Tie as tie
 
-mul-wide : tie.Need-mul-wide
-mul-wide c = search needs
+mul_wide : tie.Need-overflow-mul-wide
+mul_wide c = search rules
 
-add-wide : tie.Need-add-wide
-add-wide c = search needs
+add_wide : tie.Need-overflow-add-wide
+add_wide c = search rules
 
-add-wide-2 : tie.Need-add-wide-2
-add-wide-2 c = search needs
+add-wide-2 : tie.Need-overflow-add-wide-2
+add-wide-2 c = search rules
 
 shared-slice-read-wide : tie.Need-shared-slice-read-wide
-shared-slice-read-wide c = search needs
+shared-slice-read-wide c = search rules
 
 wide-requires : tie.Need-wide-requires
-wide-requires c κs = search needs
+wide-requires c κs = search rules
 
-cast-result : tie.Need-cast-result
-cast-result c = search needs
+cast-result : tie.Need-overflow-cast-result
+cast-result c = search rules
 
 returns : tie.Need-returns
-returns c = (c .wide .ensures .0 ∙ sym (number-in _ _), c .wide .ensures .1)
+returns c = (c.wide.ensures.0 ∙ sym (number_in _ _), c.wide.ensures.1)
 
 pub named-record-spec : {M : Type 1} → statement M
 named-record-spec =
-    tie.close (tie.spec mul-wide add-wide add-wide-2 shared-slice-read-wide wide-requires cast-result returns)
+    tie.close (tie.spec mul_wide add_wide add-wide-2 shared-slice-read-wide wide-requires cast-result returns)

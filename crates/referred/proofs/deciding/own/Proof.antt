@@ -1,41 +1,41 @@
 -- `deciding::own`: the length byte, and as many bytes after it.
-use Rattle·referred·proofs.proofs.Places.{own-is}
-use borrow.Author.Needs.{needs}
-use Rattle·referred·proofs.proofs.deciding.own.Statement.{statement}
-use Rattle·referred·proofs.proofs.deciding.own.Tie as tie
+use Rattle.referred.proofs.Places.{own_is}
+use borrow.Author.Rules.{rules}
+use Rattle.referred.proofs.deciding.own.Statement.{statement}
+use Rattle.referred.proofs.deciding.own.Tie as tie
 
-mul-from : tie.Need-mul-from
-mul-from c = search needs
+mul-from : tie.Need-overflow-mul-from
+mul-from c = search rules
 
-add-from : tie.Need-add-from
-add-from c = search needs
+add-from : tie.Need-overflow-add-from
+add-from c = search rules
 
-add-from-2 : tie.Need-add-from-2
-add-from-2 c = search needs
+add-from-2 : tie.Need-overflow-add-from-2
+add-from-2 c = search rules
 
-mul-wide : tie.Need-mul-wide
-mul-wide c = search needs
+mul_wide : tie.Need-overflow-mul-wide
+mul_wide c = search rules
 
-add-wide : tie.Need-add-wide
-add-wide c = search needs
+add_wide : tie.Need-overflow-add-wide
+add_wide c = search rules
 
-add-wide-2 : tie.Need-add-wide-2
-add-wide-2 c = search needs
+add-wide-2 : tie.Need-overflow-add-wide-2
+add-wide-2 c = search rules
 
 shared-slice-read-wide : tie.Need-shared-slice-read-wide
-shared-slice-read-wide c = search needs
+shared-slice-read-wide c = search rules
 
 wide-requires : tie.Need-wide-requires
-wide-requires c κs = search needs
+wide-requires c κs = search rules
 
-cast-length : tie.Need-cast-length
-cast-length c = search needs
+cast-length : tie.Need-overflow-cast-length
+cast-length c = search rules
 
-add-t5 : tie.Need-add-t5
-add-t5 c = search needs
+add-t5 : tie.Need-overflow-add-t5
+add-t5 c = search rules
 
 returns : tie.Need-returns
-returns c = (search own-is, record { order = search needs; short = search needs })
+returns c = (search own_is, record { order = search rules; short = search rules })
 
 pub own-spec : {M : Type 1} → statement M
 own-spec =
@@ -44,8 +44,8 @@ own-spec =
     mul-from
     add-from
     add-from-2
-    mul-wide
-    add-wide
+    mul_wide
+    add_wide
     add-wide-2
     shared-slice-read-wide
     wide-requires

@@ -1,36 +1,36 @@
 -- `deciding::record_start`: a product that is small.
-use Rattle·pool.proofs.Numbered.{times-small}
+use Rattle.pool.proofs.Numbered.{times-small}
 use native.Mathlib.Omega.{arith}
-use Prim.Native.Nat.{_-_}
-use Rattle·referred·proofs.proofs.Places.{start-at}
-use borrow.Author.Needs.{needs}
-use Rattle·referred·proofs.proofs.deciding.record_start.Statement.{statement}
-use Rattle·referred·proofs.proofs.deciding.record_start.Tie as tie
+use Prim.Native.Nat.{◌-◌}
+use Rattle.referred.proofs.Places.{start-at}
+use borrow.Author.Rules.{rules}
+use Rattle.referred.proofs.deciding.record_start.Statement.{statement}
+use Rattle.referred.proofs.deciding.record_start.Tie as tie
 
 record-length-requires : tie.Need-record-length-requires
-record-length-requires c κs = search needs
+record-length-requires c κs = search rules
 
-cast-length : tie.Need-cast-length
-cast-length c = search needs
+cast-length : tie.Need-overflow-cast-length
+cast-length c = search rules
 
 start-requires : tie.Need-start-requires
-start-requires c κs = search needs
+start-requires c κs = search rules
 
-sub-result : tie.Need-sub-result
-sub-result c = search needs
+sub-result : tie.Need-overflow-sub-result
+sub-result c = search rules
 
-mul-result : tie.Need-mul-result
+mul-result : tie.Need-overflow-mul-result
 mul-result c =
-    omega (arith, times-small (c .before .before .before .args .k - 1) (c .before .record-length .result) (omega arith) (search needs))
+    omega (arith, times-small (c.before.before.before.args.k - 1) c.before.record-length.result (omega arith) (search rules))
 
-add-result : tie.Need-add-result
+add-result : tie.Need-overflow-add-result
 add-result c =
-    omega (arith, times-small (c .before .before .before .args .k - 1) (c .before .record-length .result) (omega arith) (search needs))
+    omega (arith, times-small (c.before.before.before.args.k - 1) c.before.record-length.result (omega arith) (search rules))
 
 returns : tie.Need-returns
 returns c = (
   search start-at,
-  omega (arith, times-small (c .before .before .before .args .k - 1) (c .before .record-length .result) (omega arith) (search needs)),
+  omega (arith, times-small (c.before.before.before.args.k - 1) c.before.record-length.result (omega arith) (search rules)),
 )
 
 pub record-start-spec : {M : Type 1} → statement M

@@ -1,44 +1,44 @@
 -- `deciding::stretch`: a law for each way out.
-use Rattle·referred·proofs.proofs.Places.{stretch-none, stretch-rest, stretch-all}
-use borrow.Author.Needs.{needs}
-use Rattle·referred·proofs.proofs.deciding.stretch.Statement.{statement}
-use Rattle·referred·proofs.proofs.deciding.stretch.Tie as tie
+use Rattle.referred.proofs.Places.{stretch_none, stretch_rest, stretch_all}
+use borrow.Author.Rules.{rules}
+use Rattle.referred.proofs.deciding.stretch.Statement.{statement}
+use Rattle.referred.proofs.deciding.stretch.Tie as tie
 
 slice-aggregate-result : tie.Need-slice-aggregate-result
-slice-aggregate-result c = search needs
+slice-aggregate-result c = search rules
 
 returns : tie.Need-returns
-returns c = search stretch-none
+returns c = search stretch_none
 
-sub-if2 : tie.Need-sub-if2
-sub-if2 c = search needs
+sub-if2 : tie.Need-overflow-sub-if2
+sub-if2 c = search rules
 
-sub-result : tie.Need-sub-result
-sub-result c = search needs
+sub-result : tie.Need-overflow-sub-result
+sub-result c = search rules
 
-part-result-start : tie.Need-part-result-start
-part-result-start c = search needs
+part-result-start : tie.Need-slice-bounds-result-start
+part-result-start c = search rules
 
-part-result-end : tie.Need-part-result-end
-part-result-end c = search needs
+part-result-end : tie.Need-slice-bounds-result-end
+part-result-end c = search rules
 
 returns-2 : tie.Need-returns-2
-returns-2 c = search stretch-rest
+returns-2 c = search stretch_rest
 
-add-to : tie.Need-add-to
-add-to c = search needs
+add-to : tie.Need-overflow-add-to
+add-to c = search rules
 
-sub-result-2 : tie.Need-sub-result-2
-sub-result-2 c = search needs
+sub-result-2 : tie.Need-overflow-sub-result-2
+sub-result-2 c = search rules
 
-part-result-start-2 : tie.Need-part-result-start-2
-part-result-start-2 c = search needs
+part-result-start-2 : tie.Need-slice-bounds-result-start-2
+part-result-start-2 c = search rules
 
-part-result-end-2 : tie.Need-part-result-end-2
-part-result-end-2 c = search needs
+part-result-end-2 : tie.Need-slice-bounds-result-end-2
+part-result-end-2 c = search rules
 
 returns-3 : tie.Need-returns-3
-returns-3 c = search stretch-all
+returns-3 c = search stretch_all
 
 pub stretch-spec : {M : Type 1} → statement M
 stretch-spec =

@@ -1,70 +1,70 @@
 -- `nearest::climb`: the invariant is where the walk stands, and that no directory passed has such a file.
-use borrow.Author.Needs.{needs}
-use Prim.Native.Nat.{_-_, _+_, _≤_}
-use mathlib.Core.Path.{_≡_}
-use Rattle·laws.specs.declared.Found.the-variants.{Nothing}
-use Rattle·sound.specs.Table.{viewAt}
-use Rattle·kinship.proofs.Steps.{Climbed, climb-start, climb-more}
-use Rattle·referred·specs.specs.Nearest.{firstFound, fileUp}
-use Rattle·referred·proofs.proofs.Climbing.{found-zero, nearest-turn, nearest-stop, nearest-end}
-use Rattle·referred·proofs.proofs.nearest.climb.Statement.{statement}
-use Rattle·referred·proofs.proofs.nearest.climb.Tie as tie
+use borrow.Author.Rules.{rules}
+use Prim.Native.Nat.{◌-◌, ◌+◌, ◌≤◌}
+use mathlib.Core.Path.{◌≡◌}
+use Rattle.laws.specs.declared.Found.TheVariants.{Nothing}
+use Rattle.sound.specs.Table.{view_at}
+use Rattle.kinship.proofs.Steps.{Climbed, climb_start, climb_more}
+use Rattle.referred.specs.Nearest.{first_found, file_up}
+use Rattle.referred.proofs.Climbing.{found-zero, nearest_turn, nearest_stop, nearest-end}
+use Rattle.referred.proofs.nearest.climb.Statement.{statement}
+use Rattle.referred.proofs.nearest.climb.Tie as tie
 
-abbrev Inv-loop : tie.InvT-loop
-Inv-loop image n d x marks level t₀ i₀ t i = (i ≤ level + 1) × (Climbed image n d i t × (firstFound i (fileUp n (viewAt image) d x) ≡ Nothing))
+abbrev invariant-loop : tie.invariant-loop
+invariant-loop image n d x marks level t₀ i₀ t i = (i ≤ level + 1) × (Climbed image n d i t × (first_found i (file_up n (view_at image) d x) ≡ Nothing))
 
-abbrev μ-loop : tie.MeasureT-loop
-μ-loop image n d x marks level t₀ i₀ t i = level + 1 - i
+abbrev decreases-loop : tie.decreases-loop
+decreases-loop image n d x marks level t₀ i₀ t i = level + 1 - i
 
-level-requires : tie.Need-level-requires Inv-loop μ-loop
-level-requires c κs = search needs
+level-requires : tie.Need-level-requires invariant-loop decreases-loop
+level-requires c κs = search rules
 
-loop-holds : tie.Need-loop-holds Inv-loop μ-loop
-loop-holds c = (search needs, (search climb-start, found-zero _))
+loop-holds : tie.Need-loop-init invariant-loop decreases-loop
+loop-holds c = (search rules, (search climb_start, found-zero _))
 
-add-loop : tie.Need-add-loop Inv-loop μ-loop
-add-loop c = search needs
+add-loop : tie.Need-overflow-add-loop invariant-loop decreases-loop
+add-loop c = search rules
 
-child-marked-requires : tie.Need-child-marked-requires Inv-loop μ-loop
-child-marked-requires c κs = search needs
+child-marked-requires : tie.Need-child-marked-requires invariant-loop decreases-loop
+child-marked-requires c κs = search rules
 
-enum-known-found : tie.Need-enum-known-found Inv-loop μ-loop
-enum-known-found c = search needs
+enum-known-found : tie.Need-enum-known-found invariant-loop decreases-loop
+enum-known-found c = search rules
 
-returns : tie.Need-returns Inv-loop μ-loop
-returns c = search (nearest-stop, needs)
+returns : tie.Need-returns invariant-loop decreases-loop
+returns c = search (nearest_stop, rules)
 
-enum-told : tie.Need-enum-told Inv-loop μ-loop
-enum-told c = search needs
+enum_told : tie.Need-enum-told invariant-loop decreases-loop
+enum_told c = search rules
 
-parent-requires : tie.Need-parent-requires Inv-loop μ-loop
-parent-requires c κs = search needs
+parent-requires : tie.Need-parent-requires invariant-loop decreases-loop
+parent-requires c κs = search rules
 
-add-i : tie.Need-add-i Inv-loop μ-loop
-add-i c = search needs
+add-i : tie.Need-overflow-add-i invariant-loop decreases-loop
+add-i c = search rules
 
-loop-less : tie.Need-loop-less Inv-loop μ-loop
-loop-less c = search needs
+loop-less : tie.Need-loop-smaller invariant-loop decreases-loop
+loop-less c = search rules
 
-loop-again : tie.Need-loop-again Inv-loop μ-loop
-loop-again c = (search needs, (search climb-more, search nearest-turn))
+loop-again : tie.Need-loop-preserved invariant-loop decreases-loop
+loop-again c = (search rules, (search climb_more, search nearest_turn))
 
-returns-2 : tie.Need-returns-2 Inv-loop μ-loop
-returns-2 c = search (nearest-end, needs)
+returns-2 : tie.Need-returns-2 invariant-loop decreases-loop
+returns-2 c = search (nearest-end, rules)
 
 pub climb-spec : {M : Type 1} → statement M
 climb-spec =
     tie.close
     (tie.spec
-    Inv-loop
-    μ-loop
+    invariant-loop
+    decreases-loop
     level-requires
     loop-holds
     add-loop
     child-marked-requires
     enum-known-found
     returns
-    enum-told
+    enum_told
     parent-requires
     add-i
     loop-less

@@ -1,35 +1,35 @@
 -- `nearest::mark`: a law for each way out.
-use borrow.Author.Needs.{needs}
-use Rattle·referred·proofs.proofs.Marking.{mark-free, mark-other, mark-low, mark-set}
-use Rattle·referred·proofs.proofs.nearest.mark.Statement.{statement}
-use Rattle·referred·proofs.proofs.nearest.mark.Tie as tie
+use borrow.Author.Rules.{rules}
+use Rattle.referred.proofs.Marking.{mark_free, mark_other, mark_low, mark_set}
+use Rattle.referred.proofs.nearest.mark.Statement.{statement}
+use Rattle.referred.proofs.nearest.mark.Tie as tie
 
 is-file-requires : tie.Need-is-file-requires
-is-file-requires c κs = search needs
+is-file-requires c κs = search rules
 
 returns : tie.Need-returns
-returns c = search mark-free
+returns c = search mark_free
 
 identifier-requires : tie.Need-identifier-requires
-identifier-requires c κs = search needs
+identifier-requires c κs = search rules
 
 returns-2 : tie.Need-returns-2
-returns-2 c = search mark-other
+returns-2 c = search mark_other
 
 parent-requires : tie.Need-parent-requires
-parent-requires c κs = search needs
+parent-requires c κs = search rules
 
 slice-write-marks : tie.Need-slice-write-marks
-slice-write-marks c = search mark-low
+slice-write-marks c = search mark_low
 
-same-length : tie.Need-same-length
-same-length c = search needs
+same_length : tie.Need-same-length
+same_length c = search rules
 
 returns-3 : tie.Need-returns-3
-returns-3 c = search mark-set
+returns-3 c = search mark_set
 
-pub mark-spec : {M : Type 1} → statement M
-mark-spec =
+pub mark_spec : {M : Type 1} → statement M
+mark_spec =
     tie.close
     (tie.spec
     is-file-requires
@@ -38,5 +38,5 @@ mark-spec =
     returns-2
     parent-requires
     slice-write-marks
-    same-length
+    same_length
     returns-3)

@@ -1,16 +1,16 @@
 -- `condition::is_fulfilled`: not named, or the bit is on.
-use Rattle·laws.proofs.Branches.{branches}
-use Rattle·rules·specs.specs.Condition.{fulfilled}
-use borrow.Author.Needs.{needs}
-use Rattle·rules·proofs.proofs.condition.is_fulfilled.Statement.{statement}
-use Rattle·rules·proofs.proofs.condition.is_fulfilled.Tie as tie
+use Rattle.laws.proofs.Branches.{branches}
+use Rattle.rules.specs.Condition.{fulfilled}
+use borrow.Author.Rules.{rules}
+use Rattle.rules.proofs.condition.is_fulfilled.Statement.{statement}
+use Rattle.rules.proofs.condition.is_fulfilled.Tie as tie
 
 returns : tie.Need-returns
 unfolding fulfilled
 returns c = search branches depth 30
 
 has-requires : tie.Need-has-requires
-has-requires c κs = search needs
+has-requires c κs = search rules
 
 returns-2 : tie.Need-returns-2
 unfolding fulfilled

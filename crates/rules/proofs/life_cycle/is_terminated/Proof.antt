@@ -1,11 +1,11 @@
 -- `life_cycle::is_terminated`: one test of the class.
-use Rattle·laws.proofs.Branches.{tested}
-use borrow.Author.Needs.{needs}
-use Rattle·rules·proofs.proofs.life_cycle.is_terminated.Statement.{statement}
-use Rattle·rules·proofs.proofs.life_cycle.is_terminated.Tie as tie
+use Rattle.laws.proofs.Branches.{tested}
+use borrow.Author.Rules.{rules}
+use Rattle.rules.proofs.life_cycle.is_terminated.Statement.{statement}
+use Rattle.rules.proofs.life_cycle.is_terminated.Tie as tie
 
 class-requires : tie.Need-class-requires
-class-requires c κs = search needs
+class-requires c κs = search rules
 
 returns : tie.Need-returns
 returns c = search tested

@@ -1,72 +1,72 @@
 -- `rule::groups_by`: the invariant is what is left of the walk over the groups; a group's length is the table's.
-use borrow.Author.Needs.{needs}
-use Prim.Native.Nat.{_-_}
+use borrow.Author.Rules.{rules}
+use Prim.Native.Nat.{◌-◌}
 use lib.ListN.{length}
-use Rattle·rules·proofs.proofs.Groups.{Formed, tabled}
-use Rattle·rules·proofs.proofs.rule.groups_by.Statement.{statement}
-use Rattle·rules·proofs.proofs.rule.groups_by.Tie as tie
+use Rattle.rules.proofs.Groups.{Formed, tabled}
+use Rattle.rules.proofs.rule.groups_by.Statement.{statement}
+use Rattle.rules.proofs.rule.groups_by.Tie as tie
 
-abbrev Inv-loop : tie.InvT-loop
-Inv-loop rule lengths at₀ at = Formed rule at
+abbrev invariant-loop : tie.invariant-loop
+invariant-loop rule lengths at₀ at = Formed rule at
 
-abbrev μ-loop : tie.MeasureT-loop
-μ-loop rule lengths at₀ at = length rule - at
+abbrev decreases-loop : tie.decreases-loop
+decreases-loop rule lengths at₀ at = length rule - at
 
-loop-holds : tie.Need-loop-holds Inv-loop μ-loop
+loop-holds : tie.Need-loop-init invariant-loop decreases-loop
 loop-holds c = search tabled
 
-shared-slice-read-wide : tie.Need-shared-slice-read-wide Inv-loop μ-loop
-shared-slice-read-wide c = search needs
+shared-slice-read-wide : tie.Need-shared-slice-read-wide invariant-loop decreases-loop
+shared-slice-read-wide c = search rules
 
-wide-requires : tie.Need-wide-requires Inv-loop μ-loop
-wide-requires c κs = search needs
+wide-requires : tie.Need-wide-requires invariant-loop decreases-loop
+wide-requires c κs = search rules
 
-add-at : tie.Need-add-at Inv-loop μ-loop
-add-at c = search needs
+add_at : tie.Need-overflow-add-at invariant-loop decreases-loop
+add_at c = search rules
 
-loop-less : tie.Need-loop-less Inv-loop μ-loop
-loop-less c = search needs
+loop-less : tie.Need-loop-smaller invariant-loop decreases-loop
+loop-less c = search rules
 
-loop-again : tie.Need-loop-again Inv-loop μ-loop
+loop-again : tie.Need-loop-preserved invariant-loop decreases-loop
 loop-again c = search tabled
 
-element-copy-out-wide : tie.Need-element-copy-out-wide Inv-loop μ-loop
-element-copy-out-wide c = search needs
+element-copy-out-wide : tie.Need-element-copy-out-wide invariant-loop decreases-loop
+element-copy-out-wide c = search rules
 
-wide-requires-2 : tie.Need-wide-requires-2 Inv-loop μ-loop
-wide-requires-2 c κs = search needs
+wide-requires-2 : tie.Need-wide-requires-2 invariant-loop decreases-loop
+wide-requires-2 c κs = search rules
 
-returns : tie.Need-returns Inv-loop μ-loop
+returns : tie.Need-returns invariant-loop decreases-loop
 returns c = search tabled
 
-sub-if3 : tie.Need-sub-if3 Inv-loop μ-loop
-sub-if3 c = search needs
+sub-if3 : tie.Need-overflow-sub-if3 invariant-loop decreases-loop
+sub-if3 c = search rules
 
-returns-2 : tie.Need-returns-2 Inv-loop μ-loop
+returns-2 : tie.Need-returns-2 invariant-loop decreases-loop
 returns-2 c = search tabled
 
-add-at-2 : tie.Need-add-at-2 Inv-loop μ-loop
-add-at-2 c = search needs
+add-at-2 : tie.Need-overflow-add-at-2 invariant-loop decreases-loop
+add-at-2 c = search rules
 
-loop-less-2 : tie.Need-loop-less-2 Inv-loop μ-loop
-loop-less-2 c = search needs
+loop-less-2 : tie.Need-loop-smaller-2 invariant-loop decreases-loop
+loop-less-2 c = search rules
 
-loop-again-2 : tie.Need-loop-again-2 Inv-loop μ-loop
+loop-again-2 : tie.Need-loop-preserved-2 invariant-loop decreases-loop
 loop-again-2 c = search tabled
 
-returns-3 : tie.Need-returns-3 Inv-loop μ-loop
+returns-3 : tie.Need-returns-3 invariant-loop decreases-loop
 returns-3 c = search tabled
 
 pub groups-by-spec : {M : Type 1} → statement M
 groups-by-spec =
     tie.close
     (tie.spec
-    Inv-loop
-    μ-loop
+    invariant-loop
+    decreases-loop
     loop-holds
     shared-slice-read-wide
     wide-requires
-    add-at
+    add_at
     loop-less
     loop-again
     element-copy-out-wide

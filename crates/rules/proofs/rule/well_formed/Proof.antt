@@ -1,47 +1,47 @@
 -- `rule::well_formed`: the invariant is what is left of the walk over the groups.
-use borrow.Author.Needs.{needs}
-use Prim.Native.Nat.{_-_}
+use borrow.Author.Rules.{rules}
+use Prim.Native.Nat.{◌-◌}
 use lib.ListN.{length}
-use Rattle·rules·proofs.proofs.Groups.{Formed, formed, less-next}
-use Rattle·rules·proofs.proofs.rule.well_formed.Statement.{statement}
-use Rattle·rules·proofs.proofs.rule.well_formed.Tie as tie
+use Rattle.rules.proofs.Groups.{Formed, formed, less_next}
+use Rattle.rules.proofs.rule.well_formed.Statement.{statement}
+use Rattle.rules.proofs.rule.well_formed.Tie as tie
 
-abbrev Inv-loop : tie.InvT-loop
-Inv-loop rule at₀ at = Formed rule at
+abbrev invariant-loop : tie.invariant-loop
+invariant-loop rule at₀ at = Formed rule at
 
-abbrev μ-loop : tie.MeasureT-loop
-μ-loop rule at₀ at = length rule - at
+abbrev decreases-loop : tie.decreases-loop
+decreases-loop rule at₀ at = length rule - at
 
-loop-holds : tie.Need-loop-holds Inv-loop μ-loop
+loop-holds : tie.Need-loop-init invariant-loop decreases-loop
 loop-holds c = search formed
 
-shared-slice-read-if1 : tie.Need-shared-slice-read-if1 Inv-loop μ-loop
-shared-slice-read-if1 c = search needs
+shared-slice-read-if1 : tie.Need-shared-slice-read-if1 invariant-loop decreases-loop
+shared-slice-read-if1 c = search rules
 
-returns : tie.Need-returns Inv-loop μ-loop
+returns : tie.Need-returns invariant-loop decreases-loop
 returns c = search formed
 
-next-requires : tie.Need-next-requires Inv-loop μ-loop
-next-requires c κs = search needs
+next-requires : tie.Need-next-requires invariant-loop decreases-loop
+next-requires c κs = search rules
 
-returns-2 : tie.Need-returns-2 Inv-loop μ-loop
+returns-2 : tie.Need-returns-2 invariant-loop decreases-loop
 returns-2 c = search formed
 
-loop-less : tie.Need-loop-less Inv-loop μ-loop
-loop-less c = search less-next
+loop-less : tie.Need-loop-smaller invariant-loop decreases-loop
+loop-less c = search less_next
 
-loop-again : tie.Need-loop-again Inv-loop μ-loop
+loop-again : tie.Need-loop-preserved invariant-loop decreases-loop
 loop-again c = search formed
 
-returns-3 : tie.Need-returns-3 Inv-loop μ-loop
+returns-3 : tie.Need-returns-3 invariant-loop decreases-loop
 returns-3 c = search formed
 
 pub well-formed-spec : {M : Type 1} → statement M
 well-formed-spec =
     tie.close
     (tie.spec
-    Inv-loop
-    μ-loop
+    invariant-loop
+    decreases-loop
     loop-holds
     shared-slice-read-if1
     returns

@@ -1,23 +1,23 @@
 -- `value::good_identifier`: a low byte that none of the three has, or none of the three.
-use Rattle·laws.proofs.Chains.{nots}
-use Rattle·rules·specs.specs.Value.{goodIdentifier}
-use Rattle·rules·proofs.proofs.Bits.{low-byte}
-use Rattle·rules·proofs.proofs.value.good_identifier.Statement.{statement}
-use Rattle·rules·proofs.proofs.value.good_identifier.Tie as tie
+use Rattle.laws.proofs.Chains.{nots}
+use Rattle.rules.specs.Value.{good_identifier}
+use Rattle.rules.proofs.Bits.{low_byte}
+use Rattle.rules.proofs.value.good_identifier.Statement.{statement}
+use Rattle.rules.proofs.value.good_identifier.Tie as tie
 
 returns : tie.Need-returns
-returns c = search low-byte
+returns c = search low_byte
 
 returns-2 : tie.Need-returns-2
-unfolding goodIdentifier
+unfolding good_identifier
 returns-2 c = search nots depth 30
 
 returns-3 : tie.Need-returns-3
-unfolding goodIdentifier
+unfolding good_identifier
 returns-3 c = search nots depth 30
 
 returns-4 : tie.Need-returns-4
-unfolding goodIdentifier
+unfolding good_identifier
 returns-4 c = search nots depth 30
 
 pub good-identifier-spec : {M : Type 1} → statement M

@@ -1,37 +1,37 @@
--- `value::whole_records`: its early returns are the conditions of `wholeRecords`.
-use Rattle·laws.proofs.Chains.{ands}
-use Rattle·rules·specs.specs.Value.{wholeRecords}
-use borrow.Author.Needs.{needs}
-use Rattle·rules·proofs.proofs.value.whole_records.Statement.{statement}
-use Rattle·rules·proofs.proofs.value.whole_records.Tie as tie
+-- `value::whole_records`: its early returns are the conditions of `whole_records`.
+use Rattle.laws.proofs.Chains.{ands}
+use Rattle.rules.specs.Value.{whole_records}
+use borrow.Author.Rules.{rules}
+use Rattle.rules.proofs.value.whole_records.Statement.{statement}
+use Rattle.rules.proofs.value.whole_records.Tie as tie
 
 returns : tie.Need-returns
-unfolding wholeRecords
+unfolding whole_records
 returns c = search ands depth 30
 
 returns-2 : tie.Need-returns-2
-unfolding wholeRecords
+unfolding whole_records
 returns-2 c = search ands depth 30
 
-rem-if3 : tie.Need-rem-if3
-rem-if3 c = search needs
+rem-if3 : tie.Need-nonzero-rem-if3
+rem-if3 c = search rules
 
 returns-3 : tie.Need-returns-3
-unfolding wholeRecords
+unfolding whole_records
 returns-3 c = search ands depth 30
 
-div-if4 : tie.Need-div-if4
-div-if4 c = search needs
+div-if4 : tie.Need-nonzero-div-if4
+div-if4 c = search rules
 
 returns-4 : tie.Need-returns-4
-unfolding wholeRecords
+unfolding whole_records
 returns-4 c = search ands depth 30
 
-div-result : tie.Need-div-result
-div-result c = search needs
+div-result : tie.Need-nonzero-div-result
+div-result c = search rules
 
 returns-5 : tie.Need-returns-5
-unfolding wholeRecords
+unfolding whole_records
 returns-5 c = search ands depth 30
 
 pub whole-records-spec : {M : Type 1} → statement M

@@ -1,50 +1,50 @@
 -- `plain::child_named`: the invariant is that no slot passed is one.
-use Prim.Native.Nat.{_-_, _≤_}
-use mathlib.Core.Path.{_≡_}
-use Rattle·laws.specs.declared.Found.the-variants.{Nothing}
-use Rattle·laws.specs.Walks.{firstBelow}
-use Rattle·sound.specs.Table.{viewAt}
-use Rattle·laws.proofs.Firsts.{first-zero, first-turn, first-stop, first-end}
-use Rattle·sound.specs.Kinship.{isChildNamed, childNamed}
-use borrow.Author.Needs.{needs}
-use Rattle·searches·proofs.proofs.plain.child_named.Statement.{statement}
-use Rattle·searches·proofs.proofs.plain.child_named.Tie as tie
+use Prim.Native.Nat.{◌-◌, ◌≤◌}
+use mathlib.Core.Path.{◌≡◌}
+use Rattle.laws.specs.declared.Found.TheVariants.{Nothing}
+use Rattle.laws.specs.Walks.{first_below}
+use Rattle.sound.specs.Table.{view_at}
+use Rattle.laws.proofs.Firsts.{first-zero, first_turn, first_stop, first-end}
+use Rattle.sound.specs.Kinship.{is_child_named, child_named}
+use borrow.Author.Rules.{rules}
+use Rattle.searches.proofs.plain.child_named.Statement.{statement}
+use Rattle.searches.proofs.plain.child_named.Tie as tie
 
-abbrev Inv-loop : tie.InvT-loop
-Inv-loop image n d x s₀ s = (s ≤ n) × (firstBelow s (isChildNamed (viewAt image) d x) ≡ Nothing)
+abbrev invariant-loop : tie.invariant-loop
+invariant-loop image n d x s₀ s = (s ≤ n) × (first_below s (is_child_named (view_at image) d x) ≡ Nothing)
 
-abbrev μ-loop : tie.MeasureT-loop
-μ-loop image n d x s₀ s = n - s
+abbrev decreases-loop : tie.decreases-loop
+decreases-loop image n d x s₀ s = n - s
 
-loop-holds : tie.Need-loop-holds Inv-loop μ-loop
-loop-holds c = (search needs, first-zero _)
+loop-holds : tie.Need-loop-init invariant-loop decreases-loop
+loop-holds c = (search rules, first-zero _)
 
-is-child-named-requires : tie.Need-is-child-named-requires Inv-loop μ-loop
-is-child-named-requires c κs = search needs
+is-child-named-requires : tie.Need-is-child-named-requires invariant-loop decreases-loop
+is-child-named-requires c κs = search rules
 
-returns : tie.Need-returns Inv-loop μ-loop
-unfolding childNamed
-returns c = search (first-stop, needs)
+returns : tie.Need-returns invariant-loop decreases-loop
+unfolding child_named
+returns c = search (first_stop, rules)
 
-add-s : tie.Need-add-s Inv-loop μ-loop
-add-s c = search needs
+add-s : tie.Need-overflow-add-s invariant-loop decreases-loop
+add-s c = search rules
 
-loop-less : tie.Need-loop-less Inv-loop μ-loop
-loop-less c = search needs
+loop-less : tie.Need-loop-smaller invariant-loop decreases-loop
+loop-less c = search rules
 
-loop-again : tie.Need-loop-again Inv-loop μ-loop
-loop-again c = (search needs, search first-turn)
+loop-again : tie.Need-loop-preserved invariant-loop decreases-loop
+loop-again c = (search rules, search first_turn)
 
-returns-2 : tie.Need-returns-2 Inv-loop μ-loop
-unfolding childNamed
-returns-2 c = search (first-end, needs)
+returns-2 : tie.Need-returns-2 invariant-loop decreases-loop
+unfolding child_named
+returns-2 c = search (first-end, rules)
 
 pub child-named-spec : {M : Type 1} → statement M
 child-named-spec =
     tie.close
     (tie.spec
-    Inv-loop
-    μ-loop
+    invariant-loop
+    decreases-loop
     loop-holds
     is-child-named-requires
     returns

@@ -1,32 +1,32 @@
 -- `blank::after_name`: byte by byte, or two words.
-use Rattle·sound_records·proofs.proofs.Zeros.{name-first, name-last}
-use borrow.Author.Needs.{needs}
-use Rattle·sound_records·proofs.proofs.blank.after_name.Statement.{statement}
-use Rattle·sound_records·proofs.proofs.blank.after_name.Tie as tie
+use Rattle.sound_records.proofs.Zeros.{name-first, name-last}
+use borrow.Author.Rules.{rules}
+use Rattle.sound_records.proofs.blank.after_name.Statement.{statement}
+use Rattle.sound_records.proofs.blank.after_name.Tie as tie
 
-add-zeros : tie.Need-add-zeros
-add-zeros c = search needs
+add-zeros : tie.Need-overflow-add-zeros
+add-zeros c = search rules
 
-sub-zeros : tie.Need-sub-zeros
-sub-zeros c = search needs
+sub-zeros : tie.Need-overflow-sub-zeros
+sub-zeros c = search rules
 
 zeros-requires : tie.Need-zeros-requires
-zeros-requires c κs = search needs
+zeros-requires c κs = search rules
 
 returns : tie.Need-returns
-returns c = search needs
+returns c = search rules
 
-add-eight : tie.Need-add-eight
-add-eight c = search needs
+add_eight : tie.Need-overflow-add-eight
+add_eight c = search rules
 
 eight-requires : tie.Need-eight-requires
-eight-requires c κs = search needs
+eight-requires c κs = search rules
 
 returns-2 : tie.Need-returns-2
 returns-2 c = search name-first
 
 eight-requires-2 : tie.Need-eight-requires-2
-eight-requires-2 c κs = search needs
+eight-requires-2 c κs = search rules
 
 returns-3 : tie.Need-returns-3
 returns-3 c = search name-last
@@ -39,7 +39,7 @@ after-name-spec =
     sub-zeros
     zeros-requires
     returns
-    add-eight
+    add_eight
     eight-requires
     returns-2
     eight-requires-2

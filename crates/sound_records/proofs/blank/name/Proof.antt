@@ -1,26 +1,26 @@
 -- `blank::name`: three words, the last two overlapping.
-use Rattle·sound_records·proofs.proofs.Zeros.{none-first, none-second, none-last}
-use borrow.Author.Needs.{needs}
-use Rattle·sound_records·proofs.proofs.blank.name.Statement.{statement}
-use Rattle·sound_records·proofs.proofs.blank.name.Tie as tie
+use Rattle.sound_records.proofs.Zeros.{none_first, none_second, none_last}
+use borrow.Author.Rules.{rules}
+use Rattle.sound_records.proofs.blank.name.Statement.{statement}
+use Rattle.sound_records.proofs.blank.name.Tie as tie
 
 eight-requires : tie.Need-eight-requires
-eight-requires c κs = search needs
+eight-requires c κs = search rules
 
 returns : tie.Need-returns
-returns c = search none-first
+returns c = search none_first
 
 eight-requires-2 : tie.Need-eight-requires-2
-eight-requires-2 c κs = search needs
+eight-requires-2 c κs = search rules
 
 returns-2 : tie.Need-returns-2
-returns-2 c = search none-second
+returns-2 c = search none_second
 
 eight-requires-3 : tie.Need-eight-requires-3
-eight-requires-3 c κs = search needs
+eight-requires-3 c κs = search rules
 
 returns-3 : tie.Need-returns-3
-returns-3 c = search none-last
+returns-3 c = search none_last
 
 pub name-spec : {M : Type 1} → statement M
 name-spec =

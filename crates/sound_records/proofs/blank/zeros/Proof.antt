@@ -1,49 +1,49 @@
 -- `blank::zeros`: all bytes before k are zero.
-use Prim.Native.Nat.{_-_, _≤_}
-use mathlib.Core.Path.{_≡_}
+use Prim.Native.Nat.{◌-◌, ◌≤◌}
+use mathlib.Core.Path.{◌≡◌}
 use mathlib.Core.Bool.{true}
-use Rattle·sound_records·proofs.proofs.Zeros.{zeros-start, zeros-more, zeros-stop, zeros-end}
-use Rattle·sound.specs.Own.{zerosb}
-use borrow.Author.Needs.{needs}
-use Rattle·sound_records·proofs.proofs.blank.zeros.Statement.{statement}
-use Rattle·sound_records·proofs.proofs.blank.zeros.Tie as tie
+use Rattle.sound_records.proofs.Zeros.{zeros-start, zeros_more, zeros_stop, zeros-end}
+use Rattle.sound.specs.Own.{zerosb}
+use borrow.Author.Rules.{rules}
+use Rattle.sound_records.proofs.blank.zeros.Statement.{statement}
+use Rattle.sound_records.proofs.blank.zeros.Tie as tie
 
-abbrev Inv-loop : tie.InvT-loop
-Inv-loop s at n k₀ k = (k ≤ n) × (zerosb s at k ≡ true)
+abbrev invariant-loop : tie.invariant-loop
+invariant-loop s at n k₀ k = (k ≤ n) × (zerosb s at k ≡ true)
 
-abbrev μ-loop : tie.MeasureT-loop
-μ-loop s at n k₀ k = n - k
+abbrev decreases-loop : tie.decreases-loop
+decreases-loop s at n k₀ k = n - k
 
-loop-holds : tie.Need-loop-holds Inv-loop μ-loop
-loop-holds c = (search needs, zeros-start _ _)
+loop-holds : tie.Need-loop-init invariant-loop decreases-loop
+loop-holds c = (search rules, zeros-start _ _)
 
-add-if1 : tie.Need-add-if1 Inv-loop μ-loop
-add-if1 c = search needs
+add-if1 : tie.Need-overflow-add-if1 invariant-loop decreases-loop
+add-if1 c = search rules
 
-shared-slice-read-if1 : tie.Need-shared-slice-read-if1 Inv-loop μ-loop
-shared-slice-read-if1 c = search needs
+shared-slice-read-if1 : tie.Need-shared-slice-read-if1 invariant-loop decreases-loop
+shared-slice-read-if1 c = search rules
 
-returns : tie.Need-returns Inv-loop μ-loop
-returns c = search zeros-stop
+returns : tie.Need-returns invariant-loop decreases-loop
+returns c = search zeros_stop
 
-add-k : tie.Need-add-k Inv-loop μ-loop
-add-k c = search needs
+add-k : tie.Need-overflow-add-k invariant-loop decreases-loop
+add-k c = search rules
 
-loop-less : tie.Need-loop-less Inv-loop μ-loop
-loop-less c = search needs
+loop-less : tie.Need-loop-smaller invariant-loop decreases-loop
+loop-less c = search rules
 
-loop-again : tie.Need-loop-again Inv-loop μ-loop
-loop-again c = (search needs, search zeros-more)
+loop-again : tie.Need-loop-preserved invariant-loop decreases-loop
+loop-again c = (search rules, search zeros_more)
 
-returns-2 : tie.Need-returns-2 Inv-loop μ-loop
+returns-2 : tie.Need-returns-2 invariant-loop decreases-loop
 returns-2 c = search zeros-end
 
 pub zeros-spec : {M : Type 1} → statement M
 zeros-spec =
     tie.close
     (tie.spec
-    Inv-loop
-    μ-loop
+    invariant-loop
+    decreases-loop
     loop-holds
     add-if1
     shared-slice-read-if1

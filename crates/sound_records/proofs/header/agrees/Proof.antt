@@ -1,64 +1,64 @@
 -- `header::agrees`: length, slot count, mark, version and zero bytes, in that order.
 use mathlib.Core.Path.{refl}
-use Rattle·laws.proofs.Chains.{ungot-and, got-and, ne-and, eq-and, gt-and, le-and}
-use Rattle·sound_records·proofs.proofs.Bytes.{header-short, header-at, known-not, known-and}
-use borrow.Author.Needs.{needs}
-use Rattle·sound_records·proofs.proofs.header.agrees.Statement.{statement}
-use Rattle·sound_records·proofs.proofs.header.agrees.Tie as tie
+use Rattle.laws.proofs.Chains.{ungot_and, got_and, ne-and, eq-and, gt_and, le-and}
+use Rattle.sound_records.proofs.Bytes.{header-short, header_at, known-not, known-and}
+use borrow.Author.Rules.{rules}
+use Rattle.sound_records.proofs.header.agrees.Statement.{statement}
+use Rattle.sound_records.proofs.header.agrees.Tie as tie
 
 returns : tie.Need-returns
 returns c = search header-short
 
 count-requires : tie.Need-count-requires
-count-requires c κs = search needs
+count-requires c κs = search rules
 
-mul-if2 : tie.Need-mul-if2
-mul-if2 c = search needs
+mul-if2 : tie.Need-overflow-mul-if2
+mul-if2 c = search rules
 
-add-if2 : tie.Need-add-if2
-add-if2 c = search needs
+add-if2 : tie.Need-overflow-add-if2
+add-if2 c = search rules
 
 returns-2 : tie.Need-returns-2
-returns-2 c = search (header-at, ungot-and, got-and, ne-and, eq-and, gt-and, le-and, refl) depth 30
+returns-2 c = search (header_at, ungot_and, got_and, ne-and, eq-and, gt_and, le-and, refl) depth 30
 
 returns-3 : tie.Need-returns-3
-returns-3 c = search (header-at, ungot-and, got-and, ne-and, eq-and, gt-and, le-and, refl) depth 30
+returns-3 c = search (header_at, ungot_and, got_and, ne-and, eq-and, gt_and, le-and, refl) depth 30
 
 returns-4 : tie.Need-returns-4
-returns-4 c = search (header-at, ungot-and, got-and, ne-and, eq-and, gt-and, le-and, refl) depth 30
+returns-4 c = search (header_at, ungot_and, got_and, ne-and, eq-and, gt_and, le-and, refl) depth 30
 
 shared-slice-read-if5 : tie.Need-shared-slice-read-if5
-shared-slice-read-if5 c = search needs
+shared-slice-read-if5 c = search rules
 
 returns-5 : tie.Need-returns-5
-returns-5 c = search (header-at, ungot-and, got-and, ne-and, eq-and, gt-and, le-and, refl) depth 30
+returns-5 c = search (header_at, ungot_and, got_and, ne-and, eq-and, gt_and, le-and, refl) depth 30
 
 shared-slice-read-if6 : tie.Need-shared-slice-read-if6
-shared-slice-read-if6 c = search needs
+shared-slice-read-if6 c = search rules
 
 returns-6 : tie.Need-returns-6
-returns-6 c = search (header-at, ungot-and, got-and, ne-and, eq-and, gt-and, le-and, refl) depth 30
+returns-6 c = search (header_at, ungot_and, got_and, ne-and, eq-and, gt_and, le-and, refl) depth 30
 
 shared-slice-read-if7 : tie.Need-shared-slice-read-if7
-shared-slice-read-if7 c = search needs
+shared-slice-read-if7 c = search rules
 
 returns-7 : tie.Need-returns-7
-returns-7 c = search (header-at, ungot-and, got-and, ne-and, eq-and, gt-and, le-and, refl) depth 30
+returns-7 c = search (header_at, ungot_and, got_and, ne-and, eq-and, gt_and, le-and, refl) depth 30
 
 version-requires : tie.Need-version-requires
-version-requires c κs = search needs
+version-requires c κs = search rules
 
 is-known-requires : tie.Need-is-known-requires
-is-known-requires c κs = search needs
+is-known-requires c κs = search rules
 
 returns-8 : tie.Need-returns-8
-returns-8 c = search (header-at, known-not, known-and, ungot-and, got-and, ne-and, eq-and, gt-and, le-and, refl) depth 30
+returns-8 c = search (header_at, known-not, known-and, ungot_and, got_and, ne-and, eq-and, gt_and, le-and, refl) depth 30
 
 zeros-requires : tie.Need-zeros-requires
-zeros-requires c κs = search needs
+zeros-requires c κs = search rules
 
 returns-9 : tie.Need-returns-9
-returns-9 c = search (header-at, known-not, known-and, ungot-and, got-and, ne-and, eq-and, gt-and, le-and, refl) depth 30
+returns-9 c = search (header_at, known-not, known-and, ungot_and, got_and, ne-and, eq-and, gt_and, le-and, refl) depth 30
 
 pub agrees-spec : {M : Type 1} → statement M
 agrees-spec =

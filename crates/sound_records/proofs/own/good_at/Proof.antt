@@ -1,29 +1,29 @@
 -- `own::good_at`: the record as a part of the image.
-use Rattle·sound_records·proofs.proofs.Bytes.{own-part}
-use borrow.Author.Needs.{needs}
-use Rattle·sound_records·proofs.proofs.own.good_at.Statement.{statement}
-use Rattle·sound_records·proofs.proofs.own.good_at.Tie as tie
+use Rattle.sound_records.proofs.Bytes.{own-part}
+use borrow.Author.Rules.{rules}
+use Rattle.sound_records.proofs.own.good_at.Statement.{statement}
+use Rattle.sound_records.proofs.own.good_at.Tie as tie
 
-mul-from : tie.Need-mul-from
-mul-from c = search needs
+mul-from : tie.Need-overflow-mul-from
+mul-from c = search rules
 
-add-from : tie.Need-add-from
-add-from c = search needs
+add-from : tie.Need-overflow-add-from
+add-from c = search rules
 
-add-to : tie.Need-add-to
-add-to c = search needs
+add-to : tie.Need-overflow-add-to
+add-to c = search rules
 
-sub-good : tie.Need-sub-good
-sub-good c = search needs
+sub-good : tie.Need-overflow-sub-good
+sub-good c = search rules
 
-part-good-start : tie.Need-part-good-start
-part-good-start c = search needs
+part-good-start : tie.Need-slice-bounds-good-start
+part-good-start c = search rules
 
-part-good-end : tie.Need-part-good-end
-part-good-end c = search needs
+part-good-end : tie.Need-slice-bounds-good-end
+part-good-end c = search rules
 
 good-requires : tie.Need-good-requires
-good-requires c κs = search needs
+good-requires c κs = search rules
 
 returns : tie.Need-returns
 returns c = search own-part

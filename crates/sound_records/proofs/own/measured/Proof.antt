@@ -1,32 +1,32 @@
 -- `own::measured`: a file with records, or both numbers against zero.
-use Rattle·sound_records·proofs.proofs.Bytes.{measured-records, measured-length, measured-size}
-use borrow.Author.Needs.{needs}
-use Rattle·sound_records·proofs.proofs.own.measured.Statement.{statement}
-use Rattle·sound_records·proofs.proofs.own.measured.Tie as tie
+use Rattle.sound_records.proofs.Bytes.{measured_records, measured_length, measured_size}
+use borrow.Author.Rules.{rules}
+use Rattle.sound_records.proofs.own.measured.Statement.{statement}
+use Rattle.sound_records.proofs.own.measured.Tie as tie
 
 shared-slice-read-has-records : tie.Need-shared-slice-read-has-records
-shared-slice-read-has-records c = search needs
+shared-slice-read-has-records c = search rules
 
 has-records-requires : tie.Need-has-records-requires
-has-records-requires c κs = search needs
+has-records-requires c κs = search rules
 
 recorded-requires : tie.Need-recorded-requires
-recorded-requires c κs = search needs
+recorded-requires c κs = search rules
 
 returns : tie.Need-returns
-returns c = search measured-records
+returns c = search measured_records
 
 u16-at-requires : tie.Need-u16-at-requires
-u16-at-requires c κs = search needs
+u16-at-requires c κs = search rules
 
 returns-2 : tie.Need-returns-2
-returns-2 c = search measured-length
+returns-2 c = search measured_length
 
 u32-at-requires : tie.Need-u32-at-requires
-u32-at-requires c κs = search needs
+u32-at-requires c κs = search rules
 
 returns-3 : tie.Need-returns-3
-returns-3 c = search measured-size
+returns-3 c = search measured_size
 
 pub measured-spec : {M : Type 1} → statement M
 measured-spec =

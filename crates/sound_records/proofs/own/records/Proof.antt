@@ -1,66 +1,66 @@
 -- `own::records`: each record before s is good by itself.
-use Prim.Native.Nat.{_-_, _≤_}
-use mathlib.Core.Path.{_≡_}
+use Prim.Native.Nat.{◌-◌, ◌≤◌}
+use mathlib.Core.Path.{◌≡◌}
 use mathlib.Core.Bool.{true}
-use Rattle·laws.specs.Walks.{allBelow}
-use Rattle·laws.proofs.Walks.{all-zero, all-turn, all-stop, all-end}
-use Rattle·image.specs.Layout.{recAt}
-use Rattle·sound.specs.Own.{ownb}
-use Rattle·sound_records·proofs.proofs.Bytes.{records-by}
-use borrow.Author.Needs.{needs}
-use Rattle·sound_records·proofs.proofs.own.records.Statement.{statement}
-use Rattle·sound_records·proofs.proofs.own.records.Tie as tie
+use Rattle.laws.specs.Walks.{all_below}
+use Rattle.laws.proofs.Walks.{all-zero, all_turn, all_stop, all_end}
+use Rattle.image.specs.Layout.{rec_at}
+use Rattle.sound.specs.Own.{ownb}
+use Rattle.sound_records.proofs.Bytes.{records_by}
+use borrow.Author.Rules.{rules}
+use Rattle.sound_records.proofs.own.records.Statement.{statement}
+use Rattle.sound_records.proofs.own.records.Tie as tie
 
-abbrev Inv-loop : tie.InvT-loop
-Inv-loop image n v classes lengths s₀ s = (s ≤ n) × (allBelow s (λ t. ownb v (recAt image t)) ≡ true)
+abbrev invariant-loop : tie.invariant-loop
+invariant-loop image n v classes lengths s₀ s = (s ≤ n) × (all_below s (λ t. ownb v (rec_at image t)) ≡ true)
 
-abbrev μ-loop : tie.MeasureT-loop
-μ-loop image n v classes lengths s₀ s = n - s
+abbrev decreases-loop : tie.decreases-loop
+decreases-loop image n v classes lengths s₀ s = n - s
 
-version-requires : tie.Need-version-requires Inv-loop μ-loop
-version-requires c κs = search needs
+version-requires : tie.Need-version-requires invariant-loop decreases-loop
+version-requires c κs = search rules
 
-classes-requires : tie.Need-classes-requires Inv-loop μ-loop
-classes-requires c κs = search needs
+classes-requires : tie.Need-classes-requires invariant-loop decreases-loop
+classes-requires c κs = search rules
 
-lengths-requires : tie.Need-lengths-requires Inv-loop μ-loop
-lengths-requires c κs = search needs
+lengths-requires : tie.Need-lengths-requires invariant-loop decreases-loop
+lengths-requires c κs = search rules
 
-loop-holds : tie.Need-loop-holds Inv-loop μ-loop
-loop-holds c = (search needs, all-zero _)
+loop-holds : tie.Need-loop-init invariant-loop decreases-loop
+loop-holds c = (search rules, all-zero _)
 
-good-at-requires : tie.Need-good-at-requires Inv-loop μ-loop
-good-at-requires c κs = search needs
+good-at-requires : tie.Need-good-at-requires invariant-loop decreases-loop
+good-at-requires c κs = search rules
 
-returns : tie.Need-returns Inv-loop μ-loop
+returns : tie.Need-returns invariant-loop decreases-loop
 returns c =
-    records-by _ _ _ (c .before .before .before .before .before .before .before .before .version .ensures)
-    (all-stop (λ t. ownb _ (recAt _ t)) _ _ _ (search needs) (c .before .good-at .ensures) (c .if1 .taken))
+    records_by _ _ _ c.before.before.before.before.before.before.before.before.version.ensures
+    (all_stop (λ t. ownb _ (rec_at _ t)) _ _ _ (search rules) c.before.good-at.ensures c.if1.true)
 
-add-s : tie.Need-add-s Inv-loop μ-loop
-add-s c = search needs
+add-s : tie.Need-overflow-add-s invariant-loop decreases-loop
+add-s c = search rules
 
-loop-less : tie.Need-loop-less Inv-loop μ-loop
-loop-less c = search needs
+loop-less : tie.Need-loop-smaller invariant-loop decreases-loop
+loop-less c = search rules
 
-loop-again : tie.Need-loop-again Inv-loop μ-loop
+loop-again : tie.Need-loop-preserved invariant-loop decreases-loop
 loop-again c = (
-  search needs,
-  all-turn (λ t. ownb _ (recAt _ t)) _ _ (c .before .before .before .before .before .loop .inv .1)
-      (c .before .good-at .ensures) (c .if1 .left),
+  search rules,
+  all_turn (λ t. ownb _ (rec_at _ t)) _ _ c.before.before.before.before.before.loop.invariant.1
+      c.before.good-at.ensures c.if1.false,
 )
 
-returns-2 : tie.Need-returns-2 Inv-loop μ-loop
+returns-2 : tie.Need-returns-2 invariant-loop decreases-loop
 returns-2 c =
-    records-by _ _ _ (c .before .before .before .before .version .ensures)
-    (all-end (λ t. ownb _ (recAt _ t)) _ _ (c .before .loop .inv .0) (search needs) (c .before .loop .inv .1))
+    records_by _ _ _ c.before.before.before.before.version.ensures
+    (all_end (λ t. ownb _ (rec_at _ t)) _ _ c.before.loop.invariant.0 (search rules) c.before.loop.invariant.1)
 
 pub records-spec : {M : Type 1} → statement M
 records-spec =
     tie.close
     (tie.spec
-    Inv-loop
-    μ-loop
+    invariant-loop
+    decreases-loop
     version-requires
     classes-requires
     lengths-requires

@@ -1,23 +1,23 @@
 -- `own::zeros_end`: at the start of a body where one stands, else at the end of the record.
-use Rattle·sound_records·proofs.proofs.Tails.{end-older, end-start, end-none}
-use borrow.Author.Needs.{needs}
-use Rattle·sound_records·proofs.proofs.own.zeros_end.Statement.{statement}
-use Rattle·sound_records·proofs.proofs.own.zeros_end.Tie as tie
+use Rattle.sound_records.proofs.Tails.{end_older, end-start, end_none}
+use borrow.Author.Rules.{rules}
+use Rattle.sound_records.proofs.own.zeros_end.Statement.{statement}
+use Rattle.sound_records.proofs.own.zeros_end.Tie as tie
 
 has-bodies-requires : tie.Need-has-bodies-requires
-has-bodies-requires c κs = search needs
+has-bodies-requires c κs = search rules
 
 returns : tie.Need-returns
-returns c = (search end-older, search needs)
+returns c = (search end_older, search rules)
 
 shared-slice-read-if2 : tie.Need-shared-slice-read-if2
-shared-slice-read-if2 c = search needs
+shared-slice-read-if2 c = search rules
 
 returns-2 : tie.Need-returns-2
-returns-2 c = (search end-start, search needs)
+returns-2 c = (search end-start, search rules)
 
 returns-3 : tie.Need-returns-3
-returns-3 c = (search end-none, search needs)
+returns-3 c = (search end_none, search rules)
 
 pub zeros-end-spec : {M : Type 1} → statement M
 zeros-end-spec =

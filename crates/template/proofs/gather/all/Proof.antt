@@ -1,37 +1,37 @@
 -- All objects of the list, in its order. The loop keeps: k is at most 12, and o is what the first k give.
-use Rattle·template·proofs.proofs.Gathering.{taken-first, taken-turn, taken-all}
-use Prim.Native.Nat.{_≤_, _-_}
-use mathlib.Core.Path.{_≡_}
-use borrow.Author.Needs.{needs}
-use Rattle·template·specs.specs.Objects.{takenBelow}
-use Rattle·template·proofs.proofs.gather.all.Statement.{statement}
-use Rattle·template·proofs.proofs.gather.all.Tie as tie
+use Rattle.template.proofs.Gathering.{taken_first, taken_turn, taken_all}
+use Prim.Native.Nat.{◌≤◌, ◌-◌}
+use mathlib.Core.Path.{◌≡◌}
+use borrow.Author.Rules.{rules}
+use Rattle.template.specs.Objects.{taken_below}
+use Rattle.template.proofs.gather.all.Statement.{statement}
+use Rattle.template.proofs.gather.all.Tie as tie
 
-abbrev Inv-loop : tie.InvT-loop
-Inv-loop s o₀ k₀ o k = (k ≤ 12) × (o ≡ takenBelow k s)
+abbrev invariant-loop : tie.invariant-loop
+invariant-loop s o₀ k₀ o k = (k ≤ 12) × (o ≡ taken_below k s)
 
-abbrev μ-loop : tie.MeasureT-loop
-μ-loop s o₀ k₀ o k = 12 - k
+abbrev decreases-loop : tie.decreases-loop
+decreases-loop s o₀ k₀ o k = 12 - k
 
-loop-holds : tie.Need-loop-holds Inv-loop μ-loop
-loop-holds c = (search needs, taken-first _)
+loop-holds : tie.Need-loop-init invariant-loop decreases-loop
+loop-holds c = (search rules, taken_first _)
 
-take-requires : tie.Need-take-requires Inv-loop μ-loop
-take-requires c κs = search needs
+take-requires : tie.Need-take-requires invariant-loop decreases-loop
+take-requires c κs = search rules
 
-add-k : tie.Need-add-k Inv-loop μ-loop
-add-k c = search needs
+add-k : tie.Need-overflow-add-k invariant-loop decreases-loop
+add-k c = search rules
 
-loop-less : tie.Need-loop-less Inv-loop μ-loop
-loop-less c = search needs
+loop-less : tie.Need-loop-smaller invariant-loop decreases-loop
+loop-less c = search rules
 
-loop-again : tie.Need-loop-again Inv-loop μ-loop
-loop-again c = (search needs, taken-turn _ _ (c .before .before .loop .inv .1) (c .take .ensures))
+loop-again : tie.Need-loop-preserved invariant-loop decreases-loop
+loop-again c = (search rules, taken_turn _ _ c.before.before.loop.invariant.1 c.take.ensures)
 
-returns : tie.Need-returns Inv-loop μ-loop
-returns c = taken-all _ _ (c .before .loop .inv .0) (c .loop-test .left) (c .before .loop .inv .1)
+returns : tie.Need-returns invariant-loop decreases-loop
+returns c = taken_all _ _ c.before.loop.invariant.0 c.loop-test.false c.before.loop.invariant.1
 
 pub all-spec : {M : Type 1} → statement M
 all-spec =
     tie.close
-    (tie.spec Inv-loop μ-loop loop-holds take-requires add-k loop-less loop-again returns)
+    (tie.spec invariant-loop decreases-loop loop-holds take-requires add-k loop-less loop-again returns)
