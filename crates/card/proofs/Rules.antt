@@ -29,7 +29,7 @@ use Rattle.referred.specs.Padding.{unpadded}
 use Rattle.referred.specs.Deciding.{named_record_of, is_linear, row_at, held_place, referred_place, own_place, place_of, end_of, part_of, deciding_rule}
 use Rattle.referred.proofs.Held.{held-rule, rule_alike}
 use Rattle.referred.proofs.Ticket.{taken, denied-empty}
-use Rattle.referred.proofs.Unpadded.{unpadded_is}
+use Rattle.referred.proofs.OneRule.{unpadded_is}
 use Rattle.judge_target.proofs.FromSound.{child_stands}
 use Rattle.judge_target.specs.Target.{form_at, rule_at, allowed_at, decision_at}
 use Rattle.card.specs.Command.{PoolFits}

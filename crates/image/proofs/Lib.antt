@@ -4,5 +4,6 @@ pub mod Versions
 pub mod Made
 pub mod Headers
 pub mod Words
+pub mod SameWords
 pub mod Lives
 pub mod Starts

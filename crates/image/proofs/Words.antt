@@ -1,4 +1,4 @@
--- The word of identifier and parent slot: what is read of a record is its word, and two pairs with one word are the same.
+-- The word of identifier and parent slot: its halves, and that what is read of a record is its word.
 use mathlib.Core.Path.{◌≡◌, sym, ap, ◌∙◌}
 use mathlib.Core.Bool.{false}
 use mathlib.Core.List.{List}
@@ -16,27 +16,21 @@ use Rattle.image.proofs.Places.{identifier_in, parent_in}
 
 -- a high part and a low one below the step between them
 module _ (a b c d : ℕ) where
-  halves : b < 65536 → d < 65536 → a * 65536 + b ≡ c * 65536 + d → (a ≡ c) × (b ≡ d)
+  pub halves : b < 65536 → d < 65536 → a * 65536 + b ≡ c * 65536 + d → (a ≡ c) × (b ≡ d)
   halves l m e = omega arith
 
   bytes : b < 256 → d < 256 → a * 256 + b ≡ c * 256 + d → (a ≡ c) × (b ≡ d)
   bytes l m e = omega arith
 
-turned-low : (x : ℕ) → x < 65536 → turned x < 65536
+pub turned-low : (x : ℕ) → x < 65536 → turned x < 65536
 unfolding turned
 turned-low x l = omega arith
 
-turned_back : (x y : ℕ) → x < 65536 → y < 65536 → turned x ≡ turned y → x ≡ y
+pub turned_back : (x y : ℕ) → x < 65536 → y < 65536 → turned x ≡ turned y → x ≡ y
 unfolding turned
 turned_back x y l m e =
     let both = bytes (x % 256) (x / 256) (y % 256) (y / 256) (omega arith) (omega arith) e in
     omega (arith, both.0, both.1)
-
-pub same-kin : (x p y q : ℕ) → x < 65536 → p < 65536 → y < 65536 → q < 65536 → kin_word x p ≡ kin_word y q → (x ≡ y) × (p ≡ q)
-unfolding kin_word
-same-kin x p y q a b c d h =
-    let both = halves (turned p) (turned x) (turned q) (turned y) (turned-low x a) (turned-low y c) h in
-    (turned_back x y a c both.1, turned_back p q b d both.0)
 
 -- two bytes, read in the other order
 pub turned_read : (s : List ℕ) (at a b : ℕ) → a ≡ get_or s at 0 → b ≡ get_or s (at + 1) 0 → a < 256 → b < 256 → b * 256 + a ≡ turned (u16_at s at)

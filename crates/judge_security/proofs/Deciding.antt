@@ -2,9 +2,8 @@
 use mathlib.Core.Path.{◌≡◌, sym, ap, ◌∙◌}
 use mathlib.Core.Bool.{Bool, true, false, cond, not}
 use mathlib.Core.List.{List}
-use Prim.Native.Nat.{ℕ, ◌≤◌}
+use Prim.Native.Nat.{ℕ}
 use lib.Dec.{eqb}
-use lib.ListN.{length}
 use borrow.Author.Tests.{ne_eqb, eq-eqb, not-true, not-false}
 use Rattle.rules.specs.declared.Right.{Right}
 use Rattle.rules.specs.declared.Right.TheVariants.{CreateDf, CreateEf}
@@ -20,7 +19,6 @@ use Rattle.create_data.specs.declared.NewFile.{NewFile}
 use Rattle.create_data.specs.declared.Data.{Data}
 use Rattle.create_data.specs.declared.Data.TheVariants.{Df, Ef, Bad}
 use Rattle.create_data.specs.Data.{data_of}
-use Rattle.verdict.specs.declared.State.{State}
 use Rattle.verdict.specs.declared.Verdict.{Verdict}
 use Rattle.verdict.specs.declared.Verdict.TheVariants.{Refuse}
 use Rattle.verdict.specs.Applied.{sent_data}
@@ -30,11 +28,9 @@ use Rattle.judge_target.specs.Judgeable.{Judgeable}
 use Rattle.judge_target.specs.Target.{decision_at, slot_in, right_for}
 use Rattle.judge_target.proofs.Finding.{slot-found, slot-none}
 use Rattle.judge_target.proofs.FromSound.{child_stands}
-use Rattle.apdu.specs.Apdu.{instruction, sent_identifier, is_read, fit_length}
+use Rattle.apdu.specs.Apdu.{instruction, sent_identifier, is_read}
 use Rattle.judge_bodies.specs.Bodies.{right_to}
-use Rattle.judge.specs.Judge.{judge_of}
 use Rattle.judge_security.specs.Security.{is_denied, ef_decision, deletion, decision_for, step_j, denial_of}
-use Rattle.judge_security.proofs.Gated.{denied-fits}
 
 -- which verdict it was found to be
 pub denied-word : (v : Verdict) {w : ℕ} → v ≡ Refuse w → eqb w security_not_satisfied ≡ is_denied v
@@ -94,10 +90,6 @@ module _ (img pool : List ℕ) {r : Decision} where
   on-body c x e f h = h ∙ ap (λ (u : Right). ef_decision img pool u x) (f ∙ ap right_to e)
 
 -- what a verdict says: b is whether it was found to be step J's
-pub denied_needs : (img pool c : List ℕ) (st : State) (v : Verdict) {b : Bool} → b ≡ is_denied v → not b ≡ false → v ≡ judge_of img pool c st
-    → (4 ≤ length c) × (fit_length c ≡ true)
-denied_needs img pool c st v {b} e t f = denied-fits img pool c st (ap is_denied (sym f) ∙ sym e ∙ not-false b t)
-
 module _ (img pool c : List ℕ) (x : Sets) (v : Verdict) {b : Bool} (e : b ≡ is_denied v) where
   pub not-denied : not b ≡ true → Granted ≡ denial_of img pool c x v
   unfolding denial_of

@@ -15,7 +15,7 @@ use Rattle.laws.proofs.Says.{same_or, lt-or}
 use Rattle.rules.specs.Descriptor.{df}
 use Rattle.image.specs.Layout.{rec_at, identifier_of, parent_of}
 use Rattle.image.specs.Kin.{kin_word, KinAt}
-use Rattle.image.proofs.Words.{same-kin}
+use Rattle.image.proofs.SameWords.{same-kin}
 use Rattle.sound.specs.Table.{View, view_at, is_file}
 use Rattle.sound.specs.Kinship.{is_child, is_child_named}
 use Rattle.kinship.specs.Search.{Foreign, PassedOver, is_df_named}

@@ -1,5 +1,6 @@
 pub mod Ends
 pub mod Unpadded
+pub mod OneRule
 pub mod Climbing
 pub mod Marking
 pub mod Places

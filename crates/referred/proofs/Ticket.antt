@@ -33,7 +33,7 @@ use Rattle.referred.specs.Deciding.{named_file_of, named_record_of, is_linear, r
 use Rattle.referred.specs.Deciding.{referred_place, own_place, place_of, part_of, deciding_rule}
 use Rattle.referred.specs.Ticket as ticket
 use Rattle.referred.specs.Ticket.{NearestAt, Names}
-use Rattle.referred.proofs.Unpadded as padding
+use Rattle.referred.proofs.OneRule as padding
 use Rattle.referred.proofs.Unpadded.{end_is, ends_padded, none-formed}
 use Rattle.referred.proofs.Places.{take_short}
 use Rattle.referred.proofs.Climbing.{found_at}

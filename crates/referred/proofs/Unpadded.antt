@@ -1,4 +1,4 @@
--- The rule of a padded record: there is at most one, and `unpadded` gives it.
+-- The rule of a padded record: where it ends, and that it has no other end.
 use mathlib.Core.Path.{◌≡◌, refl, sym, ◌∙◌, ap}
 use mathlib.Core.Bool.{Bool, true, false, not, false≢true, and-false}
 use mathlib.Core.List.{List, [], ◌++◌}
@@ -13,7 +13,7 @@ use Rattle.laws.specs.Walks.{first_below}
 use Rattle.laws.proofs.Says.{and-says}
 use Rattle.laws.proofs.Firsts.{first_is, no-first}
 use Rattle.expanded.specs.Expanded.{expanded_formed}
-use Rattle.referred.specs.Padding.{is_padding, ends_at, or_zero, unpadded_end, unpadded, Padded, OnlyEnd}
+use Rattle.referred.specs.Padding.{is_padding, ends_at, or_zero, unpadded_end, Padded, OnlyEnd}
 use Rattle.referred.proofs.Ends.{end_unique}
 
 -- the only place where the rule can end is where it ends, or it has none
@@ -61,8 +61,6 @@ module _ {s : List ℕ} {k : ℕ} (o : OnlyEnd s k) where
 pub part-long : (s : List ℕ) (k : ℕ) → k ≤ length s → k ≡ length (take k s)
 part-long s k h = sym (length-take-le k s h)
 
-pub ruleset placed = (end_unformed, end-unpadded, end-there)
-
 -- no bytes are no rule
 pub none-formed : expanded_formed [] ≡ false
 unfolding expanded_formed
@@ -82,20 +80,9 @@ end_is r p f g = sym (end-yes only there)
     only : OnlyEnd (r ++ p) (length r)
     only = record { within = fits; only = λ j h e. end_unique (r ++ p) j (length r) h fits e there }
 
-pub unpadded_is : (r p : List ℕ) → expanded_formed r ≡ true → is_padding p ≡ true → unpadded (r ++ p) ≡ r
-unfolding unpadded
-unpadded_is r p f g = ap (λ (k : ℕ). take k (r ++ p)) (end_is r p f g) ∙ take-append_seam r p
-
 -- where a rule ends, the record is that rule and padding
 pub ends_padded : (s : List ℕ) (j : ℕ) → ends_at s j ≡ true → Padded s (take j s)
 unfolding ends_at
 ends_padded s j e =
     let two = (and-says (expanded_formed (take j s)) (is_padding (drop j s))).0 e in
     record { padding = drop j s; whole = sym (take-append-drop j s); formed = two.0; only = two.1 }
-
--- at most one rule
-pub one-rule : (s r t : List ℕ) → Padded s r → Padded s t → r ≡ t
-one-rule s r t p q =
-    sym (unpadded_is r p.padding p.formed p.only)
-    ∙ ap unpadded (sym p.whole ∙ q.whole)
-    ∙ unpadded_is t q.padding q.formed q.only

@@ -1,7 +1,8 @@
 -- `denial`: step J is asked once more, where it was the one that refused.
 use mathlib.Core.Path.{ap}
 use mathlib.Core.Bool.{not}
-use Rattle.judge_security.proofs.Deciding.{not-denied, denied_needs, denied_decides}
+use Rattle.judge_security.proofs.Deciding.{not-denied, denied_decides}
+use Rattle.judge_security.proofs.Denied.{denied_needs}
 use Rattle.judge_target.proofs.FromSound.{judgeable}
 use Rattle.judge_security.proofs.denial.Goals as goal
 

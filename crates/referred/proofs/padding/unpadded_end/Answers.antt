@@ -2,8 +2,8 @@
 use mathlib.Core.Path.{ap}
 use mathlib.Core.Bool.{not}
 use borrow.Author.Rules.{rules}
-use Rattle.referred.proofs.Unpadded.{placed, end-there, part-long}
-use Rattle.referred.proofs.Unpadded.{placed, part-long}
+use Rattle.referred.proofs.Unpadded.{end-there, part-long}
+use Rattle.referred.proofs.OneRule.{placed}
 use Rattle.referred.proofs.padding.unpadded_end.Goals as goal
 
 pub slice_bounds-well_formed-end : goal.slice_bounds-well_formed-end
