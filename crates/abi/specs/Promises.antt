@@ -8,7 +8,8 @@ use Rattle.maker.specs.Making.{made_number, made_of, left_by}
 use Rattle.maker.specs.Reporting.{reported_number, numbers_of, reported_of}
 use Rattle.verdict.specs.declared.State.{State}
 use Rattle.card.specs.declared.Reply.TheVariants.{Short, WrongPool}
-use Rattle.card.specs.Command.{answer_number, answer_word, answer_told, answer_security, pool_fits, reply_of, image_of, pool_of, response_of}
+use Rattle.card.specs.Command.{answer_number, answer_word, answer_told, answer_security, pool_fits, reply_of, image_of, pool_of}
+use Rattle.card.specs.Command.{response_of}
 use Rattle.card.specs.Ruling.{ruling_number, ruling_of}
 use Rattle.abi.specs.Numbers.{packed, told_numbers, ruling_numbers}
 
@@ -64,7 +65,8 @@ pub record HullNumbers : Type 0 where
   pub word : (img pool c : List ℕ) (st : State) (response : List ℕ) (r : ℕ) (left kept answered numbers : List ℕ)
       → HullCommand img pool c st response r left kept answered numbers → answer_number (reply_of img pool c st (length response)) ≡ 0
       → (r ≡ answer_word (reply_of img pool c st (length response)))
-      × (numbers ≡ answer_told (reply_of img pool c st (length response)) ∷ answer_security (reply_of img pool c st (length response)) ∷ 0 ∷ [])
+      × (numbers
+      ≡ answer_told (reply_of img pool c st (length response)) ∷ answer_security (reply_of img pool c st (length response)) ∷ 0 ∷ [])
   pub security : (img pool c : List ℕ) (st : State) (response : List ℕ) (r : ℕ) (left kept answered numbers : List ℕ)
       → HullCommand img pool c st response r left kept answered numbers
       → (((get_or numbers 1 0 ≡ 1) ⊎ (get_or numbers 1 0 ≡ 2)) ↔ (r ≡ 0x6982)) × ((r ≡ 0x6982 → ⊥) → get_or numbers 1 0 ≡ 0)

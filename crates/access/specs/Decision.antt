@@ -30,7 +30,8 @@ pub record Decides (form : ℕ) (rule : List ℕ) (right : Right) (x : Sets) (d 
   -- the rule grants, under what has been authenticated
   pub granted : (d ≡ Granted) ↔ (granted_of form rule right x ≡ true)
   -- it does not, and some state would open it
-  pub lacking : (d ≡ Lacking) ↔ ((granted_of form rule right x ≡ false) × ((y : Sets) × (IsState y × (granted_of form rule right y ≡ true))))
+  pub lacking : (d ≡ Lacking)
+      ↔ ((granted_of form rule right x ≡ false) × ((y : Sets) × (IsState y × (granted_of form rule right y ≡ true))))
   -- no state opens it, nor would any larger sets
   pub closed : (d ≡ Closed) ↔ ((y : Sets) → granted_of form rule right y ≡ false)
 

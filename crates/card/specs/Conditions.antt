@@ -18,7 +18,8 @@ use Rattle.create_data.specs.Data.{data_of}
 use Rattle.create_data.specs.Grammar.{DfData, EfData}
 use Rattle.verdict.specs.declared.State.{State}
 use Rattle.verdict.specs.Applied.{sent_data}
-use Rattle.judge_target.specs.Target.{current_file, life_at, allowed_at, is_found, slot_in, selected, right_for, new_identifier, new_name, new_size}
+use Rattle.judge_target.specs.Target.{current_file, life_at, allowed_at, is_found, slot_in, selected, right_for, new_identifier, new_name}
+use Rattle.judge_target.specs.Target.{new_size}
 use Rattle.apdu.specs.Apdu.{class_byte, lc, sent_identifier}
 use Rattle.fcp.specs.Template.{template_of}
 

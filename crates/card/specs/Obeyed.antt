@@ -28,7 +28,8 @@ use Rattle.card.specs.declared.Reply.TheVariants.{Word, Short}
 use Rattle.card.specs.Command.{PoolFits, reply_of, image_of, pool_of, response_of}
 use Rattle.card.specs.Conditions.{Ask, Met, Refused, unknown_asks, select_asks, create_asks, delete_asks, activate_asks}
 use Rattle.pool.specs.Bodies.{start_at}
-use Rattle.card.specs.Conditions.{start_in, le, reading, record_at, read_binary_asks, update_binary_asks, read_record_asks, update_record_asks}
+use Rattle.card.specs.Conditions.{start_in, le, reading, record_at, read_binary_asks, update_binary_asks, read_record_asks}
+use Rattle.card.specs.Conditions.{update_record_asks}
 use Rattle.card.specs.Conditions.{deactivate_asks, terminate_ef_asks, terminate_df_asks, terminate_card_asks, found, new_of, named_child}
 
 -- a refusal tells nothing; the one without a word is answer 5; that of step J says what it decided (02 Ticket 6)

@@ -191,4 +191,5 @@ DataRead =
 -- what a card takes is read alike on any whose version has room for as long rules, and as many forms
 abbrev pub DataAlike : Type 0
 DataAlike =
-    (v w : ℕ) → longest_rule v ≤ longest_rule w → forms_of v ≤ forms_of w → (s : List ℕ) → (data_of v s ≡ Bad → ⊥) → data_of w s ≡ data_of v s
+    (v w : ℕ) → longest_rule v ≤ longest_rule w → forms_of v ≤ forms_of w
+    → (s : List ℕ) → (data_of v s ≡ Bad → ⊥) → data_of w s ≡ data_of v s

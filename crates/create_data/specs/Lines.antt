@@ -79,10 +79,10 @@ readings =
     ∷ []
 
 pub lines : answers 1 sent ≡ readings
-unfolding data_of is_template file_of df_of ef_of sized_ef new_file rule_good both_good name_good lacks has one_private one_rule rule_in form_in df_form
-    first_form ef_form pair_of record_length_of number_of fits_name object_at taken_at taken_below objects_of part u16_at u32_at class_of has_records
-    life_of known_life new_life next_of some_group malformed_at compact_formed longest_rule forms_of well_formed fits_record good_identifier
-    whole_records good_length either
+unfolding data_of is_template file_of df_of ef_of sized_ef new_file rule_good both_good name_good lacks has one_private one_rule rule_in
+    form_in df_form first_form ef_form pair_of record_length_of number_of fits_name object_at taken_at taken_below objects_of part u16_at
+    u32_at class_of has_records life_of known_life new_life next_of some_group malformed_at compact_formed longest_rule forms_of
+    well_formed fits_record good_identifier whole_records good_length either
 lines = refl
 
 -- the replay's EF with these objects in the place of its rule
@@ -130,10 +130,11 @@ pub rule-lines :
     ≡ ruled_file expanded 20 ∷ Bad ∷ Bad ∷ Bad ∷ ruled_file compact 31 ∷ ruled_file compact 32 ∷ ruled_file compact 45 ∷ Bad
     ∷ ruled_file expanded 45
     ∷ Bad ∷ [])
-unfolding data_of is_template file_of ef_of sized_ef new_file rule_good both_good lacks has one_private one_rule rule_in form_in first_form ef_form
-    pair_of record_length_of number_of object_at taken_at taken_below objects_of part u16_at u32_at class_of has_records life_of known_life new_life
-    next_of some_group malformed_at compact_formed longest_rule forms_of well_formed fits_record good_identifier whole_records good_length either
-    objects_from expanded_objects every several formed_plain is_nesting formed is_am in_place goes_on expanded_formed
+unfolding data_of is_template file_of ef_of sized_ef new_file rule_good both_good lacks has one_private one_rule rule_in form_in
+    first_form ef_form pair_of record_length_of number_of object_at taken_at taken_below objects_of part u16_at u32_at class_of
+    has_records life_of known_life new_life next_of some_group malformed_at compact_formed longest_rule forms_of well_formed fits_record
+    good_identifier whole_records good_length either objects_from expanded_objects every several formed_plain is_nesting formed is_am
+    in_place goes_on expanded_formed
 rule-lines = (refl, refl)
 
 -- a reference: record 1 of 6F06
@@ -158,8 +159,9 @@ pub referred-lines :
     × (answers 2 referred_sent ≡ Bad ∷ Bad ∷ Bad ∷ Bad ∷ Bad ∷ Bad ∷ Bad ∷ Bad ∷ Bad ∷ ruled_file expanded 20 ∷ [])
     × (answers 3 referred_sent
     ≡ ruled_file referred 18 ∷ Bad ∷ Bad ∷ ruled_file referred 18 ∷ Bad ∷ Bad ∷ Bad ∷ Bad ∷ Bad ∷ ruled_file expanded 20 ∷ [])
-unfolding data_of is_template file_of ef_of sized_ef new_file rule_good both_good lacks has one_private one_rule rule_in form_in first_form ef_form
-    pair_of record_length_of number_of object_at taken_at taken_below objects_of part u16_at u32_at class_of has_records life_of known_life new_life
-    next_of some_group malformed_at compact_formed longest_rule forms_of well_formed fits_record good_identifier whole_records good_length either
-    objects_from expanded_objects every several formed_plain is_nesting formed is_am in_place goes_on expanded_formed
+unfolding data_of is_template file_of ef_of sized_ef new_file rule_good both_good lacks has one_private one_rule rule_in form_in
+    first_form ef_form pair_of record_length_of number_of object_at taken_at taken_below objects_of part u16_at u32_at class_of
+    has_records life_of known_life new_life next_of some_group malformed_at compact_formed longest_rule forms_of well_formed fits_record
+    good_identifier whole_records good_length either objects_from expanded_objects every several formed_plain is_nesting formed is_am
+    in_place goes_on expanded_formed
 referred-lines = (refl, refl, refl)

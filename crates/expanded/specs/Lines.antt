@@ -97,6 +97,6 @@ expected [] = []
 expected (r ∷ rs) = r.1 ∷ expected rs
 
 pub lines : answers rows ≡ expected rows
-unfolding objects_from objects_of every some several formed_plain is_template formed sc_of holds_plain holds met one_of holds_of is_am am_after
-    in_place goes_on expanded_formed opens opens_one expanded_grants
+unfolding objects_from objects_of every some several formed_plain is_template formed sc_of holds_plain holds met one_of holds_of is_am
+    am_after in_place goes_on expanded_formed opens opens_one expanded_grants
 lines = refl

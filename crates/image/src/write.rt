@@ -2,7 +2,8 @@
 // leaves every byte that it does not name.
 ghost use Rattle.std.specs.Prelude.{◌≡◌, ◌+◌, ◌*◌, ◌<◌, ◌≤◌, length};
 ghost use Rattle.laws.specs.Lists.{splice};
-ghost use Rattle.image.specs.Layout.{Within, longest_rule, field, head_bytes, record_bytes, put_record, clear_record, set_life, set_current};
+ghost use Rattle.image.specs.Layout.{Within, longest_rule, field, head_bytes, record_bytes, put_record, clear_record, set_life};
+ghost use Rattle.image.specs.Layout.{set_current};
 ghost use Rattle.image.specs.Layout.{set_start};
 
 use crate::{Head, version};

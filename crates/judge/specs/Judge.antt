@@ -6,7 +6,8 @@ use Rattle.verdict.specs.declared.State.{State}
 use Rattle.verdict.specs.declared.Verdict.{Verdict}
 use Rattle.verdict.specs.Applied.{sent_data}
 use Rattle.judge_target.specs.Steps.{Plan, judged, followed}
-use Rattle.apdu.specs.Apdu.{instruction, sent_identifier, select_file, create_file, delete_file, activate_file, deactivate_file, terminate_ef}
+use Rattle.apdu.specs.Apdu.{instruction, sent_identifier, select_file, create_file, delete_file, activate_file, deactivate_file}
+use Rattle.apdu.specs.Apdu.{terminate_ef}
 use Rattle.apdu.specs.Apdu.{terminate_df, is_body, is_binary, is_read, parameters, record_number, asked}
 use Rattle.judge.specs.Shared.{shared_steps}
 use Rattle.judge_target.specs.Target.{current_file}

@@ -11,7 +11,8 @@ use Rattle.pool.specs.Records.{has_record}
 use Rattle.sound.specs.Kinship.{terminated_up}
 use Rattle.verdict.specs.declared.Verdict.{Verdict}
 use Rattle.verdict.specs.declared.Verdict.TheVariants.{Read, Update}
-use Rattle.verdict.specs.Words.{wrong_length, wrong_structure, security_not_satisfied, conditions_not_satisfied, not_allowed, no_such_record}
+use Rattle.verdict.specs.Words.{wrong_length, wrong_structure, security_not_satisfied, conditions_not_satisfied, not_allowed}
+use Rattle.verdict.specs.Words.{no_such_record}
 use Rattle.verdict.specs.Words.{wrong_parameters}
 use Rattle.judge_target.specs.Steps.{Step, step, Plan, plan}
 use Rattle.judge_target.specs.Target.{life_at, allowed_at}

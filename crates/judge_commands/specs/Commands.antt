@@ -11,7 +11,8 @@ use Rattle.sound.specs.Table.{view_at}
 use Rattle.sound.specs.Kinship.{child_named, terminated_up}
 use Rattle.verdict.specs.declared.Verdict.{Verdict}
 use Rattle.verdict.specs.declared.Verdict.TheVariants.{Select, Delete, SetLife}
-use Rattle.verdict.specs.Words.{done, file_deactivated, file_terminated, security_not_satisfied, conditions_not_satisfied, not_allowed, not_found}
+use Rattle.verdict.specs.Words.{done, file_deactivated, file_terminated, security_not_satisfied, conditions_not_satisfied, not_allowed}
+use Rattle.verdict.specs.Words.{not_found}
 use Rattle.judge_target.specs.Steps.{step, judged, Plan, plan}
 use Rattle.judge_target.specs.Target.{life_at, allowed_at, is_found, slot_in, selected}
 
@@ -92,4 +93,5 @@ terminate_the_df img pool t x =
 
 -- TERMINATE CARD USAGE: the root's b6; root to 0C
 abbrev pub terminate_the_card : List ℕ → List ℕ → Sets → Plan
-terminate_the_card img pool x = plan (step (allowed_at img pool 0 Terminate x) security_not_satisfied ∷ []) (SetLife 0 terminated_byte)  -- J
+terminate_the_card img pool x =
+    plan (step (allowed_at img pool 0 Terminate x) security_not_satisfied ∷ []) (SetLife 0 terminated_byte)  -- J

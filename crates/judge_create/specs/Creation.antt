@@ -9,7 +9,8 @@ use Rattle.sound.specs.Table.{view_at}
 use Rattle.sound.specs.Kinship.{free_slot, terminated_up, identifier_free, name_free, fits_room}
 use Rattle.create_data.specs.declared.Data.{Data}
 use Rattle.create_data.specs.Data.{data_of}
-use Rattle.verdict.specs.Words.{security_not_satisfied, conditions_not_satisfied, wrong_data, not_enough_memory, identifier_exists, name_exists}
+use Rattle.verdict.specs.Words.{security_not_satisfied, conditions_not_satisfied, wrong_data, not_enough_memory, identifier_exists}
+use Rattle.verdict.specs.Words.{name_exists}
 use Rattle.judge_target.specs.Steps.{Step, step, Plan, plan}
 use Rattle.judge_target.specs.Target.{life_at, allowed_at, slot_in, describes, right_for, new_identifier, new_size, new_name, creating}
 

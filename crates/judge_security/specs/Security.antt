@@ -15,7 +15,8 @@ use Rattle.verdict.specs.declared.Verdict.{Verdict}
 use Rattle.verdict.specs.declared.Verdict.TheVariants.{Refuse, Select, Create, Delete, SetLife, Read, Update}
 use Rattle.verdict.specs.Applied.{sent_data}
 use Rattle.verdict.specs.Words.{security_not_satisfied}
-use Rattle.apdu.specs.Apdu.{instruction, sent_identifier, select_file, create_file, delete_file, activate_file, deactivate_file, terminate_ef}
+use Rattle.apdu.specs.Apdu.{instruction, sent_identifier, select_file, create_file, delete_file, activate_file, deactivate_file}
+use Rattle.apdu.specs.Apdu.{terminate_ef}
 use Rattle.apdu.specs.Apdu.{terminate_df, is_body, is_read}
 use Rattle.judge_target.specs.Steps.{Step}
 use Rattle.judge_target.specs.Target.{current_file, decision_at, slot_in, right_for}

@@ -56,7 +56,8 @@ pub record Denials : Type 0 where
       → place_of n img pool s ≡ Nowhere
   pub itself : (n : ℕ) (img pool : List ℕ) (s : ℕ) → Names n img s s → place_of n img pool s ≡ Nowhere
   pub other : (n : ℕ) (img pool : List ℕ) (s t : ℕ) → Names n img s t → is_linear (rec_at img t) ≡ false → place_of n img pool s ≡ Nowhere
-  pub zeroth : (n : ℕ) (img pool : List ℕ) (s t : ℕ) → Names n img s t → named_record_of (rec_at img s) ≡ 0 → place_of n img pool s ≡ Nowhere
+  pub zeroth : (n : ℕ) (img pool : List ℕ) (s t : ℕ) → Names n img s t
+      → named_record_of (rec_at img s) ≡ 0 → place_of n img pool s ≡ Nowhere
   pub past : (n : ℕ) (img pool : List ℕ) (s t : ℕ) → Names n img s t → 0 < record_length_of (rec_at img t)
       → size_of (rec_at img t) / record_length_of (rec_at img t) < named_record_of (rec_at img s) → place_of n img pool s ≡ Nowhere
   pub malformed : (n : ℕ) (img pool : List ℕ) (s t : ℕ) → Names n img s t

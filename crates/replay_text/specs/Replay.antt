@@ -1,6 +1,7 @@
 -- The text of a stream (01 "Replay"): `UFS`, version 1, N, total, then commands each after a 16-bit length; root rule 7F
 -- and seven 00; sets full, no other channel.
-use Rattle.std.specs.Prelude.{ℕ, zero, suc, ◌+◌, ◌*◌, ◌≡◌, Bool, true, false, cond, ◌&&◌, ◌||◌, List, [], ◌∷◌, ◌++◌, eqb, ltb, leb, length, get_or, replicate}
+use Rattle.std.specs.Prelude.{ℕ, zero, suc, ◌+◌, ◌*◌, ◌≡◌, Bool, true, false, cond, ◌&&◌, ◌||◌, List, [], ◌∷◌, ◌++◌, eqb, ltb, leb}
+use Rattle.std.specs.Prelude.{length, get_or, replicate}
 use Rattle.laws.specs.Lists.{part}
 use Rattle.numbers.specs.Numbers.{u16_at, u32_at}
 use Rattle.maker.specs.declared.Edition.{Edition}
@@ -84,7 +85,8 @@ good_header s =
 unfoldable pub perform_of : List ℕ → List ℕ → List ℕ
 perform_of s img =
     cond (eqb (made_number (made_of img first_edition (u32_at s 7) compact root_rule)) 0)
-    (run_of (length s) s 11 (left_by (made_of img first_edition (u32_at s 7) compact root_rule) img first_edition (u32_at s 7) compact root_rule))
+    (run_of (length s) s 11
+    (left_by (made_of img first_edition (u32_at s 7) compact root_rule) img first_edition (u32_at s 7) compact root_rule))
     bad
 
 -- the card that a stream begins with is one of those on which each command is answered by a word (proofs/Worded, `fresh-played`)

@@ -106,7 +106,8 @@ abbrev pub writes : Sets → Card → List (List ℕ)
 writes x k =
     -- three bytes; the last byte; one past it; from the end on; a record; the file deleted
     wrote x k (update_binary 1 (0x11 ∷ 0x22 ∷ 0x33 ∷ [])) ∷ wrote x k (update_binary 3 (0x44 ∷ []))
-    ∷ wrote x k (update_binary 3 (0x44 ∷ 0x55 ∷ [])) ∷ wrote x k (update_binary 4 (0x44 ∷ [])) ∷ wrote x k (update_record 1 (replicate 4 0x11))
+    ∷ wrote x k (update_binary 3 (0x44 ∷ 0x55 ∷ [])) ∷ wrote x k (update_binary 4 (0x44 ∷ []))
+    ∷ wrote x k (update_record 1 (replicate 4 0x11))
     ∷ wrote x k (delete_file 0x6F 0x07)
     -- what was written is read
     ∷ said x (after x k (update_binary 1 (0x11 ∷ 0x22 ∷ 0x33 ∷ []))) 4 (read_binary 0 4)
@@ -228,7 +229,8 @@ BodiesMoved =
 abbrev pub spread : Sets → Card
 spread x = record {
   image =
-      set_start (set_start (after x (after x (fresh_card 3 6 303) (create_file 0x6F 0x01 0x05 2)) (create_file 0x6F 0x02 0x05 1)).image 1 201) 2
+      set_start
+      (set_start (after x (after x (fresh_card 3 6 303) (create_file 0x6F 0x01 0x05 2)) (create_file 0x6F 0x02 0x05 1)).image 1 201) 2
       100;
   pool = splice (splice (splice (replicate 303 0x00) 100 (0x31 ∷ [])) 201 (0x41 ∷ 0x42 ∷ [])) 250 (0x99 ∷ []);
 }

@@ -1,6 +1,7 @@
 -- What each effect leaves of an image (01 "Making", "SELECT", "CREATE", "DELETE", the life cycles) and of the pool (02 Ticket 4),
 -- byte for byte. SELECT leaves `set_current`, a change of life cycle `set_life`.
-use Rattle.std.specs.Prelude.{◌≡◌, List, [], ◌++◌, ◌∷◌, Bool, true, cond, ◌&&◌, ℕ, zero, suc, ◌+◌, ◌*◌, ◌-◌, ◌<◌, ◌≤◌, eqb, ltb, length, replicate}
+use Rattle.std.specs.Prelude.{◌≡◌, List, [], ◌++◌, ◌∷◌, Bool, true, cond, ◌&&◌, ℕ, zero, suc, ◌+◌, ◌*◌, ◌-◌, ◌<◌, ◌≤◌, eqb, ltb, length}
+use Rattle.std.specs.Prelude.{replicate}
 use Rattle.laws.specs.declared.Found.{Found}
 use Rattle.laws.specs.declared.Found.TheVariants.{At, Nothing}
 use Rattle.laws.specs.Lists.{splice}
@@ -9,7 +10,8 @@ use Rattle.rules.specs.Descriptor.{class_of, df, ef}
 use Rattle.rules.specs.Life.{known_life, activated_byte}
 use Rattle.rules.specs.Value.{good_identifier, good_length}
 use Rattle.image.specs.declared.Head.{Head}
-use Rattle.image.specs.Layout.{version_of, count_of, current_df_of, current_ef_of, none, record_bytes, put_record, clear_record, set_current}
+use Rattle.image.specs.Layout.{version_of, count_of, current_df_of, current_ef_of, none, record_bytes, put_record, clear_record}
+use Rattle.image.specs.Layout.{set_current}
 use Rattle.image.specs.Layout.{has_bodies, rec_at, with_start, set_start}
 use Rattle.access.specs.Access.{fits_record}
 use Rattle.pool.specs.Bodies.{start_at, body_at}

@@ -7,7 +7,8 @@ use Rattle.laws.specs.Tests.{implies, either}
 use Rattle.rules.specs.Descriptor.{class_of, ef}
 use Rattle.rules.specs.Life.{known_life}
 use Rattle.rules.specs.Value.{good_identifier, good_length}
-use Rattle.image.specs.Layout.{longest_rule, zeros_after, kind_of, descriptor_of, life_cycle_of, form_of, identifier_of, record_length_of, size_of}
+use Rattle.image.specs.Layout.{longest_rule, zeros_after, kind_of, descriptor_of, life_cycle_of, form_of, identifier_of, record_length_of}
+use Rattle.image.specs.Layout.{size_of}
 use Rattle.image.specs.Layout.{rule_of, has_bodies}
 use Rattle.access.specs.Access.{fits_record}
 

@@ -1,8 +1,7 @@
 -- `sent_data`: the rest of the command, from its sixth byte on.
-use lib.ListN.{drop, length}
+use lib.ListN.{drop, length, length-drop}
 use Prim.Native.Nat.{◌-◌}
 use native.Mathlib.Omega.{arith}
-use lib.ListN.{length-drop}
 use lib.Seq.{take_all}
 use Rattle.apdu.proofs.sent_data.Goals as goal
 

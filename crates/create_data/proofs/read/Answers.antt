@@ -1,7 +1,6 @@
 -- CREATE's data, for any bytes.
-use mathlib.Core.Path.{ap}
+use mathlib.Core.Path.{ap, sym, subst}
 use mathlib.Core.Bool.{not}
-use mathlib.Core.Path.{sym, subst}
 use Rattle.template.specs.Objects.{Held}
 use Rattle.create_data.proofs.Judging.{no-template, template_read}
 use Rattle.create_data.specs.Good.{Good}

@@ -1,6 +1,5 @@
 -- `judge_commands::activate_file`: its early returns are the steps of `activate`.
-use Rattle.laws.proofs.Branches.{tests, answers}
-use Rattle.laws.proofs.Branches.{unlesses}
+use Rattle.laws.proofs.Branches.{tests, answers, unlesses}
 use Rattle.judge_target.specs.Steps.{followed}
 use Rattle.judge_commands.proofs.activate_file.Goals as goal
 

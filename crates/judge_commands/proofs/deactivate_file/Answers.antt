@@ -1,6 +1,5 @@
 -- `judge_commands::deactivate_file`: its early returns are the steps of `deactivate`.
-use Rattle.laws.proofs.Branches.{tests, answers}
-use Rattle.laws.proofs.Branches.{unlesses}
+use Rattle.laws.proofs.Branches.{tests, answers, unlesses}
 use Rattle.judge_target.specs.Steps.{followed}
 use Rattle.judge_commands.proofs.deactivate_file.Goals as goal
 

@@ -1,6 +1,5 @@
 -- `judge_commands::terminate_df`: its early returns are the steps of `terminate_the_df`.
-use Rattle.laws.proofs.Branches.{tests, answers}
-use Rattle.laws.proofs.Branches.{unlesses}
+use Rattle.laws.proofs.Branches.{tests, answers, unlesses}
 use Rattle.judge_target.specs.Steps.{followed}
 use Rattle.judge_commands.proofs.terminate_df.Goals as goal
 

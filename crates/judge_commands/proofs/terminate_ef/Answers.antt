@@ -1,7 +1,6 @@
 -- `judge_commands::terminate_ef`: its early returns are the steps of `terminate_the_ef`.
 use borrow.Author.Rules.{rules}
-use Rattle.laws.proofs.Branches.{tests, answers}
-use Rattle.laws.proofs.Branches.{unlesses}
+use Rattle.laws.proofs.Branches.{tests, answers, unlesses}
 use Rattle.judge_target.specs.Steps.{followed}
 use Rattle.judge_commands.proofs.terminate_ef.Goals as goal
 

@@ -1,8 +1,7 @@
 -- `write`: too big, a bad header, too many slots, or the card made and the stream run on it.
-use mathlib.Core.Path.{ap}
+use mathlib.Core.Path.{ap, sym, ◌∙◌}
 use mathlib.Core.Bool.{not}
 use native.Mathlib.Omega.{arith}
-use mathlib.Core.Path.{sym, ◌∙◌}
 use borrow.Author.Tests.{not-true, not-false}
 use Rattle.text.proofs.Written.{same_text}
 use Rattle.replay_text.proofs.Made.{header-long, too_big, bad-header, many_slots, played, cut_to}

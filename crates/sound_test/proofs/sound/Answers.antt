@@ -1,7 +1,6 @@
 -- `sound`: the header, each record, what holds between them, what is current, where bodies lie; each test makes the next one safe.
-use mathlib.Core.Path.{ap}
+use mathlib.Core.Path.{ap, refl}
 use mathlib.Core.Bool.{not}
-use mathlib.Core.Path.{refl}
 use Rattle.laws.proofs.Chains.{refused-and}
 use Rattle.sound.specs.Sound.{soundb}
 use Rattle.sound_test.proofs.Passed.{header-some, header-sized, sound-records, sound-kin, sound-current, sound-last, passed}

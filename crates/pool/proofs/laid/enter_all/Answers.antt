@@ -1,6 +1,5 @@
-use mathlib.Core.Path.{ap}
+use mathlib.Core.Path.{ap, refl}
 use mathlib.Core.Bool.{not}
-use mathlib.Core.Path.{refl}
 use Rattle.pool.specs.Entered.{yes, no}
 use Rattle.pool.proofs.Entering.{when_yes, when_no, entered-end}
 use borrow.Author.Rules.{rules}

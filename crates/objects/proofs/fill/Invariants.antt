@@ -1,9 +1,0 @@
--- `fill`: how many bytes were read is within the buffer, and what is left of it gets less.
-use Rattle.std.proofs.Common.{◌≤◌, ◌-◌, length}
-use Rattle.objects.proofs.fill.Given as goal
-
-abbrev pub invariant-loop-n : goal.invariant-loop-n
-invariant-loop-n g l = l.n ≤ length l.buf
-
-abbrev pub decreases-loop-n : goal.decreases-loop-n
-decreases-loop-n g l = length l.buf - l.n
