@@ -5,9 +5,11 @@ use mathlib.Core.Logic.{◌⊎◌, ◌↔◌, inl, inr, ⊎_elim}
 use Prim.Native.Nat.{ℕ}
 use native.Mathlib.Omega.{arith}
 use lib.ListN.{length, get_or}
+use Rattle.std.specs.Prelude.{Ok, Err}
 use Rattle.verdict.specs.declared.State.{State}
-use Rattle.card.specs.declared.Reply.{Reply}
-use Rattle.card.specs.declared.Reply.TheVariants.{Word, Damaged, Short, WrongPool}
+use Rattle.card.specs.declared.CardError.TheVariants.{Damaged, WrongPool}
+use Rattle.card.specs.declared.CommandError.TheVariants.{Card, Short}
+use Rattle.card.specs.Command.{Reply}
 use Rattle.card.specs.Command.{answer_number, answer_word, answer_security, reply_of}
 use Rattle.card.specs.Ruling.{ruling_of}
 use Rattle.card.proofs.Security.{word-answers, number_exactly}
@@ -29,17 +31,17 @@ each_settles = record {
 
 -- a reply's number, where its answer is 0
 word-only : (r : Reply) → answer_number r ≡ 0 → packed r ≡ answer_word r
-word-only (Word w n d) e = omega arith
-word-only Damaged e = absurd (omega arith)
-word-only Short e = absurd (omega arith)
-word-only WrongPool e = absurd (omega arith)
+word-only (Ok a) e = omega arith
+word-only (Err (Card Damaged)) e = absurd (omega arith)
+word-only (Err Short) e = absurd (omega arith)
+word-only (Err (Card WrongPool)) e = absurd (omega arith)
 
 -- a reply's number is 6982 where its answer is 0 and its word is that, and nowhere else
 six_says : (r : Reply) → (packed r ≡ 0x6982) ↔ ((answer_number r ≡ 0) × (answer_word r ≡ 0x6982))
-six_says (Word w n d) = (λ e. (omega arith, omega (arith, e)), λ p. omega (arith, p.1))
-six_says Damaged = (λ e. absurd (omega (arith, e)), λ p. absurd (omega (arith, p.0)))
-six_says Short = (λ e. absurd (omega (arith, e)), λ p. absurd (omega (arith, p.0)))
-six_says WrongPool = (λ e. absurd (omega (arith, e)), λ p. absurd (omega (arith, p.0)))
+six_says (Ok a) = (λ e. (omega arith, omega (arith, e)), λ p. omega (arith, p.1))
+six_says (Err (Card Damaged)) = (λ e. absurd (omega (arith, e)), λ p. absurd (omega (arith, p.0)))
+six_says (Err Short) = (λ e. absurd (omega (arith, e)), λ p. absurd (omega (arith, p.0)))
+six_says (Err (Card WrongPool)) = (λ e. absurd (omega (arith, e)), λ p. absurd (omega (arith, p.0)))
 
 security-told : (img pool c : List ℕ) (st : State) (o : List ℕ) (r : ℕ) (left kept y numbers : List ℕ)
     → HullCommand img pool c st o r left kept y numbers

@@ -1,14 +1,12 @@
 -- How the numbers of a C call stand for what 01 and 02 name: the card that is made, the state that a command is given, and its reply as
 -- one number.
-use Rattle.std.specs.Prelude.{ℕ, ◌+◌, ◌*◌, ◌-◌, List, [], ◌∷◌}
+use Rattle.std.specs.Prelude.{ℕ, ◌+◌, ◌*◌, ◌-◌, List, [], ◌∷◌, Option, Some, None, Ok, Err}
 use Rattle.maker.specs.declared.Edition.{Edition}
 use Rattle.verdict.specs.declared.State.{State}
-use Rattle.card.specs.declared.Reply.{Reply}
-use Rattle.card.specs.declared.Ruling.{Ruling}
-use Rattle.card.specs.declared.Ruling.TheVariants.{At, Damaged, WrongPool}
 use Rattle.referred.specs.declared.Place.{Place}
-use Rattle.referred.specs.declared.Place.TheVariants.{Nowhere, InImage, InPool}
-use Rattle.card.specs.Command.{answer_number, answer_word, answer_told, answer_security}
+use Rattle.referred.specs.declared.Place.TheVariants.{InImage, InPool}
+use Rattle.card.specs.Command.{Reply, answer_number, answer_word, answer_told, answer_security}
+use Rattle.card.specs.Ruling.{Ruling}
 
 -- the kind of card: its version
 abbrev pub edition_of : ℕ → Edition
@@ -31,12 +29,11 @@ abbrev pub told_numbers : Reply → List ℕ
 told_numbers r = answer_told r ∷ answer_security r ∷ 0 ∷ []
 
 -- where a rule stands (02 Ticket 7): 0 nowhere, 1 in the image, 2 in the pool; its first byte; how many bytes it has
-abbrev pub place_numbers : Place → List ℕ
-place_numbers Nowhere = 0 ∷ 0 ∷ 0 ∷ []
-place_numbers (InImage from to) = 1 ∷ from ∷ (to - from) ∷ []
-place_numbers (InPool from to) = 2 ∷ from ∷ (to - from) ∷ []
+abbrev pub place_numbers : Option Place → List ℕ
+place_numbers None = 0 ∷ 0 ∷ 0 ∷ []
+place_numbers (Some (InImage from to)) = 1 ∷ from ∷ (to - from) ∷ []
+place_numbers (Some (InPool from to)) = 2 ∷ from ∷ (to - from) ∷ []
 
 abbrev pub ruling_numbers : Ruling → List ℕ
-ruling_numbers (At p) = place_numbers p
-ruling_numbers Damaged = 0 ∷ 0 ∷ 0 ∷ []
-ruling_numbers WrongPool = 0 ∷ 0 ∷ 0 ∷ []
+ruling_numbers (Ok p) = place_numbers p
+ruling_numbers (Err e) = 0 ∷ 0 ∷ 0 ∷ []

@@ -1,13 +1,15 @@
 -- What each C function promises: its number, and what it leaves of a buffer that is lent to be written. Each settles its
 -- result (proofs/Settled, `each_settles`).
 use Rattle.std.specs.Prelude.{◌≡◌, true, false, cond, List, [], ◌∷◌, ◌⊎◌, ◌↔◌, ℕ, length, get_or}
+use Rattle.std.specs.Prelude.{Err}
 use Rattle.laws.specs.Settled.{Settles}
 use Rattle.maker.specs.declared.Edition.{Edition}
 use Rattle.sound.specs.Sound.{soundb}
 use Rattle.maker.specs.Making.{made_number, made_of, left_by}
 use Rattle.maker.specs.Reporting.{reported_number, numbers_of, reported_of}
 use Rattle.verdict.specs.declared.State.{State}
-use Rattle.card.specs.declared.Reply.TheVariants.{Short, WrongPool}
+use Rattle.card.specs.declared.CardError.TheVariants.{WrongPool}
+use Rattle.card.specs.declared.CommandError.TheVariants.{Card, Short}
 use Rattle.card.specs.Command.{answer_number, answer_word, answer_told, answer_security, pool_fits, reply_of, image_of, pool_of}
 use Rattle.card.specs.Command.{response_of}
 use Rattle.card.specs.Ruling.{ruling_number, ruling_of}
@@ -47,7 +49,7 @@ pub record EachSettles : Type 0 where
   pub sound : (img : List ℕ) → Settles ℕ (HullSound img)
   pub rule : (img pool : List ℕ) (slot : ℕ) → Settles (ℕ × List ℕ) (λ p. HullRule img pool slot p.0 p.1)
 
--- the numbers that C sees (`hull-numbers`): a command on a damaged image gives 65536, one whose data don't fit 327680, one with a pool of a
+-- the numbers that C sees (`hull_numbers`): a command on a damaged image gives 65536, one whose data don't fit 327680, one with a pool of a
 -- wrong length 393216, each with three zeros, any other its word and how many bytes were told; the second number is 1 or 2 exactly with
 -- 6982, and else 0; hull_sound gives 1 for a sound image and 0 for any other; hull_rule gives 1 for a damaged image and 6 for a pool of a
 -- wrong length, each with three zeros. Those of hull_make and hull_report are the maker's and the report's (maker/specs, `MakerAnswers`,
@@ -57,10 +59,10 @@ pub record HullNumbers : Type 0 where
       → HullCommand img pool c st response r left kept answered numbers → soundb img ≡ false
       → (r ≡ 65536) × (numbers ≡ 0 ∷ 0 ∷ 0 ∷ [])
   pub short : (img pool c : List ℕ) (st : State) (response : List ℕ) (r : ℕ) (left kept answered numbers : List ℕ)
-      → HullCommand img pool c st response r left kept answered numbers → reply_of img pool c st (length response) ≡ Short
+      → HullCommand img pool c st response r left kept answered numbers → reply_of img pool c st (length response) ≡ Err Short
       → (r ≡ 327680) × (numbers ≡ 0 ∷ 0 ∷ 0 ∷ [])
   pub wrong : (img pool c : List ℕ) (st : State) (response : List ℕ) (r : ℕ) (left kept answered numbers : List ℕ)
-      → HullCommand img pool c st response r left kept answered numbers → reply_of img pool c st (length response) ≡ WrongPool
+      → HullCommand img pool c st response r left kept answered numbers → reply_of img pool c st (length response) ≡ Err (Card WrongPool)
       → (r ≡ 393216) × (numbers ≡ 0 ∷ 0 ∷ 0 ∷ [])
   pub word : (img pool c : List ℕ) (st : State) (response : List ℕ) (r : ℕ) (left kept answered numbers : List ℕ)
       → HullCommand img pool c st response r left kept answered numbers → answer_number (reply_of img pool c st (length response)) ≡ 0

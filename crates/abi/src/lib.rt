@@ -3,15 +3,13 @@
 #![tactic(auto)]
 
 ghost use Rattle.std.specs.Prelude.{◌≡◌, ◌<◌};
-ghost use Rattle.access.specs.Decision.{decision_number};
 ghost use Rattle.card.specs.Command.{answer_told};
 ghost use Rattle.referred.specs.Deciding.{Bounded};
 ghost use Rattle.abi.specs.Numbers.{edition_of, state_of, packed, told_numbers, place_numbers};
 ghost use Rattle.abi.specs.Promises.{HullMake, HullCommand, HullReport, HullSound, HullRule};
 
-use access::Decision;
-use card::{Reply, Ruling};
-use maker::{Edition, Made, Reported};
+use card::{Answer, CommandError};
+use maker::Edition;
 use referred::Place;
 use rules::Sets;
 use verdict::State;
@@ -21,56 +19,31 @@ use verdict::State;
 pub extern "C" fn hull_make(image: &mut [u8], kind: u32, total: u32, form: u32, rule: &[u8]) -> u32
     ensures { HullMake image.old (edition_of kind) total form rule.now result image.new }
 {
-    let made = maker::fresh::make(image, Edition { version: kind }, total, form, rule);
-    match made {
-        Made::Done => 0,
-        Made::BadLength => 2,
-        Made::BadTotal => 3,
-        Made::BadRule => 4,
-    }
-}
-
-// 02's number of a decision on security: 0 no refusal, 1 lacking, 2 closed.
-fn number_of(security: Decision) -> u32
-    ensures { result ≡ decision_number security }
-{
-    match security {
-        Decision::Granted => 0,
-        Decision::Lacking => 1,
-        Decision::Closed => 2,
+    match maker::fresh::make(image, Edition { version: kind }, total, form, rule) {
+        Ok(()) => 0,
+        Err(e) => e as u32,
     }
 }
 
 // The answer of a reply above the sixteen bits of its word.
-fn packed(reply: Reply) -> u32
+fn packed(reply: Result<Answer, CommandError>) -> u32
     ensures { result ≡ packed reply }
 {
     match reply {
-        Reply::Word {
-            word,
-            told,
-            security,
-        } => word as u32,
-        Reply::Damaged => 65536,
-        Reply::Short => 327680,
-        Reply::WrongPool => 393216,
+        Ok(answer) => u32::from(answer.word),
+        Err(CommandError::Card(e)) => 65536 * (e as u32),
+        Err(CommandError::Short) => 65536 * 5,
     }
 }
 
-// What a reply tells beside its word: how many bytes of data, what a security refusal lacks, and 0.
-fn told_numbers(reply: Reply) -> [u32; 3]
+// What a reply tells beside its word: how many bytes of data, what a security refusal lacks (0 no refusal, 1 lacking, 2 closed), and 0.
+fn told_numbers(reply: Result<Answer, CommandError>) -> [u32; 3]
     requires { answer_told reply < 65536 }
     ensures { result ≡ told_numbers reply }
 {
     match reply {
-        Reply::Word {
-            word,
-            told,
-            security,
-        } => [told as u32, number_of(security), 0],
-        Reply::Damaged => [0, 0, 0],
-        Reply::Short => [0, 0, 0],
-        Reply::WrongPool => [0, 0, 0],
+        Ok(answer) => [answer.told as u32, answer.security as u32, 0],
+        Err(_) => [0; 3],
     }
 }
 
@@ -92,14 +65,11 @@ pub extern "C" fn hull_command(
         response.old result image.new pool.new response.new numbers.new }
 {
     let sets = Sets {
-        messaging: messaging,
-        external: external,
-        user: user,
+        messaging,
+        external,
+        user,
     };
-    let state = State {
-        sets: sets,
-        channels: channels,
-    };
+    let state = State { sets, channels };
     let reply = card::command(image, pool, command, response, state);
     *numbers = told_numbers(reply);
     packed(reply)
@@ -110,14 +80,13 @@ pub extern "C" fn hull_command(
 pub extern "C" fn hull_report(image: &[u8], numbers: &mut [u32; 4]) -> u32
     ensures { HullReport image.now result numbers.new }
 {
-    let reported = maker::report::report(image);
-    match reported {
-        Reported::Numbers(f) => {
+    match maker::report::report(image) {
+        Some(f) => {
             *numbers = [f.total, f.room, f.children, f.beneath];
             0
         }
-        Reported::Unsound => {
-            *numbers = [0, 0, 0, 0];
+        None => {
+            *numbers = [0; 4];
             1
         }
     }
@@ -128,21 +97,18 @@ pub extern "C" fn hull_report(image: &[u8], numbers: &mut [u32; 4]) -> u32
 pub extern "C" fn hull_sound(image: &[u8]) -> u32
     ensures { HullSound image.now result }
 {
-    if sound_test::sound(image) {
-        return 1;
-    }
-    0
+    u32::from(sound_test::sound(image))
 }
 
-// A place as three numbers: 0 nowhere, 1 in the image, 2 in the pool; the first byte; how many there are.
-fn place_numbers(place: Place) -> [u32; 3]
+// A place as three numbers, which the header for C gives: 0 nowhere, 1 in the image, 2 in the pool; the first byte; how many there are.
+fn place_numbers(place: Option<Place>) -> [u32; 3]
     requires { Bounded place }
     ensures { result ≡ place_numbers place }
 {
     match place {
-        Place::Nowhere => [0, 0, 0],
-        Place::InImage { from, to } => [1, from as u32, (to - from) as u32],
-        Place::InPool { from, to } => [2, from as u32, (to - from) as u32],
+        None => [0; 3],
+        Some(Place::InImage { from, to }) => [1, from as u32, (to - from) as u32],
+        Some(Place::InPool { from, to }) => [2, from as u32, (to - from) as u32],
     }
 }
 
@@ -151,19 +117,14 @@ fn place_numbers(place: Place) -> [u32; 3]
 pub extern "C" fn hull_rule(image: &[u8], pool: &[u8], slot: u32, numbers: &mut [u32; 3]) -> u32
     ensures { HullRule image.now pool.now slot result numbers.new }
 {
-    let found = card::standing::ruling(image, pool, slot as usize);
-    match found {
-        Ruling::At(place) => {
+    match card::standing::ruling(image, pool, slot as usize) {
+        Ok(place) => {
             *numbers = place_numbers(place);
             0
         }
-        Ruling::Damaged => {
-            *numbers = [0, 0, 0];
-            1
-        }
-        Ruling::WrongPool => {
-            *numbers = [0, 0, 0];
-            6
+        Err(e) => {
+            *numbers = [0; 3];
+            e as u32
         }
     }
 }

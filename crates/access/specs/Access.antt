@@ -48,7 +48,7 @@ granted_of form rule right x =
 unfoldable pub asked_as : ℕ → ℕ
 asked_as form = cond (eqb form referred) expanded form
 
--- the two writings of a rule, asked in the one way (proofs/Alike, `writings-alike`)
+-- the two writings of a rule, asked in the one way (proofs/Alike, `writings_alike`)
 abbrev pub WritingsAlike : Type 0
 WritingsAlike = (rule : List ℕ) (right : Right) (x : Sets)
     → granted_of expanded (expanded_writing rule) right x ≡ granted_of compact rule right x

@@ -1,5 +1,5 @@
 -- Both sides of each line of what a rule decides (02 Ticket 6), computed: rules of either form under some sets, each with 02's number of
--- its decision; then which referred rules are well formed (02 Ticket 7). Proved in proofs/Lines, `decisions-told` and `references-told`.
+-- its decision; then which referred rules are well formed (02 Ticket 7). Proved in proofs/Lines, `decisions_told` and `references_told`.
 use Rattle.std.specs.Prelude.{ℕ, ◌≡◌, true, false, List, [], ◌∷◌, ◌++◌}
 use Rattle.rules.specs.declared.Right.TheVariants.{Activate, Deactivate}
 use Rattle.rules.specs.declared.Sets.{Sets}

@@ -10,14 +10,15 @@ ghost use Rattle.access.specs.Decision.{full, decision_of, Decides, either};
 use rules::{Right, Sets};
 
 // What a rule decides on a right (02 Ticket 6): it grants it; or some security state would open it, and this one does not; or none would.
-#[derive(Clone, Copy)]
+// The order is that of 02's numbers: what is more open comes first.
+#[derive(Clone, Copy, PartialEq, Eq, PartialOrd, Ord)]
 pub enum Decision {
     Granted,
     Lacking,
     Closed,
 }
 
-// The forms: the value of tag 8C, of tag AB, of tag 8B.
+// The forms: the value of tag 8C, of tag AB, of tag 8B. No enum: a form is a byte of a record or of a caller, and each byte is answered.
 pub const COMPACT: u8 = 0;
 
 pub const EXPANDED: u8 = 1;
@@ -28,49 +29,26 @@ pub const REFERRED: u8 = 2;
 pub fn tag_of(form: u8) -> u8
     ensures { result ≡ tag_of form }
 {
-    if form == COMPACT {
-        return 0x8C;
+    match form {
+        COMPACT => 0x8C,
+        EXPANDED => 0xAB,
+        _ => 0x8B,
     }
-    if form == EXPANDED {
-        return 0xAB;
-    }
-    0x8B
 }
 
 // The form in which the rule that decides is asked: the rule that a referred one names is expanded.
+#[tactic(auto, unfolding(crate::specs::Access::asked_as))]
 pub fn asked_as(form: u8) -> u8
     ensures { result ≡ asked_as form }
 {
-    if form == REFERRED {
-        return EXPANDED;
-    }
-    form
+    if form == REFERRED { EXPANDED } else { form }
 }
 
 // Whether a rule is a referred one and well formed: an identifier and a record number.
 fn is_reference(form: u8, rule: &[u8]) -> bool
     ensures { result ≡ (eqb form referred && referred_formed rule.now) }
 {
-    if rule.len() != 3 {
-        return false;
-    }
-    form == REFERRED
-}
-
-// Whether a rule is well formed.
-fn well_formed(form: u8, rule: &[u8]) -> bool
-    ensures { result ≡ well_formed form rule.now }
-{
-    if form == COMPACT {
-        return rules::rule::well_formed(rule);
-    }
-    if is_reference(form, rule) {
-        return true;
-    }
-    if form == EXPANDED {
-        return expanded::rule::well_formed(rule);
-    }
-    false
+    rule.len() == 3 && form == REFERRED
 }
 
 // Whether a rule may stand in a record of a version.
@@ -86,7 +64,7 @@ pub fn fits_record(v: u32, form: u8, rule: &[u8]) -> bool
     if !image::version::has_form(v, form) {
         return false;
     }
-    well_formed(form, rule)
+    formed_by(form, rule, &rules::group::lengths())
 }
 
 // Whether a rule is well formed, with the table of a compact group's lengths, for a caller that asks often: a compact rule, which most
@@ -109,16 +87,15 @@ pub fn formed_by(form: u8, rule: &[u8], lengths: &[u8; 256]) -> bool
 
 // Whether the rule grants a right, under what has been authenticated. The only way anyone asks a rule; a referred one is never asked
 // itself, but the rule that it names.
+#[tactic(auto, unfolding(crate::specs::Access::granted_of))]
 pub fn granted(form: u8, rule: &[u8], right: Right, sets: Sets) -> bool
     ensures { result ≡ granted_of form rule.now right sets }
 {
-    if form == COMPACT {
-        return rules::rule::granted(rule, right, sets);
+    match form {
+        COMPACT => rules::rule::granted(rule, right, sets),
+        EXPANDED => expanded::rule::granted(rule, right, sets),
+        _ => false,
     }
-    if form == EXPANDED {
-        return expanded::rule::granted(rule, right, sets);
-    }
-    false
 }
 
 // All that could be authenticated.
@@ -149,13 +126,5 @@ pub fn decide(form: u8, rule: &[u8], right: Right, sets: Sets) -> Decision
 pub fn either(one: Decision, other: Decision) -> Decision
     ensures { result ≡ either one other }
 {
-    match one {
-        Decision::Granted => Decision::Granted,
-        Decision::Lacking => match other {
-            Decision::Granted => Decision::Granted,
-            Decision::Lacking => Decision::Lacking,
-            Decision::Closed => Decision::Lacking,
-        },
-        Decision::Closed => other,
-    }
+    one.min(other)
 }

@@ -11,7 +11,8 @@ use verdict::State;
 
 pub mod bodies;
 
-// The instructions of 01 by their names, the same as in specs/Apdu.
+// The instructions of 01 by their names, the same as in specs/Apdu. No enum: an instruction is a byte of a command, and each byte is
+// answered.
 pub const SELECT_FILE: u8 = 0xA4;
 
 pub const CREATE_FILE: u8 = 0xE0;
@@ -28,65 +29,40 @@ pub const TERMINATE_DF: u8 = 0xE6;
 
 pub const TERMINATE_CARD: u8 = 0xFE;
 
+#[tactic(auto, unfolding(crate::specs::Apdu::is_terminate))]
 fn is_terminate(i: u8) -> bool
     ensures { result ≡ is_terminate i }
 {
-    if i == TERMINATE_EF {
-        return true;
-    }
-    if i == TERMINATE_DF {
-        return true;
-    }
-    i == TERMINATE_CARD
+    matches!(i, TERMINATE_EF | TERMINATE_DF | TERMINATE_CARD)
 }
 
 // An instruction of 01.
+#[tactic(auto, unfolding(crate::specs::Apdu::is_old))]
 fn is_old(i: u8) -> bool
     ensures { result ≡ is_old i }
 {
-    if i == SELECT_FILE {
-        return true;
-    }
-    if i == CREATE_FILE {
-        return true;
-    }
-    if i == DELETE_FILE {
-        return true;
-    }
-    if i == ACTIVATE_FILE {
-        return true;
-    }
-    if i == DEACTIVATE_FILE {
-        return true;
-    }
-    is_terminate(i)
+    matches!(
+        i,
+        SELECT_FILE | CREATE_FILE | DELETE_FILE | ACTIVATE_FILE | DEACTIVATE_FILE
+    ) || is_terminate(i)
 }
 
 // An instruction that a card of version v has.
+#[tactic(auto, unfolding(crate::specs::Apdu::is_known))]
 pub fn is_known(v: u32, i: u8) -> bool
     ensures { result ≡ is_known v i }
 {
-    if is_old(i) {
-        return true;
-    }
-    if !image::version::has_bodies(v) {
-        return false;
-    }
-    bodies::is_body(i)
+    is_old(i) || (image::version::has_bodies(v) && bodies::is_body(i))
 }
 
+#[tactic(auto, unfolding(crate::specs::Apdu::wants_alone))]
 fn wants_alone(i: u8) -> bool
     ensures { result ≡ wants_alone i }
 {
-    if i == CREATE_FILE {
-        return true;
-    }
-    if i == DELETE_FILE {
-        return true;
-    }
-    is_terminate(i)
+    matches!(i, CREATE_FILE | DELETE_FILE) || is_terminate(i)
 }
 
+#[tactic(auto, unfolding(crate::specs::Apdu::other_channel))]
 fn other_channel(state: State) -> bool
     ensures { result ≡ other_channel state }
 {
@@ -94,34 +70,28 @@ fn other_channel(state: State) -> bool
 }
 
 // Whether another channel stands in the way (step E).
+#[tactic(auto, unfolding(crate::specs::Apdu::crowded))]
 pub fn is_crowded(i: u8, state: State) -> bool
     ensures { result ≡ crowded i state }
 {
-    if !wants_alone(i) {
-        return false;
-    }
-    other_channel(state)
+    wants_alone(i) && other_channel(state)
 }
 
 // Whether SELECT's P2 asks for the template.
+#[tactic(auto, unfolding(crate::specs::Apdu::wants_template))]
 pub fn wants_template(command: &[u8]) -> bool
     ensures { result ≡ wants_template command.now }
 {
-    if command.len() < 4 {
-        return false;
-    }
-    command[3] == 0x04
+    4 <= command.len() && command[3] == 0x04
 }
 
 // P1 P2, as one number, as the instruction wants them.
+#[tactic(auto, unfolding(crate::specs::Apdu::good_parameters))]
 fn good_parameters(i: u8, p: u16) -> bool
     ensures { result ≡ good_parameters i p }
 {
     if i == SELECT_FILE {
-        if p == 0x000C {
-            return true;
-        }
-        return p == 0x0004;
+        return matches!(p, 0x000C | 0x0004);
     }
     if bodies::is_binary(i) {
         return p < 0x8000;
@@ -132,6 +102,7 @@ fn good_parameters(i: u8, p: u16) -> bool
     p == 0x0000
 }
 
+#[tactic(auto, unfolding(crate::specs::Apdu::fit_parameters))]
 pub fn fit_parameters(command: &[u8]) -> bool
     requires { 4 ≤ length command.now }
     ensures { result ≡ fit_parameters command.now }
@@ -140,29 +111,23 @@ pub fn fit_parameters(command: &[u8]) -> bool
 }
 
 // Seven bytes with Lc 2: SELECT and DELETE.
+#[tactic(auto, unfolding(crate::specs::Apdu::is_seven))]
 fn is_seven(command: &[u8]) -> bool
     ensures { result ≡ is_seven command.now }
 {
-    if command.len() != 7 {
-        return false;
-    }
-    command[4] == 2
+    command.len() == 7 && command[4] == 2
 }
 
 // Eight bytes with Lc 2 and Le 00: SELECT that asks for the template.
+#[tactic(auto, unfolding(crate::specs::Apdu::is_eight))]
 fn is_eight(command: &[u8]) -> bool
     ensures { result ≡ is_eight command.now }
 {
-    if command.len() != 8 {
-        return false;
-    }
-    if command[4] != 2 {
-        return false;
-    }
-    command[7] == 0x00
+    command.len() == 8 && command[4] == 2 && command[7] == 0x00
 }
 
 // Five bytes: READ.
+#[tactic(auto, unfolding(crate::specs::Apdu::is_five))]
 fn is_five(command: &[u8]) -> bool
     ensures { result ≡ is_five command.now }
 {
@@ -170,13 +135,11 @@ fn is_five(command: &[u8]) -> bool
 }
 
 // 5 + Lc bytes with Lc at least 1: CREATE, UPDATE.
+#[tactic(auto, unfolding(crate::specs::Apdu::has_data))]
 fn has_data(command: &[u8]) -> bool
     ensures { result ≡ has_data command.now }
 {
-    if command.len() < 6 {
-        return false;
-    }
-    command.len() == 5 + (numbers::wide(command[4]) as usize)
+    6 <= command.len() && command.len() == 5 + usize::from(command[4])
 }
 
 // As long as SELECT's P2 wants it.
@@ -185,41 +148,32 @@ fn select_length(command: &[u8]) -> bool
     ensures { result ≡ cond (wants_template command.now) (is_eight command.now) (is_seven command.now) }
 {
     if wants_template(command) {
-        return is_eight(command);
+        is_eight(command)
+    } else {
+        is_seven(command)
     }
-    is_seven(command)
 }
 
+#[tactic(auto, unfolding(crate::specs::Apdu::fit_length))]
 pub fn fit_length(command: &[u8]) -> bool
     requires { 4 ≤ length command.now }
     ensures { result ≡ fit_length command.now }
 {
-    let i = command[1];
-    if i == CREATE_FILE {
-        return has_data(command);
+    match command[1] {
+        CREATE_FILE => has_data(command),
+        i if bodies::is_update(i) => has_data(command),
+        i if bodies::is_read(i) => is_five(command),
+        SELECT_FILE => select_length(command),
+        DELETE_FILE => is_seven(command),
+        _ => command.len() == 4,
     }
-    if bodies::is_update(i) {
-        return has_data(command);
-    }
-    if bodies::is_read(i) {
-        return is_five(command);
-    }
-    if i == SELECT_FILE {
-        return select_length(command);
-    }
-    if i == DELETE_FILE {
-        return is_seven(command);
-    }
-    command.len() == 4
 }
 
+#[tactic(auto, unfolding(crate::specs::Apdu::on_other_channel))]
 pub fn on_other_channel(class: u8) -> bool
     ensures { result ≡ on_other_channel class }
 {
-    if class < 1 {
-        return false;
-    }
-    class <= 3
+    matches!(class, 1..=3)
 }
 
 // The identifier that SELECT and DELETE send.

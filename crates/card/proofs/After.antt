@@ -8,6 +8,7 @@ use native.Mathlib.Omega.{arith}
 use lib.Dec.{eqb}
 use lib.ListN.{length, get_or}
 use borrow.Author.Tests.{eq-eqb, ne_eqb}
+use Rattle.std.specs.Prelude.{Ok, Err}
 use Rattle.laws.proofs.Says.{same_or}
 use Rattle.laws.proofs.Splices.{get_or-part}
 use Rattle.image.specs.declared.Head.{Head}
@@ -23,9 +24,8 @@ use Rattle.sound.specs.Effects.{Creates, clear_below, made, new_bytes, other_rec
 use Rattle.sound.proofs.Front.{sound-sized, sound-within}
 use Rattle.sound.proofs.Cleared.{header-clear, record_clear}
 use Rattle.sound.proofs.Made.{record_made, other-made, front_made, byte_made, df-made, ef-made}
-use Rattle.verdict.specs.declared.Verdict.{Verdict}
-use Rattle.verdict.specs.declared.Verdict.TheVariants.{Refuse, Select, Create, Delete, SetLife, Read, Update}
-use Rattle.verdict.specs.Applied.{applied_of}
+use Rattle.verdict.specs.declared.Effect.TheVariants.{Select, Create, Delete, SetLife, Read, Update}
+use Rattle.verdict.specs.Applied.{Verdict, applied_of}
 use Rattle.card.specs.After.{record_after, current_after, df_after, ef_after}
 use Rattle.card.proofs.Tells.{Tells}
 
@@ -56,7 +56,7 @@ module _ (img c : List ℕ) (sound : Sound img) where
     unfolding deleted
     deleted_front = front_trans img _ _ (same_front img _ cleared) (front_current _ _ _ cleared_long)
 
-    deleted_record : (t : ℕ) → t < count_of img → rec_at (deleted img d) t ≡ record_after img c (Delete d) t
+    deleted_record : (t : ℕ) → t < count_of img → rec_at (deleted img d) t ≡ record_after img c (Ok (Delete d)) t
     unfolding deleted
     deleted_record t l =
         record_current _ _ _ cleared_long t (omega (arith, cleared.long, (within t l).0))
@@ -64,60 +64,60 @@ module _ (img c : List ℕ) (sound : Sound img) where
 
   -- a life cycle
   lived_record :
-      (s life : ℕ) → s < count_of img → (t : ℕ) → t < count_of img → rec_at (set_life img s life) t ≡ record_after img c (SetLife s life) t
+      (s life : ℕ) → s < count_of img → (t : ℕ) → t < count_of img → rec_at (set_life img s life) t ≡ record_after img c (Ok (SetLife s life)) t
   lived_record s life low t l = ⊎_elim
       (λ e. ap (λ (x : ℕ). rec_at (set_life img s life) x) e ∙ life-same img s life (within s low) ∙ sym (rw (eq-eqb t s e, e)))
       (λ z. life-other img s life (within s low) t (within t l) z ∙ sym (rw (ne_eqb t s z)))
       (same_or t s)
 
   pub records-after : (v : Verdict) → Tells img c v → (t : ℕ) → t < count_of img → rec_at (applied_of img c v) t ≡ record_after img c v t
-  records-after (Refuse w) k t l = refl
-  records-after (Select d e w) k t l = record_current img d e header-long t (within t l).0
-  records-after (Create x) k t l = made_record x.slot x.head _ _ k.1 t l
-  records-after (Delete s) k t l = deleted_record s t l
-  records-after (SetLife s life) k t l = lived_record s life k.0.low t l
-  records-after (Read at n) k t l = refl
-  records-after (Update at) k t l = refl
+  records-after (Err w) k t l = refl
+  records-after (Ok (Select d e w)) k t l = record_current img d e header-long t (within t l).0
+  records-after (Ok (Create x)) k t l = made_record x.slot x.head _ _ k.1 t l
+  records-after (Ok (Delete s)) k t l = deleted_record s t l
+  records-after (Ok (SetLife s life)) k t l = lived_record s life k.0.low t l
+  records-after (Ok (Read at n)) k t l = refl
+  records-after (Ok (Update at)) k t l = refl
 
   -- mark, version, slot count, zeros and the length are as they were
   pub front_after : (v : Verdict) → Tells img c v → SameFront img (applied_of img c v)
-  front_after (Refuse w) k = front_refl img
-  front_after (Select d e w) k = front_current img d e header-long
-  front_after (Create x) k = front_made img x.slot x.head _ _ sound k.1
-  front_after (Delete s) k = deleted_front s
-  front_after (SetLife s life) k = same_front img _ (header-life img s life (within s k.0.low))
-  front_after (Read at n) k = front_refl img
-  front_after (Update at) k = front_refl img
+  front_after (Err w) k = front_refl img
+  front_after (Ok (Select d e w)) k = front_current img d e header-long
+  front_after (Ok (Create x)) k = front_made img x.slot x.head _ _ sound k.1
+  front_after (Ok (Delete s)) k = deleted_front s
+  front_after (Ok (SetLife s life)) k = same_front img _ (header-life img s life (within s k.0.low))
+  front_after (Ok (Read at n)) k = front_refl img
+  front_after (Ok (Update at)) k = front_refl img
 
   -- the four bytes that tell what is current
   pub current-after : (v : Verdict) → Tells img c v → (k : ℕ) → k < 4 → get_or (applied_of img c v) (7 + k) 0 ≡ get_or (current_after img v) k 0
   unfolding deleted
-  current-after (Refuse w) t k l = sym (get_or-part img 7 4 k l)
-  current-after (Select d e w) t k l = current_byte img d e header-long k l
-  current-after (Create x) t k l = byte_made img x.slot x.head _ _ sound t.1 k l
-  current-after (Delete s) t k l = current_byte _ _ _ (cleared_long s) k l
-  current-after (SetLife s life) t k l =
+  current-after (Err w) t k l = sym (get_or-part img 7 4 k l)
+  current-after (Ok (Select d e w)) t k l = current_byte img d e header-long k l
+  current-after (Ok (Create x)) t k l = byte_made img x.slot x.head _ _ sound t.1 k l
+  current-after (Ok (Delete s)) t k l = current_byte _ _ _ (cleared_long s) k l
+  current-after (Ok (SetLife s life)) t k l =
       (header-life img s life (within s t.0.low)).bytes (7 + k) (omega arith) ∙ sym (get_or-part img 7 4 k l)
-  current-after (Read at n) t k l = sym (get_or-part img 7 4 k l)
-  current-after (Update at) t k l = sym (get_or-part img 7 4 k l)
+  current-after (Ok (Read at n)) t k l = sym (get_or-part img 7 4 k l)
+  current-after (Ok (Update at)) t k l = sym (get_or-part img 7 4 k l)
 
   -- the current DF and the current EF
   pub df-after : (v : Verdict) → Tells img c v → current_df_of (applied_of img c v) ≡ df_after img v
   unfolding deleted
-  df-after (Refuse w) k = refl
-  df-after (Select d e w) k = df-current img d e header-long
-  df-after (Create x) k = df-made img x.slot x.head _ _ sound k.1
-  df-after (Delete s) k = df-current _ _ _ (cleared_long s)
-  df-after (SetLife s life) k = same-df img _ (header-life img s life (within s k.0.low))
-  df-after (Read at n) k = refl
-  df-after (Update at) k = refl
+  df-after (Err w) k = refl
+  df-after (Ok (Select d e w)) k = df-current img d e header-long
+  df-after (Ok (Create x)) k = df-made img x.slot x.head _ _ sound k.1
+  df-after (Ok (Delete s)) k = df-current _ _ _ (cleared_long s)
+  df-after (Ok (SetLife s life)) k = same-df img _ (header-life img s life (within s k.0.low))
+  df-after (Ok (Read at n)) k = refl
+  df-after (Ok (Update at)) k = refl
 
   pub ef-after : (v : Verdict) → Tells img c v → current_ef_of (applied_of img c v) ≡ ef_after img v
   unfolding deleted
-  ef-after (Refuse w) k = refl
-  ef-after (Select d e w) k = ef-current img d e header-long
-  ef-after (Create x) k = ef-made img x.slot x.head _ _ sound k.1
-  ef-after (Delete s) k = ef-current _ _ _ (cleared_long s)
-  ef-after (SetLife s life) k = same-ef img _ (header-life img s life (within s k.0.low))
-  ef-after (Read at n) k = refl
-  ef-after (Update at) k = refl
+  ef-after (Err w) k = refl
+  ef-after (Ok (Select d e w)) k = ef-current img d e header-long
+  ef-after (Ok (Create x)) k = ef-made img x.slot x.head _ _ sound k.1
+  ef-after (Ok (Delete s)) k = ef-current _ _ _ (cleared_long s)
+  ef-after (Ok (SetLife s life)) k = same-ef img _ (header-life img s life (within s k.0.low))
+  ef-after (Ok (Read at n)) k = refl
+  ef-after (Ok (Update at)) k = refl

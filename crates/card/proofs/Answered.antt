@@ -9,6 +9,7 @@ use native.Mathlib.Omega.{arith}
 use lib.Dec.{leb}
 use lib.ListN.{length}
 use borrow.Author.Tests.{eqb-true, leb-true}
+use Rattle.std.specs.Prelude.{Err, Ok}
 use Rattle.laws.proofs.Says.{untrue}
 use Rattle.image.specs.Layout.{has_bodies, version_of}
 use Rattle.laws.specs.Lists.{splice}
@@ -17,17 +18,17 @@ use Rattle.laws.proofs.Splices.{splice-nil, length-splice, get_or-splice_above}
 use Rattle.sound.specs.Sound.{Sound, soundb}
 use Rattle.sound.proofs.Says.{sound-says}
 use Rattle.verdict.specs.declared.State.{State}
-use Rattle.verdict.specs.declared.Verdict.{Verdict}
-use Rattle.verdict.specs.declared.Verdict.TheVariants.{Refuse, Select, Create, Delete, SetLife, Read, Update}
-use Rattle.verdict.specs.Applied.{word_of, applied_of, pooled_of}
+use Rattle.verdict.specs.declared.Effect.TheVariants.{Select, Create, Delete, SetLife, Read, Update}
+use Rattle.verdict.specs.Applied.{Verdict, word_of, applied_of, pooled_of}
 use Rattle.apdu.specs.Apdu.{instruction}
 use Rattle.rules.specs.declared.Sets.{Sets}
 use Rattle.access.specs.Decision.{decision_number}
 use Rattle.judge_security.specs.Security.{denial_of}
 use Rattle.judge.specs.Judge.{judge_of}
 use Rattle.effect.specs.Told.{told}
-use Rattle.card.specs.declared.Reply.{Reply}
-use Rattle.card.specs.declared.Reply.TheVariants.{Word, Short, WrongPool}
+use Rattle.card.specs.declared.CardError.TheVariants.{WrongPool}
+use Rattle.card.specs.declared.CommandError.TheVariants.{Card, Short}
+use Rattle.card.specs.Command.{Reply, with_word}
 use Rattle.card.specs.Command.{answer_number, answer_word, answer_told, answer_security, pool_fits, fits, due_of, reply_of, image_of, pool_of}
 use Rattle.card.specs.Command.{response_of, CommandPromises}
 use Rattle.card.specs.Obeyed.{is_one_of}
@@ -47,7 +48,7 @@ damaged-refused img pool c st response e = rw e (refl, refl, record { image = rw
 
 -- on a sound image, a pool of a wrong length
 wrong-refused : (img pool c : List ℕ) (st : State) (response : List ℕ) → soundb img ≡ true → pool_fits img pool ≡ false
-    → (reply_of img pool c st (length response) ≡ WrongPool) × AllStays img pool c st response
+    → (reply_of img pool c st (length response) ≡ Err (Card WrongPool)) × AllStays img pool c st response
 unfolding reply_of image_of pool_of response_of
 wrong-refused img pool c st response e q =
     let d = due_wrong img pool c st (length response) q in (
@@ -67,8 +68,8 @@ wrong-pool-refused img pool c st response e = (
   (λ k h. go (fits img pool c st (length response)) (rw (e, (pool-says img pool).1 k) at h)),
 )
   where
-    go : (b : Bool) → answer_number (cond b (Word (word_of (due_of img pool c st (length response))) (length (told img pool c (due_of img pool c st (length response))))
-        (denial_of img pool c st.sets (due_of img pool c st (length response)))) Short) ≡ 6 → ⊥
+    go : (b : Bool) → answer_number (cond b (with_word (word_of (due_of img pool c st (length response))) (length (told img pool c (due_of img pool c st (length response))))
+        (denial_of img pool c st.sets (due_of img pool c st (length response)))) (Err Short)) ≡ 6 → ⊥
     go true h = omega arith
     go false h = omega arith
 
@@ -103,7 +104,7 @@ damaged_tells img pool c st lent e = rw e
 -- what the verdict that stands answers, by the two checks
 abbrev pub said : List ℕ → List ℕ → List ℕ → Sets → Verdict → Bool → Bool → Reply
 said img pool c x due whole fit =
-    cond whole (cond fit (Word (word_of due) (length (told img pool c due)) (denial_of img pool c x due)) Short) WrongPool
+    cond whole (cond fit (with_word (word_of due) (length (told img pool c due)) (denial_of img pool c x due)) (Err Short)) (Err (Card WrongPool))
 
 -- on a sound image
 module _ (img pool c : List ℕ) (st : State) (lent : ℕ) (sound : Sound img) where
@@ -157,13 +158,13 @@ response_is img pool c st response sound = rw ((sound-says img).1 sound)
 -- a verdict whose word is no success leaves the image, and tells nothing
 leaves : (img pool c : List ℕ) (v : Verdict) → Spoken v → (Succeeds (word_of v) → ⊥)
     → (applied_of img c v ≡ img) × (pooled_of img pool c v ≡ pool) × (told img pool c v ≡ [])
-leaves img pool c (Refuse w) s z = (refl, refl, refl)
-leaves img pool c (Select d e w) s z = absurd (z s)
-leaves img pool c (Create x) s z = absurd (z (inl refl))
-leaves img pool c (Delete x) s z = absurd (z (inl refl))
-leaves img pool c (SetLife x life) s z = absurd (z (inl refl))
-leaves img pool c (Read at n) s z = absurd (z (inl refl))
-leaves img pool c (Update at) s z = absurd (z (inl refl))
+leaves img pool c (Err w) s z = (refl, refl, refl)
+leaves img pool c (Ok (Select d e w)) s z = absurd (z s)
+leaves img pool c (Ok (Create x)) s z = absurd (z (inl refl))
+leaves img pool c (Ok (Delete x)) s z = absurd (z (inl refl))
+leaves img pool c (Ok (SetLife x life)) s z = absurd (z (inl refl))
+leaves img pool c (Ok (Read at n)) s z = absurd (z (inl refl))
+leaves img pool c (Ok (Update at)) s z = absurd (z (inl refl))
 
 pub other_words_leave : OtherWordsLeave
 other_words_leave img pool c st response z = go (soundb img) refl
@@ -205,7 +206,7 @@ only-these_words img pool c st lent e = go (pool_fits img pool) (fits img pool c
 
     go : (a b : Bool) → pool_fits img pool ≡ a → fits img pool c st lent ≡ b
         → ((answer_number (reply_of img pool c st lent) ≡ 0) × (is_one_of (answer_word (reply_of img pool c st lent)) words_of_table ≡ true))
-        ⊎ ((reply_of img pool c st lent ≡ Short) ⊎ (reply_of img pool c st lent ≡ WrongPool))
+        ⊎ ((reply_of img pool c st lent ≡ Err Short) ⊎ (reply_of img pool c st lent ≡ Err (Card WrongPool)))
     go true true p q = inl (
       ap answer_number (reply_is img pool c st lent sound) ∙ rw (p, q),
       rw (word_is img pool c st lent sound, due_fit img pool c st lent ((pool-says img pool).0 p) q) (judge_worded img pool c st),

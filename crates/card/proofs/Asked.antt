@@ -12,13 +12,15 @@ use Rattle.numbers.specs.Numbers.{u16_at}
 use Rattle.rules.specs.declared.Sets.{Sets}
 use Rattle.rules.specs.declared.Right.TheVariants.{DeleteSelf, DeleteChild}
 use Rattle.rules.specs.Life.{life_of, terminated, deactivated}
+use Rattle.rules.proofs.Lives.{same-says}
 use Rattle.image.specs.Layout.{count_of}
 use Rattle.sound.specs.Table.{view_at}
 use Rattle.sound.specs.Kinship.{terminated_at, terminated_up, identifier_free}
 use Rattle.sound.proofs.Climbing.{upward-says}
 use Rattle.sound.proofs.Created.{identifier-says}
 use Rattle.create_data.specs.declared.Data.{Data}
-use Rattle.create_data.specs.declared.Data.TheVariants.{Df, Ef, Bad}
+use Rattle.std.specs.Prelude.{Option, Some, None}
+use Rattle.create_data.specs.declared.Data.TheVariants.{Df, Ef}
 use Rattle.create_data.specs.Data.{data_of}
 use Rattle.create_data.specs.Grammar.{DfData, EfData}
 use Rattle.create_data.proofs.Grammar.{data_exactly}
@@ -43,21 +45,21 @@ channel_says k = simp says ((λ h. h), (λ h. h))
 -- D
 pub alive_says : (img : List ℕ) (s : ℕ) → (not (terminated_at img s) ≡ true) ↔ (life_of (life_at img s) ≡ terminated → ⊥)
 unfolding terminated_at
-alive_says img s = simp says ((λ h. h), (λ h. h))
+alive_says img s = simp (says, same-says) ((λ h. h), (λ h. h))
 
 -- K: the file and the directories above it
 pub none-says : (img : List ℕ) (s : ℕ) → (not (terminated_up img s) ≡ true) ↔ NoneTerminated img s
 unfolding terminated_up terminated_at
 none-says img s = (
-  (λ h k l e. (upward-says (view_at img) (terminated_at img) (suc (view_at img s).level) s).0 h k (omega arith) ((eq-says _ _).1 e)),
-  (λ f. (upward-says (view_at img) (terminated_at img) (suc (view_at img s).level) s).1 (λ k l e. f k (omega arith) ((eq-says _ _).0 e))),
+  (λ h k l e. (upward-says (view_at img) (terminated_at img) (suc (view_at img s).level) s).0 h k (omega arith) ((same-says _ _).1 e)),
+  (λ f. (upward-says (view_at img) (terminated_at img) (suc (view_at img s).level) s).1 (λ k l e. f k (omega arith) ((same-says _ _).0 e))),
 )
 
 pub takes-says : (img : List ℕ) (d : ℕ) → (takes_files img d ≡ true) ↔ ((life_of (life_at img d) ≡ deactivated → ⊥) × NoneTerminated img d)
 unfolding takes_files
 takes-says img d = (
-  (λ h. let p = (and-says _ _).0 h in ((λ e. (not-says _).0 p.0 ((eq-says _ _).1 e)), (none-says img d).0 p.1)),
-  (λ f. (and-says _ _).1 ((not-says _).1 (λ e. f.0 ((eq-says _ _).0 e)), (none-says img d).1 f.1)),
+  (λ h. let p = (and-says _ _).0 h in ((λ e. (not-says _).0 p.0 ((same-says _ _).1 e)), (none-says img d).0 p.1)),
+  (λ f. (and-says _ _).1 ((not-says _).1 (λ e. f.0 ((same-says _ _).0 e)), (none-says img d).1 f.1)),
 )
 
 -- J of DELETE
@@ -179,10 +181,10 @@ unfolding fit_length
 four-says c i e p q r b = rw (e, p, q, r, b.read, b.update) (eq-says _ _)
 
 -- H: data that are good describe a file
-good-file : (new : Data) → (describes new ≡ true) ↔ (new ≡ Bad → ⊥)
-good-file Bad = ((λ e. absurd (false≢true e)), (λ f. absurd (f refl)))
-good-file (Df x) = ((λ e q. false≢true (sym (ap describes q))), (λ f. refl))
-good-file (Ef x) = ((λ e q. false≢true (sym (ap describes q))), (λ f. refl))
+good-file : (new : Option Data) → (describes new ≡ true) ↔ (new ≡ None → ⊥)
+good-file None = ((λ e. absurd (false≢true e)), (λ f. absurd (f refl)))
+good-file (Some (Df x)) = ((λ e q. false≢true (sym (ap describes q))), (λ f. refl))
+good-file (Some (Ef x)) = ((λ e q. false≢true (sym (ap describes q))), (λ f. refl))
 
 pub file-says : (v : ℕ) (s : List ℕ) → (describes (data_of v s) ≡ true) ↔ (DfData v s ⊎ EfData v s)
 file-says v s = (

@@ -8,8 +8,7 @@ use native.Mathlib.Omega.{arith}
 use lib.Dec.{eqb}
 use lib.ListN.{length, replicate}
 use borrow.Author.Tests.{eq-eqb, ne_eqb}
-use Rattle.laws.specs.declared.Found.{Found}
-use Rattle.laws.specs.declared.Found.TheVariants.{At, Nothing}
+use Rattle.std.specs.Prelude.{Option, Some, None, Ok, Err}
 use Rattle.laws.specs.Lists.{part, splice}
 use Rattle.laws.proofs.Says.{same_or, lt-or}
 use Rattle.image.specs.declared.Head.{Head}
@@ -39,9 +38,8 @@ use Rattle.sound.proofs.Created.{slot-free}
 use Rattle.sound.proofs.MovedDown.{kept_record_lem}
 use Rattle.sound.proofs.Fitting.{body-fits}
 use Rattle.sound.proofs.Made.{front_made, record_made, other-made, place_inside, place-clear, version_ready}
-use Rattle.verdict.specs.declared.Verdict.{Verdict}
-use Rattle.verdict.specs.declared.Verdict.TheVariants.{Refuse, Select, Create, Delete, SetLife, Read, Update}
-use Rattle.verdict.specs.Applied.{sent_data, applied_of, pooled_of}
+use Rattle.verdict.specs.declared.Effect.TheVariants.{Select, Create, Delete, SetLife, Read, Update}
+use Rattle.verdict.specs.Applied.{Verdict, sent_data, applied_of, pooled_of}
 use Rattle.card.specs.Touching.{place_of}
 use Rattle.card.specs.Command.{PoolFits}
 use Rattle.card.specs.After.{record_after}
@@ -104,11 +102,11 @@ module _ (img pool c : List ℕ) (sound : Sound img) (fit : PoolFits img pool) w
       go false = record { start = refl; body = refl }
 
   -- moved down or not, each body reads the same before the new one is written
-  ready_reads : (g : Found) (t : ℕ) → t < count_of img
+  ready_reads : (g : Option ℕ) (t : ℕ) → t < count_of img
       → part (place_pool g (count_of img) img pool) (start_at (place_image g (count_of img) img) t) (body_at (place_image g (count_of img) img) t)
       ≡ part pool (start_at img t) (body_at img t)
-  ready_reads (At p) t l = refl
-  ready_reads Nothing t l = go (lt-or 0 (body_at img t))
+  ready_reads (Some p) t l = refl
+  ready_reads None t l = go (lt-or 0 (body_at img t))
     where
       size : body_at (packed_image (count_of img) img) t ≡ body_at img t
       size = after-size (count_of img) img pool (sound-sized img sound) laid t l
@@ -123,9 +121,9 @@ module _ (img pool c : List ℕ) (sound : Sound img) (fit : PoolFits img pool) w
       go (inl x) = after-reads (count_of img) img pool (sound-sized img sound) laid t l x
       go (inr x) = rw size (empty _ _ _ _ (body_at img t) (omega arith))
 
-  pub ready_long : (g : Found) → length (place_pool g (count_of img) img pool) ≡ length pool
-  ready_long (At p) = refl
-  ready_long Nothing = length-pool (count_of img) (start_at img) (body_at img) pool laid
+  pub ready_long : (g : Option ℕ) → length (place_pool g (count_of img) img pool) ≡ length pool
+  ready_long (Some p) = refl
+  ready_long None = length-pool (count_of img) (start_at img) (body_at img) pool laid
 
   -- CREATE of a file in slot s
   module _ (s : ℕ) (h : Head) (name rule : List ℕ) (k : Creates img s h name rule) where
@@ -234,49 +232,49 @@ module _ (img pool c : List ℕ) (sound : Sound img) (fit : PoolFits img pool) w
 
   -- the file in slot s is the one that the verdict updates
   abbrev pub Updates : Verdict → ℕ → Type 0
-  Updates (Refuse w) s = ⊥
-  Updates (Select d e w) s = ⊥
-  Updates (Create x) s = ⊥
-  Updates (Delete x) s = ⊥
-  Updates (SetLife x life) s = ⊥
-  Updates (Read at n) s = ⊥
-  Updates (Update at) s = current_ef_of img ≡ s
+  Updates (Err w) s = ⊥
+  Updates (Ok (Select d e w)) s = ⊥
+  Updates (Ok (Create x)) s = ⊥
+  Updates (Ok (Delete x)) s = ⊥
+  Updates (Ok (SetLife x life)) s = ⊥
+  Updates (Ok (Read at n)) s = ⊥
+  Updates (Ok (Update at)) s = current_ef_of img ≡ s
 
   -- under one verdict: a file that lives on and is not updated reads the same
   pub verdict_reads : (v : Verdict) → Tells img c v → (s : ℕ) → s < count_of img → (kind_of (rec_at img s) ≡ 0 → ⊥)
       → (kind_of (rec_at (applied_of img c v) s) ≡ 0 → ⊥) → (Updates v s → ⊥)
       → body_bytes (applied_of img c v) (pooled_of img pool c v) s ≡ body_bytes img pool s
-  verdict_reads (Refuse w) t s l used lives other = refl
-  verdict_reads (Read at n) t s l used lives other = refl
-  verdict_reads (Select d e w) t s l used lives other =
-      let r = records-after img c sound (Select d e w) t s l in
-      let i = by_record (applied_of img c (Select d e w)) s (same_version img _ (front_after img c sound (Select d e w) t))
+  verdict_reads (Err w) t s l used lives other = refl
+  verdict_reads (Ok (Read at n)) t s l used lives other = refl
+  verdict_reads (Ok (Select d e w)) t s l used lives other =
+      let r = records-after img c sound (Ok (Select d e w)) t s l in
+      let i = by_record (applied_of img c (Ok (Select d e w))) s (same_version img _ (front_after img c sound (Ok (Select d e w)) t))
       (record { start = ap start_of r; body = ap (body_of (version_of img)) r }) in
-      same_bytes img (applied_of img c (Select d e w)) pool s i.0 i.1
-  verdict_reads (SetLife x life) t s l used lives other =
-      let r = records-after img c sound (SetLife x life) t s l in
-      let i = by_record (applied_of img c (SetLife x life)) s (same_version img _ (front_after img c sound (SetLife x life) t))
+      same_bytes img (applied_of img c (Ok (Select d e w))) pool s i.0 i.1
+  verdict_reads (Ok (SetLife x life)) t s l used lives other =
+      let r = records-after img c sound (Ok (SetLife x life)) t s l in
+      let i = by_record (applied_of img c (Ok (SetLife x life))) s (same_version img _ (front_after img c sound (Ok (SetLife x life)) t))
       (rw r (lived s life x l)) in
-      same_bytes img (applied_of img c (SetLife x life)) pool s i.0 i.1
-  verdict_reads (Delete x) t s l used lives other = go (at_or_beneath (view_at img) x s) refl
+      same_bytes img (applied_of img c (Ok (SetLife x life))) pool s i.0 i.1
+  verdict_reads (Ok (Delete x)) t s l used lives other = go (at_or_beneath (view_at img) x s) refl
     where
-      r : rec_at (applied_of img c (Delete x)) s ≡ record_after img c (Delete x) s
-      r = records-after img c sound (Delete x) t s l
+      r : rec_at (applied_of img c (Ok (Delete x))) s ≡ record_after img c (Ok (Delete x)) s
+      r = records-after img c sound (Ok (Delete x)) t s l
 
       go : (b : Bool) → at_or_beneath (view_at img) x s ≡ b
-          → body_bytes (applied_of img c (Delete x)) (pooled_of img pool c (Delete x)) s ≡ body_bytes img pool s
+          → body_bytes (applied_of img c (Ok (Delete x))) (pooled_of img pool c (Ok (Delete x))) s ≡ body_bytes img pool s
       go true e = absurd (lives (ap kind_of (r ∙ rw e) ∙ free-kind))
       go false e =
-          let same : rec_at (applied_of img c (Delete x)) s ≡ rec_at img s = r ∙ rw e in
-          let i = by_record (applied_of img c (Delete x)) s (same_version img _ (front_after img c sound (Delete x) t))
+          let same : rec_at (applied_of img c (Ok (Delete x))) s ≡ rec_at img s = r ∙ rw e in
+          let i = by_record (applied_of img c (Ok (Delete x))) s (same_version img _ (front_after img c sound (Ok (Delete x)) t))
           (record { start = ap start_of same; body = ap (body_of (version_of img)) same }) in
-          same_bytes img (applied_of img c (Delete x)) (pooled_of img pool c (Delete x)) s i.0 i.1
+          same_bytes img (applied_of img c (Ok (Delete x))) (pooled_of img pool c (Ok (Delete x))) s i.0 i.1
           ∙ (unfold body_bytes wiped in
           wiped-reads (count_of img) (start_at img) (body_at img) pool laid (at_or_beneath (view_at img) x) s l e)
-  verdict_reads (Create x) t s l used lives other =
+  verdict_reads (Ok (Create x)) t s l used lives other =
       create-reads x.slot x.head _ _ t.1 s l
       (λ e. used (ap (λ (i : ℕ). kind_of (rec_at img i)) e ∙ slot-free img x.slot x.head _ _ sound t.1))
-  verdict_reads (Update at) t s l used lives other =
+  verdict_reads (Ok (Update at)) t s l used lives other =
       unfold body_bytes in
       rw t.1.here
       (other_updated (count_of img) (start_at img) (body_at img) pool laid (current_ef_of img) (place_of c) (sent_data c)

@@ -8,6 +8,7 @@ use native.Mathlib.Omega.{arith}
 use lib.Dec.{eqb}
 use lib.ListN.{length, replicate}
 use borrow.Author.Tests.{eq-eqb, eqb-true}
+use Rattle.std.specs.Prelude.{Ok, Err}
 use Rattle.laws.specs.Lists.{part, splice}
 use Rattle.laws.proofs.Says.{or-says}
 use Rattle.laws.proofs.Splices.{part-part}
@@ -27,9 +28,8 @@ use Rattle.sound.proofs.Says.{sound-says}
 use Rattle.sound.proofs.Made.{record_made}
 use Rattle.template.specs.Objects.{bytes_at}
 use Rattle.verdict.specs.declared.State.{State}
-use Rattle.verdict.specs.declared.Verdict.{Verdict}
-use Rattle.verdict.specs.declared.Verdict.TheVariants.{Refuse, Select, Create, Delete, SetLife, Read, Update}
-use Rattle.verdict.specs.Applied.{sent_data, word_of, applied_of, pooled_of}
+use Rattle.verdict.specs.declared.Effect.TheVariants.{Select, Create, Delete, SetLife, Read, Update}
+use Rattle.verdict.specs.Applied.{Verdict, sent_data, word_of, applied_of, pooled_of}
 use Rattle.judge_target.specs.Target.{slot_in}
 use Rattle.apdu.specs.Apdu.{instruction, is_body, is_binary, is_record, is_read, asked}
 use Rattle.effect.specs.Told.{told}
@@ -76,13 +76,13 @@ update-instruction c b r = go (eqb (instruction c) 0xB0) (eqb (instruction c) 0x
 module _ (img pool c : List ℕ) (st : State) (lent : ℕ) (sound : Sound img) (fit : PoolFits img pool) where
   updates_call : (v : Verdict) (s : ℕ) → due_of img pool c st lent ≡ v → Ordered img c v → Updates img pool c sound fit v s
       → Updating img pool c st lent s
-  updates_call (Refuse w) s e o u = absurd u
-  updates_call (Select d f w) s e o u = absurd u
-  updates_call (Create x) s e o u = absurd u
-  updates_call (Delete x) s e o u = absurd u
-  updates_call (SetLife x life) s e o u = absurd u
-  updates_call (Read at n) s e o u = absurd u
-  updates_call (Update at) s e o u = record {
+  updates_call (Err w) s e o u = absurd u
+  updates_call (Ok (Select d f w)) s e o u = absurd u
+  updates_call (Ok (Create x)) s e o u = absurd u
+  updates_call (Ok (Delete x)) s e o u = absurd u
+  updates_call (Ok (SetLife x life)) s e o u = absurd u
+  updates_call (Ok (Read at n)) s e o u = absurd u
+  updates_call (Ok (Update at)) s e o u = record {
     update = update-instruction c o.0 o.1;
     answered = word_is img pool c st lent sound ∙ ap word_of e;
     current = u;
@@ -129,13 +129,13 @@ module _ (img pool c : List ℕ) (sound : Sound img) (fit : PoolFits img pool) (
 
   updated : (v : Verdict) → Tells img c v → Ordered img c v → Spoken v → word_of v ≡ 0x9000
       → body_bytes (applied_of img c v) (pooled_of img pool c v) s ≡ splice (body_bytes img pool s) (place_of c) (sent_data c)
-  updated (Refuse w) t o p e = absurd (p (inl e))
-  updated (Select d f w) t o p e = absurd (no_other 0xA4 refl o)
-  updated (Create x) t o p e = absurd (no_other 0xE0 refl o.0)
-  updated (Delete x) t o p e = absurd (no_other 0xE4 refl o.0)
-  updated (SetLife x life) t o p e = absurd (false≢true (sym o.3 ∙ is_body_lem))
-  updated (Read at m) t o p e = absurd (no_read o.1)
-  updated (Update at) t o p e =
+  updated (Err w) t o p e = absurd (p (inl e))
+  updated (Ok (Select d f w)) t o p e = absurd (no_other 0xA4 refl o)
+  updated (Ok (Create x)) t o p e = absurd (no_other 0xE0 refl o.0)
+  updated (Ok (Delete x)) t o p e = absurd (no_other 0xE4 refl o.0)
+  updated (Ok (SetLife x life)) t o p e = absurd (false≢true (sym o.3 ∙ is_body_lem))
+  updated (Ok (Read at m)) t o p e = absurd (no_read o.1)
+  updated (Ok (Update at)) t o p e =
       unfold body_bytes in
       rw (← current, t.1.here)
       (body_updated (count_of img) (start_at img) (body_at img) pool (lies img pool sound fit) (current_ef_of img) (place_of c) (sent_data c)
@@ -159,13 +159,13 @@ module _ (img pool c : List ℕ) (sound : Sound img) (fit : PoolFits img pool) (
       → let s : ℕ = slot_in (free_slot (count_of img) (view_at img)) in
       kind_of (rec_at (applied_of img c v) s) ≡ ef
       → body_bytes (applied_of img c v) (pooled_of img pool c v) s ≡ replicate (size_of (rec_at (applied_of img c v) s)) 0xFF
-  filled_new (Refuse w) t o p e k = absurd (p (inl e))
-  filled_new (Select d f w) t o p e k = absurd (omega (arith, create, o))
-  filled_new (Delete x) t o p e k = absurd (omega (arith, create, o.0))
-  filled_new (SetLife x life) t o p e k = absurd (o.0 create)
-  filled_new (Read at n) t o p e k = absurd (false≢true (sym no_body ∙ o.0))
-  filled_new (Update at) t o p e k = absurd (false≢true (sym no_body ∙ o.0))
-  filled_new (Create x) t o p e k =
+  filled_new (Err w) t o p e k = absurd (p (inl e))
+  filled_new (Ok (Select d f w)) t o p e k = absurd (omega (arith, create, o))
+  filled_new (Ok (Delete x)) t o p e k = absurd (omega (arith, create, o.0))
+  filled_new (Ok (SetLife x life)) t o p e k = absurd (o.0 create)
+  filled_new (Ok (Read at n)) t o p e k = absurd (false≢true (sym no_body ∙ o.0))
+  filled_new (Ok (Update at)) t o p e k = absurd (false≢true (sym no_body ∙ o.0))
+  filled_new (Ok (Create x)) t o p e k =
       rw (← o.1) (new_ff img pool c sound fit x.slot x.head _ _ t.1 some
       ∙ ap (λ (n : ℕ). replicate n 0xFF) (sym size_new))
     where
@@ -207,13 +207,13 @@ module _ (img pool c : List ℕ) (sound : Sound img) (fit : PoolFits img pool) (
 
   tells_body : (v : Verdict) → Tells img c v → Ordered img c v → Spoken v → word_of v ≡ 0x9000
       → told img pool c v ≡ part (body_bytes img pool (current_ef_of img)) (place_of c) (asked c)
-  tells_body (Refuse w) t o p e = absurd (p (inl e))
-  tells_body (Select d f w) t o p e = absurd (read_only 0xA4 refl o)
-  tells_body (Create x) t o p e = absurd (read_only 0xE0 refl o.0)
-  tells_body (Delete x) t o p e = absurd (read_only 0xE4 refl o.0)
-  tells_body (SetLife x life) t o p e = absurd (false≢true (sym o.3 ∙ does_read.1))
-  tells_body (Update at) t o p e = absurd (false≢true (sym o.1 ∙ does_read.0))
-  tells_body (Read at n) t o p e =
+  tells_body (Err w) t o p e = absurd (p (inl e))
+  tells_body (Ok (Select d f w)) t o p e = absurd (read_only 0xA4 refl o)
+  tells_body (Ok (Create x)) t o p e = absurd (read_only 0xE0 refl o.0)
+  tells_body (Ok (Delete x)) t o p e = absurd (read_only 0xE4 refl o.0)
+  tells_body (Ok (SetLife x life)) t o p e = absurd (false≢true (sym o.3 ∙ does_read.1))
+  tells_body (Ok (Update at)) t o p e = absurd (false≢true (sym o.1 ∙ does_read.0))
+  tells_body (Ok (Read at n)) t o p e =
       let inside = (lies img pool sound fit).inside (current_ef_of img) (sound.current.ef-low t.0.some) t.0.body in
       rw (t.0.here, t.1)
       (unfold body_bytes in sym (part-part pool (start_at img (current_ef_of img)) (body_at img (current_ef_of img)) (place_of c) (asked c) inside

@@ -8,8 +8,7 @@ use native.Mathlib.Omega.{arith}
 use lib.Dec.{eqb, leb, ltb}
 use lib.ListN.{length}
 use borrow.Author.Tests.{eqb-true, ne_eqb, le-leb, ltb-true}
-use Rattle.laws.specs.declared.Found.{Found}
-use Rattle.laws.specs.declared.Found.TheVariants.{At, Nothing}
+use Rattle.std.specs.Prelude.{Option, Some, None, Err, Ok}
 use Rattle.laws.specs.Lists.{splice}
 use Rattle.laws.proofs.Says.{and-says}
 use Rattle.laws.proofs.Splices.{splice-nil}
@@ -28,16 +27,16 @@ use Rattle.sound.specs.Kinship.{terminated_at, at_or_beneath, free_slot}
 use Rattle.sound.specs.Effects.{new_body, new_gap, kept_record, other_record, Creates}
 use Rattle.sound.proofs.Front.{sound-within}
 use Rattle.verdict.specs.declared.State.{State}
-use Rattle.verdict.specs.declared.Verdict.{Verdict}
-use Rattle.verdict.specs.declared.Verdict.TheVariants.{Refuse, Select, Create, Delete, SetLife, Read, Update}
-use Rattle.verdict.specs.Applied.{word_of, applied_of, pooled_of}
+use Rattle.verdict.specs.declared.Effect.TheVariants.{Select, Create, Delete, SetLife, Read, Update}
+use Rattle.verdict.specs.Applied.{Verdict, word_of, applied_of, pooled_of}
 use Rattle.judge_target.specs.Steps.{Step, judged, all_hold, followed}
 use Rattle.access.specs.declared.Decision.TheVariants.{Granted}
 use Rattle.judge.specs.Shared.{shared_steps}
 use Rattle.judge.specs.Judge.{plan_for, judge_for, judge_of}
 use Rattle.judge_security.specs.Security.{denial_of}
 use Rattle.effect.specs.Told.{told}
-use Rattle.card.specs.declared.Reply.TheVariants.{Word, Short}
+use Rattle.card.specs.declared.CommandError.TheVariants.{Short}
+use Rattle.card.specs.Command.{with_word}
 use Rattle.card.specs.Command.{answer_word, PoolFits, fits, due_of, reply_of}
 use Rattle.card.specs.Steps.{steps_of, last_step, all_steps, effect_of, first_failing}
 use Rattle.card.specs.Obeyed.{refusal, is_one_of}
@@ -56,7 +55,7 @@ use Rattle.card.proofs.Answered.{image_is, pool_is, reply_is, word_is, response_
 -- the verdict: the effect where all steps hold, else a refusal with the word of the first that fails
 pub judged_in_order : (img pool c : List ℕ) (st : State)
     → (all_hold (steps_of img pool c st) ≡ true → judge_of img pool c st ≡ effect_of img pool c st)
-    × (all_hold (steps_of img pool c st) ≡ false → judge_of img pool c st ≡ Refuse (first_failing (steps_of img pool c st)))
+    × (all_hold (steps_of img pool c st) ≡ false → judge_of img pool c st ≡ Err (first_failing (steps_of img pool c st)))
 unfolding judge_of judge_for followed
 judged_in_order img pool c st =
     let e = judged-append (shared_steps img c st) (plan_for img pool (count_of img) (current_df_of img) c st).steps (effect_of img pool c st) in
@@ -88,7 +87,7 @@ due_judged img pool c st lent k = rw ((pool-says img pool).1 k) (⊎_elim hold f
     apart = judged-append (steps_of img pool c st) last (effect_of img pool c st)
 
     stands : Verdict → Verdict
-    stands v = cond (leb (length (told img pool c v)) lent) v (Refuse 0x0000)
+    stands v = cond (leb (length (told img pool c v)) lent) v (Err 0x0000)
 
     hold : all_hold (steps_of img pool c st) ≡ true → stands (judge_of img pool c st) ≡ judged (all_steps img pool c st lent) (effect_of img pool c st)
     hold h = ap stands ((judged_in_order img pool c st).0 h) ∙ sym (judged-all (steps_of img pool c st) (judged last (effect_of img pool c st)) h) ∙ sym apart
@@ -100,7 +99,7 @@ due_judged img pool c st lent k = rw ((pool-says img pool).1 k) (⊎_elim hold f
 
 module _ (img pool c : List ℕ) (st : State) (lent : ℕ) where
   pub due_in_order : PoolFits img pool → (all_hold (all_steps img pool c st lent) ≡ true → due_of img pool c st lent ≡ effect_of img pool c st)
-      × (all_hold (all_steps img pool c st lent) ≡ false → due_of img pool c st lent ≡ Refuse (first_failing (all_steps img pool c st lent)))
+      × (all_hold (all_steps img pool c st lent) ≡ false → due_of img pool c st lent ≡ Err (first_failing (all_steps img pool c st lent)))
   due_in_order k =
       let e = due_judged img pool c st lent k in
       let steps = all_steps img pool c st lent in
@@ -114,7 +113,7 @@ module _ (img pool c : List ℕ) (st : State) (lent : ℕ) where
       rw ((judged_in_order img pool c st).0 p.0) ((and-says _ _).0 p.1).0
 
   -- a refusal with its word, or answer 5
-  refused_as : Sound img → PoolFits img pool → (w : ℕ) → due_of img pool c st lent ≡ Refuse w
+  refused_as : Sound img → PoolFits img pool → (w : ℕ) → due_of img pool c st lent ≡ Err w
       → reply_of img pool c st lent ≡ refusal img pool c st.sets w
   unfolding denial_of
   refused_as sound k w e = reply_is img pool c st lent sound ∙ rw ((pool-says img pool).1 k) (go (fits img pool c st lent) refl)
@@ -123,8 +122,8 @@ module _ (img pool c : List ℕ) (st : State) (lent : ℕ) where
       worded n h = ne_eqb n 0x0000 (λ z. false≢true (rw z at h))
 
       go : (b : Bool) → fits img pool c st lent ≡ b
-          → cond b (Word (word_of (due_of img pool c st lent)) (length (told img pool c (due_of img pool c st lent)))
-          (denial_of img pool c st.sets (due_of img pool c st lent))) Short ≡ refusal img pool c st.sets w
+          → cond b (with_word (word_of (due_of img pool c st lent)) (length (told img pool c (due_of img pool c st lent)))
+          (denial_of img pool c st.sets (due_of img pool c st lent))) (Err Short) ≡ refusal img pool c st.sets w
       go true q =
           let n = worded w (rw (sym (due_fit img pool c st lent k q) ∙ e) at (judge_worded img pool c st)) in
           rw (e, n) refl
@@ -139,19 +138,19 @@ own_hold img pool c st lent h =
 -- an effect that acts was not denied
 acts-granted : (img pool c : List ℕ) (x : Sets) (v : Verdict) → Acts v → denial_of img pool c x v ≡ Granted
 unfolding denial_of
-acts-granted img pool c x (Refuse w) a = absurd a
-acts-granted img pool c x (Select d e w) a = refl
-acts-granted img pool c x (Create y) a = refl
-acts-granted img pool c x (Delete s) a = refl
-acts-granted img pool c x (SetLife s life) a = refl
-acts-granted img pool c x (Read at n) a = refl
-acts-granted img pool c x (Update at) a = refl
+acts-granted img pool c x (Err w) a = absurd a
+acts-granted img pool c x (Ok (Select d e w)) a = refl
+acts-granted img pool c x (Ok (Create y)) a = refl
+acts-granted img pool c x (Ok (Delete s)) a = refl
+acts-granted img pool c x (Ok (SetLife s life)) a = refl
+acts-granted img pool c x (Ok (Read at n)) a = refl
+acts-granted img pool c x (Ok (Update at)) a = refl
 
 pub replies_in_order : RepliesInOrder
 replies_in_order img pool c st response sound k = (
   (λ h. let e = (due_in_order img pool c st (length response) k).0 h in (
     reply_is img pool c st (length response) sound ∙ rw ((pool-says img pool).1 k, all_fit img pool c st (length response) h, e)
-        (ap (Word (word_of (effect_of img pool c st)) (length (told img pool c (effect_of img pool c st))))
+        (ap (with_word (word_of (effect_of img pool c st)) (length (told img pool c (effect_of img pool c st))))
         (acts-granted img pool c st.sets (effect_of img pool c st) (plan-acts img pool (count_of img) (current_df_of img) c st (own_hold img pool c st (length response) h)))),
     image_is img pool c st (length response) sound ∙ ap (applied_of img c) e,
     pool_is img pool c st (length response) sound ∙ ap (pooled_of img pool c) e,
@@ -222,9 +221,9 @@ unfolding other_record
 other-start img h t whole = cond_by (SameButStart (version_of img) (rec_at img t)) (eqb (new_body (version_of img) h) 0) _ _
     (λ q. same_start _ _) (λ q. go (new_gap img h))
   where
-    go : (g : Found) → SameButStart (version_of img) (rec_at img t) (kept_record g img t)
-    go (At p) = unfold kept_record in same_start _ _
-    go Nothing = unfold kept_record in cond_by (SameButStart (version_of img) (rec_at img t)) (ltb 0 (body_at img t)) _ _
+    go : (g : Option ℕ) → SameButStart (version_of img) (rec_at img t) (kept_record g img t)
+    go (Some p) = unfold kept_record in same_start _ _
+    go None = unfold kept_record in cond_by (SameButStart (version_of img) (rec_at img t)) (ltb 0 (body_at img t)) _ _
         (λ q. record {
           bytes = λ k l. byte_kept (rec_at img t) _ whole k l;
           rest = λ z. absurd (z (unfold body_at in ltb-true 0 (body_of (version_of img) (rec_at img t)) q));
@@ -239,33 +238,33 @@ module _ (img c : List ℕ) (s : ℕ) (whole : length (rec_at img s) ≡ 64) (us
 
   verdict_stays : (v : Verdict) → Tells img c v → Ordered img c v → Stays v (record_after img c v s)
   unfolding Stays
-  verdict_stays (Refuse w) k o = inr (same_start _ _)
-  verdict_stays (Select d e w) k o = inr (same_start _ _)
-  verdict_stays (Create x) k o =
+  verdict_stays (Err w) k o = inr (same_start _ _)
+  verdict_stays (Ok (Select d e w)) k o = inr (same_start _ _)
+  verdict_stays (Ok (Create x)) k o =
       inr (rw (ne_eqb s x.slot (λ e. used (ap (λ (i : ℕ). kind_of (rec_at img i)) e ∙ new_free img x.slot x.head _ _ k.1)))
       (other-start img x.head s whole))
-  verdict_stays (Delete x) k o = go (at_or_beneath (view_at img) x s) refl
+  verdict_stays (Ok (Delete x)) k o = go (at_or_beneath (view_at img) x s) refl
     where
       go : (b : Bool) → at_or_beneath (view_at img) x s ≡ b
           → ((at_or_beneath (view_at img) x s ≡ true) × (cond b free_bytes (rec_at img s) ≡ free_bytes))
           ⊎ SameButStart (version_of img) (rec_at img s) (cond b free_bytes (rec_at img s))
       go true e = inl (e, refl)
       go false e = inr (same_start _ _)
-  verdict_stays (SetLife x life) k o = inr (rw (ne_eqb s x (λ e. o.2 (rw e at dead))) (same_start _ _))
-  verdict_stays (Read at n) k o = inr (same_start _ _)
-  verdict_stays (Update at) k o = inr (same_start _ _)
+  verdict_stays (Ok (SetLife x life)) k o = inr (rw (ne_eqb s x (λ e. o.2 (rw e at dead))) (same_start _ _))
+  verdict_stays (Ok (Read at n)) k o = inr (same_start _ _)
+  verdict_stays (Ok (Update at)) k o = inr (same_start _ _)
 
 -- only a DELETE that was carried out erases
 deleting : (img pool c : List ℕ) (st : State) (lent s : ℕ) → Sound img → (v : Verdict) → due_of img pool c st lent ≡ v → Erases img s v
     → Ordered img c v → Deleting img pool c st lent s
-deleting img pool c st lent s sound (Refuse w) e k n = absurd k
-deleting img pool c st lent s sound (Select d f w) e k n = absurd k
-deleting img pool c st lent s sound (Create x) e k n = absurd k
-deleting img pool c st lent s sound (Delete x) e k n =
+deleting img pool c st lent s sound (Err w) e k n = absurd k
+deleting img pool c st lent s sound (Ok (Select d f w)) e k n = absurd k
+deleting img pool c st lent s sound (Ok (Create x)) e k n = absurd k
+deleting img pool c st lent s sound (Ok (Delete x)) e k n =
     record { delete = n.0; answered = word_is img pool c st lent sound ∙ ap word_of e; top = x; child = n.1; over = k }
-deleting img pool c st lent s sound (SetLife x life) e k n = absurd k
-deleting img pool c st lent s sound (Read at m) e k n = absurd k
-deleting img pool c st lent s sound (Update at) e k n = absurd k
+deleting img pool c st lent s sound (Ok (SetLife x life)) e k n = absurd k
+deleting img pool c st lent s sound (Ok (Read at m)) e k n = absurd k
+deleting img pool c st lent s sound (Ok (Update at)) e k n = absurd k
 
 pub terminated_stays : TerminatedStays
 unfolding Stays

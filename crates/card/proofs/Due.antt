@@ -9,6 +9,7 @@ use native.Mathlib.Omega.{arith}
 use lib.Dec.{eqb}
 use lib.ListN.{length, get_or}
 use borrow.Author.Tests.{le-leb, lt-leb, eqb-true, eq-eqb}
+use Rattle.std.specs.Prelude.{Ok, Err}
 use Rattle.laws.specs.Lists.{part}
 use Rattle.laws.proofs.Splices.{length_part}
 use Rattle.laws.proofs.Says.{implies-says}
@@ -24,8 +25,8 @@ use Rattle.fcp.specs.Template.{template_of}
 use Rattle.fcp.specs.Writing.{Tellable}
 use Rattle.fcp.proofs.Sizes.{sizes_fit, longest}
 use Rattle.verdict.specs.declared.State.{State}
-use Rattle.verdict.specs.declared.Verdict.{Verdict}
-use Rattle.verdict.specs.declared.Verdict.TheVariants.{Refuse, Select, Create, Delete, SetLife, Read, Update}
+use Rattle.verdict.specs.Applied.{Verdict}
+use Rattle.verdict.specs.declared.Effect.TheVariants.{Select, Create, Delete, SetLife, Read, Update}
 use Rattle.apdu.specs.Apdu.{instruction, lc, wants_template, is_read, asked}
 use Rattle.judge.specs.Judge.{judge_of}
 use Rattle.effect.specs.Told.{chosen, told, CanTell}
@@ -46,7 +47,7 @@ pool-says img pool = (
 
 module _ (img pool c : List ℕ) (st : State) (lent : ℕ) where
   -- what holds of the judged verdict, and of a refusal, holds of it
-  pub due_by : (P : Verdict → Type 0) → P (judge_of img pool c st) → P (Refuse 0x0000) → P (due_of img pool c st lent)
+  pub due_by : (P : Verdict → Type 0) → P (judge_of img pool c st) → P (Err 0x0000) → P (due_of img pool c st lent)
   unfolding due_of
   due_by P judged refused =
       cond_by P (pool_fits img pool) _ _ (λ p. cond_by P (fits img pool c st lent) _ _ (λ q. judged) (λ q. refused)) (λ p. refused)
@@ -65,15 +66,15 @@ module _ (img pool c : List ℕ) (st : State) (lent : ℕ) where
   unfolding due_of
   due_fit k q = rw ((pool-says img pool).1 k, q)
 
-  pub due_unfit : fits img pool c st lent ≡ false → due_of img pool c st lent ≡ Refuse 0x0000
+  pub due_unfit : fits img pool c st lent ≡ false → due_of img pool c st lent ≡ Err 0x0000
   unfolding due_of
   due_unfit q = rw q (either_way (pool_fits img pool))
     where
-      either_way : (b : Bool) → cond b (Refuse 0x0000) (Refuse 0x0000) ≡ Refuse 0x0000
+      either_way : (b : Bool) → cond {A = Verdict} b (Err 0x0000) (Err 0x0000) ≡ Err 0x0000
       either_way true = refl
       either_way false = refl
 
-  pub due_wrong : pool_fits img pool ≡ false → due_of img pool c st lent ≡ Refuse 0x0000
+  pub due_wrong : pool_fits img pool ≡ false → due_of img pool c st lent ≡ Err 0x0000
   unfolding due_of
   due_wrong q = rw q
 
@@ -83,7 +84,7 @@ module _ (img pool c : List ℕ) (st : State) (lent : ℕ) where
   unfolding fits
   due_fits k h = let q = le-leb _ _ h in (q, due_fit k q)
 
-  pub due_short : lent < length (told img pool c (judge_of img pool c st)) → (fits img pool c st lent ≡ false) × (due_of img pool c st lent ≡ Refuse 0x0000)
+  pub due_short : lent < length (told img pool c (judge_of img pool c st)) → (fits img pool c st lent ≡ false) × (due_of img pool c st lent ≡ Err 0x0000)
   unfolding fits
   due_short h = let q = lt-leb _ _ h in (q, due_unfit q)
 
@@ -135,13 +136,13 @@ module _ (img pool c : List ℕ) (sound : Sound img) (k : PoolFits img pool) whe
   }
 
   pub can_tell : (v : Verdict) → Tells img c v → CanTell img pool v
-  can_tell (Refuse w) t = tt
-  can_tell (Select d e w) t = tellable (chosen d e) (is_chosen img d e t)
-  can_tell (Create x) t = tt
-  can_tell (Delete s) t = tt
-  can_tell (SetLife s life) t = tt
-  can_tell (Read at n) t = touched img pool sound k c at n t.0
-  can_tell (Update at) t = tt
+  can_tell (Err w) t = tt
+  can_tell (Ok (Select d e w)) t = tellable (chosen d e) (is_chosen img d e t)
+  can_tell (Ok (Create x)) t = tt
+  can_tell (Ok (Delete s)) t = tt
+  can_tell (Ok (SetLife s life)) t = tt
+  can_tell (Ok (Read at n)) t = touched img pool sound k c at n t.0
+  can_tell (Ok (Update at)) t = tt
 
   -- a template is short, and what a READ tells is as long as it asks
   template-few : (d e : ℕ) → Current (count_of img) (view_at img) d e
@@ -160,12 +161,12 @@ module _ (img pool c : List ℕ) (sound : Sound img) (k : PoolFits img pool) whe
 
   -- so a number of 16 bits holds how much it is
   pub told-few : (v : Verdict) → Tells img c v → length (told img pool c v) < 65536
-  told-few (Refuse w) t = omega arith
-  told-few (Select d e w) t = omega (arith, template-few d e t, longest_within (version_of img))
-  told-few (Create x) t = omega arith
-  told-few (Delete s) t = omega arith
-  told-few (SetLife s life) t = omega arith
-  told-few (Read at n) t =
+  told-few (Err w) t = omega arith
+  told-few (Ok (Select d e w)) t = omega (arith, template-few d e t, longest_within (version_of img))
+  told-few (Ok (Create x)) t = omega arith
+  told-few (Ok (Delete s)) t = omega arith
+  told-few (Ok (SetLife s life)) t = omega arith
+  told-few (Ok (Read at n)) t =
       omega (
         arith,
         read_long at n t.0,
@@ -173,17 +174,17 @@ module _ (img pool c : List ℕ) (sound : Sound img) (k : PoolFits img pool) whe
         t.0.within,
         sizes_fit img sound (current_ef_of img) (sound.current.ef-low t.0.some) (λ e. omega (arith, sound.current.ef-file t.0.some)),
       )
-  told-few (Update at) t = omega arith
+  told-few (Ok (Update at)) t = omega arith
 
   -- .. and no more than the longest answer of the version
   pub told-most : (has_bodies (version_of img) ≡ true → get_or c 4 0 < 256) → (v : Verdict) → Tells img c v
       → length (told img pool c v) ≤ longest_answer (version_of img)
-  told-most byte (Refuse w) t = omega arith
-  told-most byte (Select d e w) t = omega (arith, template-few d e t, template-most (version_of img))
-  told-most byte (Create x) t = omega arith
-  told-most byte (Delete s) t = omega arith
-  told-most byte (SetLife s life) t = omega arith
-  told-most byte (Read at n) t =
+  told-most byte (Err w) t = omega arith
+  told-most byte (Ok (Select d e w)) t = omega (arith, template-few d e t, template-most (version_of img))
+  told-most byte (Ok (Create x)) t = omega arith
+  told-most byte (Ok (Delete s)) t = omega arith
+  told-most byte (Ok (SetLife s life)) t = omega arith
+  told-most byte (Ok (Read at n)) t =
       let has = some-bodies img pool sound k (current_ef_of img) t.0.body in
       omega (arith, read_long at n t.0, t.1, asked-most c (byte has), bodies-most (version_of img) has)
-  told-most byte (Update at) t = omega arith
+  told-most byte (Ok (Update at)) t = omega arith

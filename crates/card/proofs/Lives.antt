@@ -8,6 +8,7 @@ use native.Mathlib.Omega.{arith}
 use lib.Dec.{eqb}
 use lib.ListN.{length}
 use borrow.Author.Tests.{eq-eqb}
+use Rattle.std.specs.Prelude.{Ok, Err}
 use Rattle.image.specs.declared.Head.{Head}
 use Rattle.image.specs.Layout.{version_of, rec_at, record_bytes, life_cycle_of, count_of}
 use Rattle.image.proofs.Lives.{life-set}
@@ -22,14 +23,14 @@ use Rattle.sound.specs.Effects.{new_body, new_bytes}
 use Rattle.sound.proofs.Says.{sound-says}
 use Rattle.sound.proofs.Front.{sound-sized}
 use Rattle.create_data.specs.declared.Data.{Data}
-use Rattle.create_data.specs.declared.Data.TheVariants.{Df, Ef, Bad}
+use Rattle.std.specs.Prelude.{Option, Some, None}
+use Rattle.create_data.specs.declared.Data.TheVariants.{Df, Ef}
 use Rattle.create_data.specs.Data.{data_of}
 use Rattle.create_data.specs.Grammar.{DfData, EfData, DfRead, EfRead, first}
 use Rattle.create_data.proofs.Grammar.{data_read}
 use Rattle.verdict.specs.declared.State.{State}
-use Rattle.verdict.specs.declared.Verdict.{Verdict}
-use Rattle.verdict.specs.declared.Verdict.TheVariants.{Refuse, Select, Create, Delete, SetLife, Read, Update}
-use Rattle.verdict.specs.Applied.{sent_data, word_of}
+use Rattle.verdict.specs.declared.Effect.TheVariants.{Select, Create, Delete, SetLife, Read, Update}
+use Rattle.verdict.specs.Applied.{Verdict, sent_data, word_of}
 use Rattle.judge_target.specs.Target.{life_at, slot_in}
 use Rattle.apdu.specs.Apdu.{instruction, is_body, is_binary, is_record}
 use Rattle.card.specs.Command.{due_of, image_of}
@@ -51,17 +52,17 @@ Changes i before after = (after ≡ before) ⊎ ((after ≡ written_by i) ⊎ ((
 verdict_changes : (img c : List ℕ) (s : ℕ) → length (rec_at img s) ≡ 64 → (v : Verdict) → Ordered img c v
     → Changes (instruction c) (life_at img s) (life_cycle_of (record_after img c v s))
 unfolding life_cycle_of
-verdict_changes img c s whole (Refuse w) o = inl refl
-verdict_changes img c s whole (Select d e w) o = inl refl
-verdict_changes img c s whole (Create x) o = inr (inr (inr o.0))
-verdict_changes img c s whole (Delete x) o =
+verdict_changes img c s whole (Err w) o = inl refl
+verdict_changes img c s whole (Ok (Select d e w)) o = inl refl
+verdict_changes img c s whole (Ok (Create x)) o = inr (inr (inr o.0))
+verdict_changes img c s whole (Ok (Delete x)) o =
     cond_by (λ (r : List ℕ). Changes (instruction c) (life_at img s) (life_cycle_of r)) (at_or_beneath (view_at img) x s) _ _
     (λ q. inr (inr (inl (o.0, refl)))) (λ q. inl refl)
-verdict_changes img c s whole (SetLife x life) o =
+verdict_changes img c s whole (Ok (SetLife x life)) o =
     cond_by (λ (r : List ℕ). Changes (instruction c) (life_at img s) (life_cycle_of r)) (eqb s x) _ _
     (λ q. inr (inl (life-set (rec_at img s) life whole ∙ o.1))) (λ q. inl refl)
-verdict_changes img c s whole (Read at n) o = inl refl
-verdict_changes img c s whole (Update at) o = inl refl
+verdict_changes img c s whole (Ok (Read at n)) o = inl refl
+verdict_changes img c s whole (Ok (Update at)) o = inl refl
 
 -- .. and under a call, whatever the image
 changes : (img pool c : List ℕ) (st : State) (lent s : ℕ) → s < count_of img
@@ -108,15 +109,15 @@ only-created img pool c st lent s low other h = ⊎_elim (λ e. e)
     (changes img pool c st lent s low)
 
 -- the life cycle that is read is the one in object 8A
-read_df : (v : ℕ) (s : List ℕ) (t : DfData v s) (x : Data) → DfRead v s t x → sent_life x ≡ first t.life
-read_df v s t Bad k = absurd k
-read_df v s t (Ef x) k = absurd k
-read_df v s t (Df x) k = k.2
+read_df : (v : ℕ) (s : List ℕ) (t : DfData v s) (x : Option Data) → DfRead v s t x → sent_life x ≡ first t.life
+read_df v s t None k = absurd k
+read_df v s t (Some (Ef x)) k = absurd k
+read_df v s t (Some (Df x)) k = k.2
 
-read_ef : (v : ℕ) (s : List ℕ) (t : EfData v s) (x : Data) → EfRead v s t x → sent_life x ≡ first t.life
-read_ef v s t Bad k = absurd k
-read_ef v s t (Df x) k = absurd k
-read_ef v s t (Ef x) k = k.2
+read_ef : (v : ℕ) (s : List ℕ) (t : EfData v s) (x : Option Data) → EfRead v s t x → sent_life x ≡ first t.life
+read_ef v s t None k = absurd k
+read_ef v s t (Some (Df x)) k = absurd k
+read_ef v s t (Some (Ef x)) k = k.2
 
 -- the new record has the life cycle of its head
 new_bytes-life : (img : List ℕ) (h : Head) (name rule : List ℕ) → length (record_bytes (version_of img) h name rule) ≡ 64
@@ -130,17 +131,17 @@ new_bytes-life img h name rule whole =
 new-life : (img c left : List ℕ) (v : Verdict) → instruction c ≡ 0xE0 → word_of v ≡ 0x9000 → Spoken v → Ordered img c v → Tells img c v
     → ((t : ℕ) → t < count_of img → rec_at left t ≡ record_after img c v t)
     → life_at left (slot_in (free_slot (count_of img) (view_at img))) ≡ sent_life (data_of (version_of img) (sent_data c))
-new-life img c left (Refuse w) e done spoken o k r = absurd (spoken (inl done))
-new-life img c left (Select d f w) e done spoken o k r = absurd (omega (arith, e, o))
-new-life img c left (Create x) e done spoken o k r =
+new-life img c left (Err w) e done spoken o k r = absurd (spoken (inl done))
+new-life img c left (Ok (Select d f w)) e done spoken o k r = absurd (omega (arith, e, o))
+new-life img c left (Ok (Create x)) e done spoken o k r =
     ap (λ (t : ℕ). life_at left t) (sym o.1)
     ∙ ap life_cycle_of (rw (eq-eqb x.slot x.slot refl) at (r x.slot k.0.low))
     ∙ new_bytes-life img x.head _ _ (length-made (version_of img) x.head _ _ k.1.good.name-short (fits-short _ _ _ k.1.good.formed))
     ∙ o.2
-new-life img c left (Delete x) e done spoken o k r = absurd (omega (arith, e, o.0))
-new-life img c left (SetLife x life) e done spoken o k r = absurd (o.0 e)
-new-life img c left (Read at n) e done spoken o k r = absurd (false≢true (unfold is_body is_binary is_record in (rw e at o.0)))
-new-life img c left (Update at) e done spoken o k r = absurd (false≢true (unfold is_body is_binary is_record in (rw e at o.0)))
+new-life img c left (Ok (Delete x)) e done spoken o k r = absurd (omega (arith, e, o.0))
+new-life img c left (Ok (SetLife x life)) e done spoken o k r = absurd (o.0 e)
+new-life img c left (Ok (Read at n)) e done spoken o k r = absurd (false≢true (unfold is_body is_binary is_record in (rw e at o.0)))
+new-life img c left (Ok (Update at)) e done spoken o k r = absurd (false≢true (unfold is_body is_binary is_record in (rw e at o.0)))
 
 pub kept_as_given : KeptAsGiven
 kept_as_given img pool c st lent e done = go (soundb img) refl

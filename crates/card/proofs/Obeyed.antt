@@ -9,24 +9,24 @@ use native.Mathlib.Omega.{arith}
 use lib.Dec.{eqb, leb}
 use lib.ListN.{length, get_or}
 use borrow.Author.Tests.{ne_eqb}
+use Rattle.std.specs.Prelude.{Ok}
 use Rattle.laws.proofs.Says.{eq-says, le-says, or-says}
-use Rattle.laws.specs.declared.Found.{Found}
-use Rattle.laws.specs.declared.Found.TheVariants.{At, Nothing}
+use Rattle.std.specs.Prelude.{Option, Some, None}
 use Rattle.laws.specs.Lists.{part}
 use Rattle.rules.specs.Descriptor.{df}
 use Rattle.rules.specs.Life.{life_of}
-use Rattle.rules.proofs.Lives.{activates_says}
+use Rattle.rules.proofs.Lives.{same-says, activates_says}
 use Rattle.image.specs.Layout.{has_bodies, version_of, count_of, current_df_of, current_ef_of, none, rec_at, set_current}
 use Rattle.sound.specs.Table.{view_at}
 use Rattle.sound.specs.Sound.{Sound}
 use Rattle.sound.specs.Kinship.{free_slot}
 use Rattle.sound.proofs.Created.{name-says, room_says}
 use Rattle.create_data.specs.declared.Data.{Data}
-use Rattle.create_data.specs.declared.Data.TheVariants.{Df, Ef, Bad}
+use Rattle.std.specs.Prelude.{Option, Some, None}
+use Rattle.create_data.specs.declared.Data.TheVariants.{Df, Ef}
 use Rattle.create_data.specs.Data.{data_of}
-use Rattle.verdict.specs.declared.Verdict.{Verdict}
-use Rattle.verdict.specs.declared.Verdict.TheVariants.{Select}
-use Rattle.verdict.specs.Applied.{sent_data, word_of, applied_of, pooled_of}
+use Rattle.verdict.specs.declared.Effect.TheVariants.{Select}
+use Rattle.verdict.specs.Applied.{Verdict, sent_data, word_of, applied_of, pooled_of}
 use Rattle.judge_target.specs.Target.{current_file, life_at, slot_in, selected, describes, creating as creating_it}
 use Rattle.apdu.specs.Apdu.{class_byte, instruction, sent_identifier, is_terminate, is_old, is_known, wants_alone, wants_template}
 use Rattle.apdu.specs.Apdu.{is_body, is_binary, is_record}
@@ -54,9 +54,9 @@ use Rattle.card.proofs.Obeying.{final, obeys, obeys_silent, opens, opens_anyway,
 found-low : (img : List ℕ) → Sound img → (x : ℕ) → slot_in (selected img (count_of img) (current_df_of img) x) < count_of img
 found-low img sound x = go (selected img (count_of img) (current_df_of img) x) refl
   where
-    go : (f : Found) → selected img (count_of img) (current_df_of img) x ≡ f → slot_in f < count_of img
-    go Nothing e = omega (arith, sound.header.least)
-    go (At s) e = (selected_stands img (count_of img) (current_df_of img) x s (judgeable img sound) e).low
+    go : (f : Option ℕ) → selected img (count_of img) (current_df_of img) x ≡ f → slot_in f < count_of img
+    go None e = omega (arith, sound.header.least)
+    go (Some s) e = (selected_stands img (count_of img) (current_df_of img) x s (judgeable img sound) e).low
 
 -- SELECT's effect, of the file in slot s: its word, the image, and what it tells
 module _ (img pool c : List ℕ) (s : ℕ) (low : s ≡ none → ⊥) where
@@ -70,7 +70,7 @@ module _ (img pool c : List ℕ) (s : ℕ) (low : s ≡ none → ⊥) where
   select_gives = go (eqb (view_at img s).kind df)
     where
       go : (b : Bool)
-          → Gives (cond b (Select s none (select_word (life_at img s))) (Select (current_df_of img) s (select_word (life_at img s))))
+          → Gives (cond b (Ok (Select s none (select_word (life_at img s)))) (Ok (Select (current_df_of img) s (select_word (life_at img s)))))
           (cond b (set_current img s none) (set_current img (current_df_of img) s))
       go true = (refl, refl, refl, refl)
       go false = (refl, refl, refl, rw (ne_eqb s none low))
@@ -126,17 +126,17 @@ create_obeys img pool c st response sound fit e =
     slot : ℕ
     slot = slot_in (free_slot (count_of img) (view_at img))
 
-    create_silent : (new : Data) → told img pool c (creating_it img (current_df_of img) slot new) ≡ []
-    create_silent Bad = refl
-    create_silent (Df x) = refl
-    create_silent (Ef x) = refl
+    create_silent : (new : Option Data) → told img pool c (creating_it img (current_df_of img) slot new) ≡ []
+    create_silent None = refl
+    create_silent (Some (Df x)) = refl
+    create_silent (Some (Ef x)) = refl
 
-    gives : (new : Data) → describes new ≡ true → (word_of (creating_it img (current_df_of img) slot new) ≡ 0x9000)
+    gives : (new : Option Data) → describes new ≡ true → (word_of (creating_it img (current_df_of img) slot new) ≡ 0x9000)
         × (applied_of img c (creating_it img (current_df_of img) slot new) ≡ creating img (sent_data c) slot new)
         × (pooled_of img pool c (creating_it img (current_df_of img) slot new) ≡ filling img pool new)
-    gives Bad h = absurd (false≢true h)
-    gives (Df x) h = (refl, refl, refl)
-    gives (Ef x) h = (refl, refl, refl)
+    gives None h = absurd (false≢true h)
+    gives (Some (Df x)) h = (refl, refl, refl)
+    gives (Some (Ef x)) h = (refl, refl, refl)
 
 pub delete_obeys : DeleteObeys
 unfolding plan_for is_known is_old is_body is_binary is_record wants_alone is_terminate
@@ -170,7 +170,7 @@ deactivate_obeys img pool c st response sound fit e =
     (opens_anyway img c st 0x04 e refl refl refl refl refl refl _ _
     (reads-ask _ _ _ _ _ _ ((λ h. h), (λ h. h)) refl
     (reads-ask _ _ _ _ _ _ (none-says img (current_file img)) refl
-    (reads-ask _ _ _ _ _ _ (eq-says _ _) refl
+    (reads-ask _ _ _ _ _ _ (same-says _ _) refl
     reads_none))))
     (λ m. (refl, refl, refl))
 

@@ -21,7 +21,7 @@ use Rattle.judge.specs.Shared.{later_steps, shared_steps}
 use Rattle.access.specs.declared.Decision.TheVariants.{Granted}
 use Rattle.judge.specs.Judge.{plan_for}
 use Rattle.effect.specs.Told.{told}
-use Rattle.card.specs.declared.Reply.TheVariants.{Word}
+use Rattle.card.specs.Command.{with_word}
 use Rattle.card.specs.Command.{PoolFits}
 use Rattle.card.specs.Steps.{all_steps, effect_of, first_failing}
 use Rattle.card.specs.Conditions.{Ask, Met, Refused, alone, parameters_are, four_bytes, known_asks}
@@ -49,8 +49,8 @@ module _ (img pool c : List ℕ) (st : State) (response : List ℕ) (sound : Sou
         let r = (replies_in_order img pool c st response sound fit).0 (reads_them.holds m) in
         let g = gives m in
         let tells = ap (told img pool c) effect ∙ g.3 in (
-          r.0 ∙ ap (λ (n : ℕ). Word n (length (told img pool c (effect_of img pool c st))) Granted) (ap word_of effect ∙ g.0)
-              ∙ ap (λ (l : List ℕ). Word word (length l) Granted) tells,
+          r.0 ∙ ap (λ (n : ℕ). with_word n (length (told img pool c (effect_of img pool c st))) Granted) (ap word_of effect ∙ g.0)
+              ∙ ap (λ (l : List ℕ). with_word word (length l) Granted) tells,
           r.1 ∙ ap (applied_of img c) effect ∙ g.1,
           r.2 ∙ ap (pooled_of img pool c) effect ∙ g.2,
           r.3 ∙ ap (splice response 0) tells,

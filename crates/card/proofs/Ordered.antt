@@ -8,7 +8,7 @@ use Prim.Native.Nat.{ℕ, suc, ◌+◌, ◌*◌, ◌-◌}
 use native.Mathlib.Omega.{arith}
 use lib.Dec.{eqb}
 use borrow.Author.Tests.{ne_eqb, eqb-true}
-use Rattle.laws.specs.declared.Found.TheVariants.{At}
+use Rattle.std.specs.Prelude.{Some, Ok, Err}
 use Rattle.laws.proofs.Walks.{any_at}
 use Rattle.laws.proofs.Says.{and-says, not-says}
 use Rattle.rules.specs.Descriptor.{df}
@@ -18,12 +18,12 @@ use Rattle.pool.specs.Bodies.{start_at}
 use Rattle.sound.specs.Table.{view_at, up, upward}
 use Rattle.sound.specs.Kinship.{child_named, free_slot, at_or_beneath, terminated_at, terminated_up}
 use Rattle.create_data.specs.declared.Data.{Data}
-use Rattle.create_data.specs.declared.Data.TheVariants.{Df, Ef, Bad}
+use Rattle.std.specs.Prelude.{Option, Some, None}
+use Rattle.create_data.specs.declared.Data.TheVariants.{Df, Ef}
 use Rattle.create_data.specs.Data.{data_of}
 use Rattle.verdict.specs.declared.State.{State}
-use Rattle.verdict.specs.declared.Verdict.{Verdict}
-use Rattle.verdict.specs.declared.Verdict.TheVariants.{Refuse, Select, Create, Delete, SetLife, Read, Update}
-use Rattle.verdict.specs.Applied.{sent_data}
+use Rattle.verdict.specs.declared.Effect.TheVariants.{Select, Create, Delete, SetLife, Read, Update}
+use Rattle.verdict.specs.Applied.{Verdict, sent_data}
 use Rattle.judge_target.specs.Steps.{Plan, followed}
 use Rattle.judge_target.specs.Target.{creating, slot_in}
 use Rattle.apdu.specs.Apdu.{instruction, sent_identifier, is_body, is_binary, is_read, parameters, record_number, asked}
@@ -39,32 +39,32 @@ use Rattle.card.proofs.Telling.{found_at}
 
 -- the verdict erases the file in slot s
 abbrev pub Erases : List ℕ → ℕ → Verdict → Type 0
-Erases img s (Delete x) = at_or_beneath (view_at img) x s ≡ true
-Erases img s (Refuse w) = ⊥
-Erases img s (Select d e w) = ⊥
-Erases img s (Create x) = ⊥
-Erases img s (SetLife x life) = ⊥
-Erases img s (Read at n) = ⊥
-Erases img s (Update at) = ⊥
+Erases img s (Ok (Delete x)) = at_or_beneath (view_at img) x s ≡ true
+Erases img s (Err w) = ⊥
+Erases img s (Ok (Select d e w)) = ⊥
+Erases img s (Ok (Create x)) = ⊥
+Erases img s (Ok (SetLife x life)) = ⊥
+Erases img s (Ok (Read at n)) = ⊥
+Erases img s (Ok (Update at)) = ⊥
 
 -- the life cycle that CREATE's data give
-abbrev pub sent_life : Data → ℕ
-sent_life Bad = 0
-sent_life (Df x) = x.life
-sent_life (Ef x) = x.life
+abbrev pub sent_life : Option Data → ℕ
+sent_life None = 0
+sent_life (Some (Df x)) = x.life
+sent_life (Some (Ef x)) = x.life
 
 abbrev pub Ordered : List ℕ → List ℕ → Verdict → Type 0
-Ordered img c (Refuse w) = Unit {0}
-Ordered img c (Select d e w) = instruction c ≡ 0xA4
-Ordered img c (Create x) =
+Ordered img c (Err w) = Unit {0}
+Ordered img c (Ok (Select d e w)) = instruction c ≡ 0xA4
+Ordered img c (Ok (Create x)) =
     (instruction c ≡ 0xE0) × (x.slot ≡ slot_in (free_slot (count_of img) (view_at img)))
     × (x.head.life ≡ sent_life (data_of (version_of img) (sent_data c)))
-Ordered img c (Delete x) = (instruction c ≡ 0xE4) × (child_named (count_of img) (view_at img) (current_df_of img) (sent_identifier c) ≡ At x)
-Ordered img c (SetLife x life) =
+Ordered img c (Ok (Delete x)) = (instruction c ≡ 0xE4) × (child_named (count_of img) (view_at img) (current_df_of img) (sent_identifier c) ≡ Some x)
+Ordered img c (Ok (SetLife x life)) =
     (instruction c ≡ 0xE0 → ⊥) × (life ≡ written_by (instruction c)) × (terminated_at img x ≡ true → ⊥) × (is_body (instruction c) ≡ false)
-Ordered img c (Read at n) =
+Ordered img c (Ok (Read at n)) =
     (is_body (instruction c) ≡ true) × (is_read (instruction c) ≡ true) × (at ≡ start_at img (current_ef_of img) + place_of c) × (n ≡ asked c)
-Ordered img c (Update at) =
+Ordered img c (Ok (Update at)) =
     (is_body (instruction c) ≡ true) × (is_read (instruction c) ≡ false) × (at ≡ start_at img (current_ef_of img) + place_of c)
 
 -- the file itself is the first on its way up
@@ -73,14 +73,14 @@ unfolding terminated_up upward up
 alive img t z e = z (any_at (λ k. terminated_at img (up (view_at img) k t)) (suc (view_at img t).level) 0 (omega arith) e)
 
 module _ (img pool c : List ℕ) (st : State) where
-  refused : (w : ℕ) → any_word w ≡ true → Ordered img c (Refuse w)
+  refused : (w : ℕ) → any_word w ≡ true → Ordered img c (Err w)
   refused w k = tt
 
-  creating_ordered : instruction c ≡ 0xE0 → (new : Data) → data_of (version_of img) (sent_data c) ≡ new
+  creating_ordered : instruction c ≡ 0xE0 → (new : Option Data) → data_of (version_of img) (sent_data c) ≡ new
       → Ordered img c (creating img (current_df_of img) (slot_in (free_slot (count_of img) (view_at img))) new)
-  creating_ordered e Bad q = tt
-  creating_ordered e (Df x) q = (e, refl, rw q)
-  creating_ordered e (Ef x) q = (e, refl, rw q)
+  creating_ordered e None q = tt
+  creating_ordered e (Some (Df x)) q = (e, refl, rw q)
+  creating_ordered e (Some (Ef x)) q = (e, refl, rw q)
 
   selecting_ordered : instruction c ≡ 0xA4 → (d s : ℕ) → Ordered img c (selecting img d s)
   unfolding selecting

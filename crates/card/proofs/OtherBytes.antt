@@ -7,8 +7,7 @@ use Prim.Native.Nat.{ℕ, ◌+◌, ◌<◌, ◌≤◌}
 use native.Mathlib.Omega.{arith}
 use lib.ListN.{length, get_or, replicate, length-replicate}
 use borrow.Author.Tests.{eq-eqb}
-use Rattle.laws.specs.declared.Found.{Found}
-use Rattle.laws.specs.declared.Found.TheVariants.{At, Nothing}
+use Rattle.std.specs.Prelude.{Option, Some, None, Ok}
 use Rattle.laws.specs.Lists.{splice}
 use Rattle.laws.proofs.Says.{same_or, lt-or, untrue}
 use Rattle.laws.proofs.Splices.{get_or-splice_below, get_or-splice_above}
@@ -30,7 +29,7 @@ use Rattle.sound.proofs.Front.{sound-sized}
 use Rattle.sound.proofs.Created.{slot-free, slot-low}
 use Rattle.sound.proofs.Made.{other-made}
 use Rattle.sound.proofs.Bodied.{body-none}
-use Rattle.verdict.specs.declared.Verdict.TheVariants.{Delete, Update}
+use Rattle.verdict.specs.declared.Effect.TheVariants.{Delete, Update}
 use Rattle.verdict.specs.Applied.{sent_data, applied_of}
 use Rattle.card.specs.Command.{PoolFits}
 use Rattle.card.specs.Bodies.{in_some}
@@ -67,7 +66,7 @@ module _ (img pool c : List ℕ) (sound : Sound img) (fit : PoolFits img pool) (
       (λ t l h. absurd (false≢true (sym (free t l) ∙ still left t (same t l h) h))) stays
 
   -- UPDATE writes within a body
-  pub updated_left : (at : ℕ) → Tells img c (Update at) → Free img → Left (get_or (splice pool at (sent_data c)) q 0)
+  pub updated_left : (at : ℕ) → Tells img c (Ok (Update at)) → Free img → Left (get_or (splice pool at (sent_data c)) q 0)
   updated_left at t free =
       same_left img (splice pool at (sent_data c)) free (λ s l h. (refl, refl)) (λ none. outside (lt-or q at) (ef-free none))
     where
@@ -90,7 +89,7 @@ module _ (img pool c : List ℕ) (sound : Sound img) (fit : PoolFits img pool) (
           (omega (arith, t.1.here, t.1.within, f (omega (arith, t.1.here))))
 
   -- DELETE
-  pub deleted-left : (x : ℕ) → Tells img c (Delete x) → Free (applied_of img c (Delete x)) → Left (get_or (wiped img pool x) q 0)
+  pub deleted-left : (x : ℕ) → Tells img c (Ok (Delete x)) → Free (applied_of img c (Ok (Delete x))) → Left (get_or (wiped img pool x) q 0)
   unfolding wiped
   deleted-left x t free =
       by_owner (count_of img) (start_at img) (body_at img) q _ (get_or pool q 0) (λ s l h. gone s l h (at_or_beneath (view_at img) x s) refl)
@@ -98,10 +97,10 @@ module _ (img pool c : List ℕ) (sound : Sound img) (fit : PoolFits img pool) (
       (λ s l p. holds_not (start_at img) (body_at img) q s (none s l)))
     where
       lies_on : (s : ℕ) → s < count_of img → at_or_beneath (view_at img) x s ≡ false
-          → (start_at (applied_of img c (Delete x)) s ≡ start_at img s) × (body_at (applied_of img c (Delete x)) s ≡ body_at img s)
+          → (start_at (applied_of img c (Ok (Delete x))) s ≡ start_at img s) × (body_at (applied_of img c (Ok (Delete x))) s ≡ body_at img s)
       lies_on s l e =
-          let same : rec_at (applied_of img c (Delete x)) s ≡ rec_at img s = records-after img c sound (Delete x) t s l ∙ rw e in
-          by_record img pool c sound fit (applied_of img c (Delete x)) s (same_version img _ (front_after img c sound (Delete x) t))
+          let same : rec_at (applied_of img c (Ok (Delete x))) s ≡ rec_at img s = records-after img c sound (Ok (Delete x)) t s l ∙ rw e in
+          by_record img pool c sound fit (applied_of img c (Ok (Delete x))) s (same_version img _ (front_after img c sound (Ok (Delete x)) t))
           (record { start = ap start_of same; body = ap (body_of (version_of img)) same })
 
       gone : (s : ℕ) → s < count_of img → holds (start_at img) (body_at img) q s ≡ true → (b : Bool) → at_or_beneath (view_at img) x s ≡ b
@@ -109,7 +108,7 @@ module _ (img pool c : List ℕ) (sound : Sound img) (fit : PoolFits img pool) (
       gone s l h true e =
           let w = holds-within (start_at img) (body_at img) q s h in
           wiped-zero (count_of img) (start_at img) (body_at img) pool laid (at_or_beneath (view_at img) x) s l e q w.0 w.1
-      gone s l h false e = absurd (false≢true (sym (free s l) ∙ still (applied_of img c (Delete x)) s (lies_on s l e) h))
+      gone s l h false e = absurd (false≢true (sym (free s l) ∙ still (applied_of img c (Ok (Delete x))) s (lies_on s l e) h))
 
   -- CREATE of a file in slot s
   module _ (s : ℕ) (h : Head) (name rule : List ℕ) (k : Creates img s h name rule) (free : Free (made img s h name rule)) where
@@ -173,11 +172,11 @@ module _ (img pool c : List ℕ) (sound : Sound img) (fit : PoolFits img pool) (
           let e = other_lies img pool c sound fit s h name rule k some t l z in
           rw (sym e.0, sym e.1) (free t l)
 
-      moved-left : (g : Found) → g ≡ new_gap img h → Left (get_or (place_pool g (count_of img) img pool) q 0)
-      moved-left (At p) e =
+      moved-left : (g : Option ℕ) → g ≡ new_gap img h → Left (get_or (place_pool g (count_of img) img pool) q 0)
+      moved-left (Some p) e =
           by_owner (count_of img) (start_at img) (body_at img) q (get_or pool q 0) (get_or pool q 0)
           (λ t l i. absurd (false≢true (sym (rw (sym e) at (ready_free t l (other t i))) ∙ i))) (λ none. refl)
-      moved-left Nothing e =
+      moved-left None e =
           by_owner (count_of img) (start_at img) (body_at img) q _ (get_or pool q 0)
           (λ t l i. left-zero (count_of img) (start_at img) (body_at img) pool q low packed-free t l i)
           (λ none. left-same (count_of img) (start_at img) (body_at img) pool q low packed-free none)

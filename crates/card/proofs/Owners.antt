@@ -6,8 +6,7 @@ use mathlib.Core.Logic.{⊎_elim}
 use Prim.Native.Nat.{ℕ, ◌+◌, ◌<◌, ◌≤◌}
 use lib.ListN.{length, get_or}
 use borrow.Author.Tests.{le-leb, lt-ltb}
-use Rattle.laws.specs.declared.Found.{Found}
-use Rattle.laws.specs.declared.Found.TheVariants.{At, Nothing}
+use Rattle.std.specs.Prelude.{Option, Some, None}
 use Rattle.laws.specs.Walks.{any_below, first_below}
 use Rattle.laws.proofs.Walks.{any_at, none_any}
 use Rattle.laws.proofs.Firsts.{first_is, no-first}
@@ -32,11 +31,11 @@ pub by_owner : (n : ℕ) (a z : ℕ → ℕ) (q x old : ℕ) → ((t : ℕ) → 
     → (((t : ℕ) → t < n → holds a z q t ≡ false) → x ≡ old) → x ≡ cond (any_below n (holds a z q)) 0 old
 by_owner n a z q x old f g = go (first_below n (holds a z q)) refl
   where
-    go : (w : Found) → first_below n (holds a z q) ≡ w → x ≡ cond (any_below n (holds a z q)) 0 old
-    go (At t) e =
+    go : (w : Option ℕ) → first_below n (holds a z q) ≡ w → x ≡ cond (any_below n (holds a z q)) 0 old
+    go (Some t) e =
         let h = first_is n (holds a z q) t e in
         rw (any_at (holds a z q) n t h.low h.here) (f t h.low h.here)
-    go Nothing e =
+    go None e =
         let h = no-first n (holds a z q) e in
         rw (none_any (holds a z q) n h.none) (g h.none)
 
@@ -50,23 +49,23 @@ module _ (n : ℕ) (a z : ℕ → ℕ) (pool : List ℕ) (q : ℕ) (low : q < le
   unfolding packed_pool packed_byte owner_of
   left = get_or-list (length pool) (packed_byte n a z pool) q low ∙ go (first_below n (holds (packed_start n a z) z q)) refl
     where
-      go : (w : Found) → first_below n (holds (packed_start n a z) z q) ≡ w
+      go : (w : Option ℕ) → first_below n (holds (packed_start n a z) z q) ≡ w
           → moved_byte a (packed_start n a z) pool q w (first_below n (holds a z q)) ≡ left_byte (first_below n (holds a z q)) (get_or pool q 0)
-      go (At t) e = let h = first_is n (holds (packed_start n a z) z q) t e in absurd (false≢true (sym (free t h.low) ∙ h.here))
-      go Nothing e = refl
+      go (Some t) e = let h = first_is n (holds (packed_start n a z) z q) t e in absurd (false≢true (sym (free t h.low) ∙ h.here))
+      go None e = refl
 
   pub left-zero : (t : ℕ) → t < n → holds a z q t ≡ true → get_or (packed_pool n a z pool) q 0 ≡ 0
   unfolding owner_of
   left-zero t l h = left ∙ go (first_below n (holds a z q)) refl
     where
-      go : (w : Found) → first_below n (holds a z q) ≡ w → left_byte w (get_or pool q 0) ≡ 0
-      go (At u) e = refl
-      go Nothing e = absurd (false≢true (sym ((no-first n (holds a z q) e).none t l) ∙ h))
+      go : (w : Option ℕ) → first_below n (holds a z q) ≡ w → left_byte w (get_or pool q 0) ≡ 0
+      go (Some u) e = refl
+      go None e = absurd (false≢true (sym ((no-first n (holds a z q) e).none t l) ∙ h))
 
   pub left-same : ((t : ℕ) → t < n → holds a z q t ≡ false) → get_or (packed_pool n a z pool) q 0 ≡ get_or pool q 0
   unfolding owner_of
   left-same none = left ∙ go (first_below n (holds a z q)) refl
     where
-      go : (w : Found) → first_below n (holds a z q) ≡ w → left_byte w (get_or pool q 0) ≡ get_or pool q 0
-      go (At u) e = let h = first_is n (holds a z q) u e in absurd (false≢true (sym (none u h.low) ∙ h.here))
-      go Nothing e = refl
+      go : (w : Option ℕ) → first_below n (holds a z q) ≡ w → left_byte w (get_or pool q 0) ≡ get_or pool q 0
+      go (Some u) e = let h = first_is n (holds a z q) u e in absurd (false≢true (sym (none u h.low) ∙ h.here))
+      go None e = refl

@@ -8,6 +8,7 @@ use native.Mathlib.Omega.{arith}
 use lib.Dec.{eqb}
 use lib.ListN.{length, get_or, length-replicate}
 use borrow.Author.Tests.{eq-eqb, ne_eqb}
+use Rattle.std.specs.Prelude.{Ok, Err}
 use Rattle.laws.proofs.Says.{same_or, lt-or, untrue}
 use Rattle.numbers.specs.Numbers.{u16_at, u32_at}
 use Rattle.laws.proofs.Splices.{length-splice}
@@ -26,9 +27,8 @@ use Rattle.sound.specs.Effects.{Creates, Deletes, new_body, new_gap, filled, oth
 use Rattle.sound.proofs.Says.{sound-says, beneath-says}
 use Rattle.sound.proofs.Front.{sound-within}
 use Rattle.sound.proofs.Created.{slot-free}
-use Rattle.verdict.specs.declared.Verdict.{Verdict}
-use Rattle.verdict.specs.declared.Verdict.TheVariants.{Refuse, Select, Create, Delete, SetLife, Read, Update}
-use Rattle.verdict.specs.Applied.{sent_data, applied_of, pooled_of}
+use Rattle.verdict.specs.declared.Effect.TheVariants.{Select, Create, Delete, SetLife, Read, Update}
+use Rattle.verdict.specs.Applied.{Verdict, sent_data, applied_of, pooled_of}
 use Rattle.card.specs.Command.{pool_fits, PoolFits, due_of, image_of, pool_of}
 use Rattle.card.specs.Bodies.{OtherBytes}
 use Rattle.card.specs.After.{record_after}
@@ -63,33 +63,33 @@ module _ (img pool c : List ℕ) (sound : Sound img) (fit : PoolFits img pool) w
 
   verdict_long : (v : Verdict) → Tells img c v → length (pooled_of img pool c v) ≡ length pool
   unfolding wiped
-  verdict_long (Refuse w) t = refl
-  verdict_long (Select d e w) t = refl
-  verdict_long (Create x) t = filled-long x.slot x.head _ _ t.1
-  verdict_long (Delete s) t =
+  verdict_long (Err w) t = refl
+  verdict_long (Ok (Select d e w)) t = refl
+  verdict_long (Ok (Create x)) t = filled-long x.slot x.head _ _ t.1
+  verdict_long (Ok (Delete s)) t =
       length-wiped (count_of img) (start_at img) (body_at img) pool (lies img pool sound fit) (at_or_beneath (view_at img) s) (count_of img) (omega arith)
-  verdict_long (SetLife s life) t = refl
-  verdict_long (Read at n) t = refl
-  verdict_long (Update at) t = length-splice pool at (sent_data c) (touched img pool sound fit c at (length (sent_data c)) t.1)
+  verdict_long (Ok (SetLife s life)) t = refl
+  verdict_long (Ok (Read at n)) t = refl
+  verdict_long (Ok (Update at)) t = length-splice pool at (sent_data c) (touched img pool sound fit c at (length (sent_data c)) t.1)
 
   -- a byte that is in no body afterwards
   module _ (q : ℕ) (low : q < length pool) where
     verdict_left : (v : Verdict) → Tells img c v → Free img pool c sound fit q low (applied_of img c v)
         → Left img pool c sound fit q low (get_or (pooled_of img pool c v) q 0)
-    verdict_left (Refuse w) t free = same_left img pool c sound fit q low img pool free (λ s l h. (refl, refl)) (λ none. refl)
-    verdict_left (Read at n) t free = same_left img pool c sound fit q low img pool free (λ s l h. (refl, refl)) (λ none. refl)
-    verdict_left (Select d e w) t free =
-        same_left img pool c sound fit q low (applied_of img c (Select d e w)) pool free (λ s l h.
-        let r = records-after img c sound (Select d e w) t s l in
-        by_record img pool c sound fit (applied_of img c (Select d e w)) s (same_version img _ (front_after img c sound (Select d e w) t))
+    verdict_left (Err w) t free = same_left img pool c sound fit q low img pool free (λ s l h. (refl, refl)) (λ none. refl)
+    verdict_left (Ok (Read at n)) t free = same_left img pool c sound fit q low img pool free (λ s l h. (refl, refl)) (λ none. refl)
+    verdict_left (Ok (Select d e w)) t free =
+        same_left img pool c sound fit q low (applied_of img c (Ok (Select d e w))) pool free (λ s l h.
+        let r = records-after img c sound (Ok (Select d e w)) t s l in
+        by_record img pool c sound fit (applied_of img c (Ok (Select d e w))) s (same_version img _ (front_after img c sound (Ok (Select d e w)) t))
         (record { start = ap start_of r; body = ap (body_of (version_of img)) r })) (λ none. refl)
-    verdict_left (SetLife x life) t free =
-        same_left img pool c sound fit q low (applied_of img c (SetLife x life)) pool free (λ s l h.
-        by_record img pool c sound fit (applied_of img c (SetLife x life)) s (same_version img _ (front_after img c sound (SetLife x life) t))
-        (rw (records-after img c sound (SetLife x life) t s l) (lived img pool c sound fit s life x l))) (λ none. refl)
-    verdict_left (Delete x) t free = deleted-left img pool c sound fit q low x t free
-    verdict_left (Update at) t free = updated_left img pool c sound fit q low at t free
-    verdict_left (Create x) t free = go (same_or (new_body (version_of img) x.head) 0)
+    verdict_left (Ok (SetLife x life)) t free =
+        same_left img pool c sound fit q low (applied_of img c (Ok (SetLife x life))) pool free (λ s l h.
+        by_record img pool c sound fit (applied_of img c (Ok (SetLife x life))) s (same_version img _ (front_after img c sound (Ok (SetLife x life)) t))
+        (rw (records-after img c sound (Ok (SetLife x life)) t s l) (lived img pool c sound fit s life x l))) (λ none. refl)
+    verdict_left (Ok (Delete x)) t free = deleted-left img pool c sound fit q low x t free
+    verdict_left (Ok (Update at)) t free = updated_left img pool c sound fit q low at t free
+    verdict_left (Ok (Create x)) t free = go (same_or (new_body (version_of img) x.head) 0)
       where
         go : (new_body (version_of img) x.head ≡ 0) ⊎ (new_body (version_of img) x.head ≡ 0 → ⊥)
             → Left img pool c sound fit q low (get_or (filled img pool x.head) q 0)
@@ -134,18 +134,18 @@ module _ (img c : List ℕ) (sound : Sound img) where
       rw (k.bytes 12 (omega arith), k.bytes 13 (omega arith), k.bytes 14 (omega arith), k.bytes 15 (omega arith))
 
   root-size : (v : Verdict) → Tells img c v → size_of (record_after img c v 0) ≡ size_of (rec_at img 0)
-  root-size (Refuse w) t = refl
-  root-size (Select d e w) t = refl
-  root-size (Read at n) t = refl
-  root-size (Update at) t = refl
-  root-size (SetLife s life) t =
+  root-size (Err w) t = refl
+  root-size (Ok (Select d e w)) t = refl
+  root-size (Ok (Read at n)) t = refl
+  root-size (Ok (Update at)) t = refl
+  root-size (Ok (SetLife s life)) t =
       cond_by (λ (r : List ℕ). size_of r ≡ size_of (rec_at img 0)) (eqb 0 s) _ _
       (λ q. size-kept (rec_at img 0) life (length_record img 0 (sound-within img sound 0 first).0)) (λ q. refl)
-  root-size (Delete x) t = ap size_of (kept (root-apart x t))
+  root-size (Ok (Delete x)) t = ap size_of (kept (root-apart x t))
     where
-      kept : at_or_beneath (view_at img) x 0 ≡ false → record_after img c (Delete x) 0 ≡ rec_at img 0
+      kept : at_or_beneath (view_at img) x 0 ≡ false → record_after img c (Ok (Delete x)) 0 ≡ rec_at img 0
       kept e = rw e
-  root-size (Create x) t =
+  root-size (Ok (Create x)) t =
       ap size_of (kept (ne_eqb 0 x.slot (λ e. omega (
         arith,
         sound.kin.root-kind,
@@ -154,7 +154,7 @@ module _ (img c : List ℕ) (sound : Sound img) where
       ))))
       ∙ size_same (other_record img x.head 0) (other-start img x.head 0 (length_record img 0 (sound-within img sound 0 first).0))
     where
-      kept : eqb 0 x.slot ≡ false → record_after img c (Create x) 0 ≡ other_record img x.head 0
+      kept : eqb 0 x.slot ≡ false → record_after img c (Ok (Create x)) 0 ≡ other_record img x.head 0
       kept e = rw e
 
 pub pool_stays_fit : PoolStaysFit

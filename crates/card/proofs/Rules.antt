@@ -9,6 +9,7 @@ use native.Mathlib.Omega.{arith}
 use lib.Dec.{eqb, leb, ltb}
 use lib.ListN.{length, get_or, drop_of_length-le}
 use borrow.Author.Tests.{eq-eqb, ne_eqb, eqb-true, le-leb, lt-ltb, ltb-true, leb-true}
+use Rattle.std.specs.Prelude.{Some, None}
 use Rattle.laws.specs.Lists.{part}
 use Rattle.laws.proofs.Says.{and-says, lt-or, same_or}
 use Rattle.laws.proofs.Splices.{part-part}
@@ -24,7 +25,7 @@ use Rattle.access.proofs.Fits.{fits-says}
 use Rattle.pool.specs.Bodies.{body_of, body_at, start_at, body_bytes}
 use Rattle.pool.specs.Records.{has_record}
 use Rattle.sound.specs.Sound.{Sound}
-use Rattle.referred.specs.declared.Place.TheVariants.{Nowhere, InImage}
+use Rattle.referred.specs.declared.Place.TheVariants.{InImage}
 use Rattle.referred.specs.Padding.{unpadded}
 use Rattle.referred.specs.Deciding.{named_record_of, is_linear, row_at, held_place, referred_place, own_place, place_of, end_of, part_of, deciding_rule}
 use Rattle.referred.proofs.Held.{held-rule, rule_alike}
@@ -133,7 +134,7 @@ module _ (img pool : List ℕ) (s t : ℕ) (r : List ℕ) (sound : Sound img) (f
   unfolding deciding_rule
   rule =
       ap (part_of img pool) (taken (count_of img) img pool s t h.names
-      ∙ ap (λ (b : Bool). cond b Nowhere (held_place img pool t (named_record_of (rec_at img s)))) (ne_eqb t s h.other))
+      ∙ ap (λ (b : Bool). cond b None (held_place img pool t (named_record_of (rec_at img s)))) (ne_eqb t s h.other))
       ∙ held-rule img pool t (named_record_of (rec_at img s))
       ∙ ap (λ (b : Bool). cond b (unpadded (row_at img pool t (named_record_of (rec_at img s)))) []) there
       ∙ ap unpadded row ∙ unpadded_is r h.held.padding h.held.formed h.held.only
@@ -156,12 +157,12 @@ unfolding decision_of granted_of expanded_grants expanded_formed
 empty-closed right x = refl
 
 -- a rule in its own record stands somewhere
-own_stands : (img pool : List ℕ) (s : ℕ) → place_of (count_of img) img pool s ≡ Nowhere → form_of (rec_at img s) ≡ referred
+own_stands : (img pool : List ℕ) (s : ℕ) → place_of (count_of img) img pool s ≡ None → form_of (rec_at img s) ≡ referred
 unfolding place_of own_place
 own_stands img pool s e = go (eqb (form_of (rec_at img s)) referred) refl e
   where
     go : (b : Bool) → eqb (form_of (rec_at img s)) referred ≡ b
-        → cond b (referred_place (count_of img) img pool s) (InImage (base s + 34) (base s + 34 + get_or (rec_at img s) 33 0)) ≡ Nowhere
+        → cond b (referred_place (count_of img) img pool s) (Some (InImage (base s + 34) (base s + 34 + get_or (rec_at img s) 33 0))) ≡ None
         → form_of (rec_at img s) ≡ referred
     go true q f = eqb-true (form_of (rec_at img s)) referred q
     go false q f = absurd (omega (arith, ap end_of f))

@@ -7,6 +7,7 @@ use Prim.Native.Nat.{ℕ, ◌≤◌}
 use native.Mathlib.Omega.{arith}
 use lib.ListN.{length}
 use borrow.Author.Tests.{eqb-true, eq-eqb, not-true}
+use Rattle.std.specs.Prelude.{Ok, Err}
 use Rattle.laws.proofs.Says.{same_or}
 use Rattle.rules.specs.declared.Right.TheVariants.{DeleteSelf, DeleteChild}
 use Rattle.rules.specs.declared.Sets.{Sets}
@@ -18,9 +19,8 @@ use Rattle.access.proofs.Decided.{lacking-number, closed-number, either-says}
 use Rattle.sound.specs.Sound.{Sound, soundb}
 use Rattle.sound.proofs.Says.{sound-says}
 use Rattle.verdict.specs.declared.State.{State}
-use Rattle.verdict.specs.declared.Verdict.{Verdict}
-use Rattle.verdict.specs.declared.Verdict.TheVariants.{Refuse, Select, Create, Delete, SetLife, Read, Update}
-use Rattle.verdict.specs.Applied.{word_of}
+use Rattle.verdict.specs.declared.Effect.TheVariants.{Select, Create, Delete, SetLife, Read, Update}
+use Rattle.verdict.specs.Applied.{Verdict, word_of}
 use Rattle.verdict.specs.Words.{security_not_satisfied}
 use Rattle.judge.specs.Judge.{judge_of}
 use Rattle.judge_target.specs.Target.{decision_at}
@@ -28,8 +28,7 @@ use Rattle.judge_security.specs.Security.{is_denied, deletion, decision_for, ste
 use Rattle.judge_security.proofs.Gated.{judge_gated, judge_tells}
 use Rattle.judge_security.proofs.Sure.{step_sure}
 use Rattle.effect.specs.Told.{told}
-use Rattle.card.specs.declared.Reply.{Reply}
-use Rattle.card.specs.declared.Reply.TheVariants.{Word, Damaged, Short, WrongPool}
+use Rattle.card.specs.Command.{Reply}
 use Rattle.card.specs.Command.{answer_number, answer_word, answer_security, pool_fits, PoolFits, due_of, reply_of}
 use Rattle.card.specs.Steps.{steps_of}
 use Rattle.card.specs.Conditions.{named_child}
@@ -40,22 +39,22 @@ use Rattle.card.proofs.Answered.{damaged-word, word_is, security_is}
 
 -- a verdict whose word is 6982 is step J's, and that one is just this refusal
 word_denies : (v : Verdict) → Spoken v → word_of v ≡ 0x6982 → is_denied v ≡ true
-word_denies (Refuse w) s e = eq-eqb w security_not_satisfied e
-word_denies (Select d f w) s e = absurd (⊎_elim (λ q. omega arith) (λ r. ⊎_elim (λ q. omega arith) (λ q. omega arith) r) s)
-word_denies (Create x) s e = absurd (omega arith)
-word_denies (Delete x) s e = absurd (omega arith)
-word_denies (SetLife x life) s e = absurd (omega arith)
-word_denies (Read at n) s e = absurd (omega arith)
-word_denies (Update at) s e = absurd (omega arith)
+word_denies (Err w) s e = eq-eqb w security_not_satisfied e
+word_denies (Ok (Select d f w)) s e = absurd (⊎_elim (λ q. omega arith) (λ r. ⊎_elim (λ q. omega arith) (λ q. omega arith) r) s)
+word_denies (Ok (Create x)) s e = absurd (omega arith)
+word_denies (Ok (Delete x)) s e = absurd (omega arith)
+word_denies (Ok (SetLife x life)) s e = absurd (omega arith)
+word_denies (Ok (Read at n)) s e = absurd (omega arith)
+word_denies (Ok (Update at)) s e = absurd (omega arith)
 
-denied_is : (v : Verdict) → is_denied v ≡ true → v ≡ Refuse 0x6982
-denied_is (Refuse w) e = ap (λ (n : ℕ). Refuse n) (eqb-true w security_not_satisfied e)
-denied_is (Select d f w) e = absurd (false≢true e)
-denied_is (Create x) e = absurd (false≢true e)
-denied_is (Delete x) e = absurd (false≢true e)
-denied_is (SetLife x life) e = absurd (false≢true e)
-denied_is (Read at n) e = absurd (false≢true e)
-denied_is (Update at) e = absurd (false≢true e)
+denied_is : (v : Verdict) → is_denied v ≡ true → v ≡ Err 0x6982
+denied_is (Err w) e = ap (λ (n : ℕ). Err n) (eqb-true w security_not_satisfied e)
+denied_is (Ok (Select d f w)) e = absurd (false≢true e)
+denied_is (Ok (Create x)) e = absurd (false≢true e)
+denied_is (Ok (Delete x)) e = absurd (false≢true e)
+denied_is (Ok (SetLife x life)) e = absurd (false≢true e)
+denied_is (Ok (Read at n)) e = absurd (false≢true e)
+denied_is (Ok (Update at)) e = absurd (false≢true e)
 
 -- numbers of a decision that does not grant
 one-or-two : (d : Decision) → is_granted d ≡ false → (decision_number d ≡ 1) ⊎ (decision_number d ≡ 2)
@@ -65,10 +64,8 @@ one-or-two Closed e = inr refl
 
 -- a reply with that word is answer 0
 pub word-answers : (r : Reply) → answer_word r ≡ 0x6982 → answer_number r ≡ 0
-word-answers (Word w n d) e = refl
-word-answers Damaged e = absurd (omega arith)
-word-answers Short e = absurd (omega arith)
-word-answers WrongPool e = absurd (omega arith)
+word-answers (Ok a) e = refl
+word-answers (Err x) e = absurd (omega arith)
 
 module _ (img pool c : List ℕ) (st : State) (lent : ℕ) where
   word_sound : answer_word (reply_of img pool c st lent) ≡ 0x6982 → Sound img

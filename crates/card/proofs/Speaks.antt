@@ -7,19 +7,20 @@ use mathlib.Core.Logic.{inl, inr, ⊎_elim}
 use Prim.Native.Nat.{ℕ}
 use lib.Dec.{eqb}
 use borrow.Author.Tests.{eq-eqb}
+use Rattle.std.specs.Prelude.{Ok, Err}
 use Rattle.laws.proofs.Says.{and-says, not-says, or-says}
 use Rattle.rules.specs.Descriptor.{df}
 use Rattle.rules.specs.Life.{is_deactivated, is_terminated}
 use Rattle.image.specs.Layout.{version_of, count_of, current_df_of}
 use Rattle.sound.specs.Table.{view_at}
 use Rattle.create_data.specs.declared.Data.{Data}
-use Rattle.create_data.specs.declared.Data.TheVariants.{Df, Ef, Bad}
+use Rattle.std.specs.Prelude.{Option, Some, None}
+use Rattle.create_data.specs.declared.Data.TheVariants.{Df, Ef}
 use Rattle.create_data.specs.Data.{data_of}
 use Rattle.verdict.specs.declared.State.{State}
-use Rattle.verdict.specs.declared.Verdict.{Verdict}
-use Rattle.verdict.specs.declared.Verdict.TheVariants.{Refuse, Select, Create, Delete, SetLife, Read, Update}
+use Rattle.verdict.specs.declared.Effect.TheVariants.{Select, Create, Delete, SetLife, Read, Update}
 use Rattle.verdict.specs.Words.{done, file_deactivated, file_terminated}
-use Rattle.verdict.specs.Applied.{word_of, sent_data}
+use Rattle.verdict.specs.Applied.{Verdict, word_of, sent_data}
 use Rattle.judge_target.specs.Steps.{all_hold, Plan}
 use Rattle.rules.specs.declared.Sets.{Sets}
 use Rattle.apdu.specs.Apdu.{instruction, is_body, is_binary, is_read}
@@ -40,13 +41,13 @@ no_success w r s = (not-says _).0 r ((or-says _ _).1 (⊎_elim (λ e. inl (eq-eq
     (λ t. inr ((or-says _ _).1 (⊎_elim (λ e. inl (eq-eqb w file_deactivated e)) (λ e. inr (eq-eqb w file_terminated e)) t))) s))
 
 abbrev pub Spoken : Verdict → Type 0
-Spoken (Refuse w) = Succeeds w → ⊥
-Spoken (Select d e w) = Succeeds w
-Spoken (Create x) = Unit {0}
-Spoken (Delete s) = Unit {0}
-Spoken (SetLife s life) = Unit {0}
-Spoken (Read at n) = Unit {0}
-Spoken (Update at) = Unit {0}
+Spoken (Err w) = Succeeds w → ⊥
+Spoken (Ok (Select d e w)) = Succeeds w
+Spoken (Ok (Create x)) = Unit {0}
+Spoken (Ok (Delete s)) = Unit {0}
+Spoken (Ok (SetLife s life)) = Unit {0}
+Spoken (Ok (Read at n)) = Unit {0}
+Spoken (Ok (Update at)) = Unit {0}
 
 select_word_lem : (life : ℕ) → Succeeds (select_word life)
 unfolding select_word
@@ -58,10 +59,10 @@ selecting_spoken : (img : List ℕ) (d s : ℕ) → Spoken (selecting img d s)
 unfolding selecting
 selecting_spoken img d s = cond_by Spoken (eqb (view_at img s).kind df) _ _ (λ q. select_word_lem _) (λ q. select_word_lem _)
 
-creating_spoken : (img : List ℕ) (d s : ℕ) (new : Data) → describes new ≡ true → Spoken (creating img d s new)
-creating_spoken img d s Bad h = absurd (false≢true h)
-creating_spoken img d s (Df x) h = tt
-creating_spoken img d s (Ef x) h = tt
+creating_spoken : (img : List ℕ) (d s : ℕ) (new : Option Data) → describes new ≡ true → Spoken (creating img d s new)
+creating_spoken img d s None h = absurd (false≢true h)
+creating_spoken img d s (Some (Df x)) h = tt
+creating_spoken img d s (Some (Ef x)) h = tt
 
 -- a plan whose refusals are refusals, and whose effect speaks where all its steps hold
 abbrev pub Speaks : Plan → Type 0
@@ -86,7 +87,7 @@ plan_speaks img pool n d c st =
     (λ z. chosen_by Speaks (instruction c) _ _ _ (λ e. (refl, λ a. tt))
     (λ z. chosen_by Speaks (instruction c) _ _ _ (λ e. (refl, λ a. tt)) (λ z. (refl, λ a. tt)))))))))
 
-refused : (w : ℕ) → refusal w ≡ true → Spoken (Refuse w)
+refused : (w : ℕ) → refusal w ≡ true → Spoken (Err w)
 refused w r = no_success w r
 
 pub judge_speaks : (img pool c : List ℕ) (st : State) → Spoken (judge_of img pool c st)
@@ -97,21 +98,21 @@ judge_speaks img pool c st =
 
 -- an effect that acts: no refusal
 abbrev pub Acts : Verdict → Type 0
-Acts (Refuse w) = ⊥
-Acts (Select d e w) = Unit {0}
-Acts (Create x) = Unit {0}
-Acts (Delete s) = Unit {0}
-Acts (SetLife s life) = Unit {0}
-Acts (Read at n) = Unit {0}
-Acts (Update at) = Unit {0}
+Acts (Err w) = ⊥
+Acts (Ok (Select d e w)) = Unit {0}
+Acts (Ok (Create x)) = Unit {0}
+Acts (Ok (Delete s)) = Unit {0}
+Acts (Ok (SetLife s life)) = Unit {0}
+Acts (Ok (Read at n)) = Unit {0}
+Acts (Ok (Update at)) = Unit {0}
 
 abbrev ActsThen : Plan → Type 0
 ActsThen p = all_hold p.steps ≡ true → Acts p.effect
 
-creating-acts : (img : List ℕ) (d s : ℕ) (new : Data) → describes new ≡ true → Acts (creating img d s new)
-creating-acts img d s Bad h = absurd (false≢true h)
-creating-acts img d s (Df x) h = tt
-creating-acts img d s (Ef x) h = tt
+creating-acts : (img : List ℕ) (d s : ℕ) (new : Option Data) → describes new ≡ true → Acts (creating img d s new)
+creating-acts img d s None h = absurd (false≢true h)
+creating-acts img d s (Some (Df x)) h = tt
+creating-acts img d s (Some (Ef x)) h = tt
 
 body-acts : (img pool c : List ℕ) (x : Sets) → ActsThen (body_plan img pool c x)
 unfolding body_plan binary recordwise
@@ -136,10 +137,10 @@ plan-acts img pool n d c st =
 
 -- what acts and speaks succeeds
 pub succeeds : (v : Verdict) → Acts v → Spoken v → Succeeds (word_of v)
-succeeds (Refuse w) a s = absurd a
-succeeds (Select d e w) a s = s
-succeeds (Create x) t s = inl refl
-succeeds (Delete x) a s = inl refl
-succeeds (SetLife x life) a s = inl refl
-succeeds (Read at n) a s = inl refl
-succeeds (Update at) a s = inl refl
+succeeds (Err w) a s = absurd a
+succeeds (Ok (Select d e w)) a s = s
+succeeds (Ok (Create x)) t s = inl refl
+succeeds (Ok (Delete x)) a s = inl refl
+succeeds (Ok (SetLife x life)) a s = inl refl
+succeeds (Ok (Read at n)) a s = inl refl
+succeeds (Ok (Update at)) a s = inl refl

@@ -5,9 +5,9 @@ use mathlib.Core.List.{List, [], ◌∷◌, ◌++◌}
 use Prim.Native.Nat.{ℕ}
 use lib.Dec.{eqb}
 use borrow.Author.Tests.{eqb-true, eqb-false}
+use Rattle.std.specs.Prelude.{Err}
 use Rattle.laws.proofs.Says.{and-says}
-use Rattle.verdict.specs.declared.Verdict.{Verdict}
-use Rattle.verdict.specs.declared.Verdict.TheVariants.{Refuse}
+use Rattle.verdict.specs.Applied.{Verdict}
 use Rattle.judge_target.specs.Steps.{Step, judged, all_hold, Plan, followed}
 use Rattle.card.specs.Steps.{first_failing}
 
@@ -34,12 +34,12 @@ abbrev pub any_word : ℕ → Bool
 any_word w = true
 
 -- what holds of the refusals and of the effect, where all steps hold, holds of the verdict
-module _ (P : Verdict → Type 0) (ok : ℕ → Bool) (refused : (w : ℕ) → ok w ≡ true → P (Refuse w)) where
+module _ (P : Verdict → Type 0) (ok : ℕ → Bool) (refused : (w : ℕ) → ok w ≡ true → P (Err w)) where
   pub judged_by : (steps : List Step) (e : Verdict) → all_words ok steps ≡ true → (all_hold steps ≡ true → P e) → P (judged steps e)
   judged_by [] e k h = h refl
   judged_by (s ∷ rest) e k h =
       let w = (and-says (ok s.word) (all_words ok rest)).0 k in
-      cond_by P s.holds (judged rest e) (Refuse s.word)
+      cond_by P s.holds (judged rest e) (Err s.word)
       (λ q. judged_by rest e w.1 (λ a. h ((and-says s.holds (all_hold rest)).1 (q, a))))
       (λ q. refused s.word w.0)
 
@@ -50,21 +50,21 @@ module _ (P : Verdict → Type 0) (ok : ℕ → Bool) (refused : (w : ℕ) → o
 -- two lists, one after the other
 pub judged-append : (xs ys : List Step) (e : Verdict) → judged (xs ++ ys) e ≡ judged xs (judged ys e)
 judged-append [] ys e = refl
-judged-append (s ∷ xs) ys e = ap (λ (v : Verdict). cond s.holds v (Refuse s.word)) (judged-append xs ys e)
+judged-append (s ∷ xs) ys e = ap (λ (v : Verdict). cond s.holds v (Err s.word)) (judged-append xs ys e)
 
 -- all hold: the effect
 pub judged-all : (xs : List Step) (e : Verdict) → all_hold xs ≡ true → judged xs e ≡ e
 judged-all [] e h = refl
 judged-all (s ∷ xs) e h =
     let p = (and-says s.holds (all_hold xs)).0 h in
-    ap (λ (b : Bool). cond b (judged xs e) (Refuse s.word)) p.0 ∙ judged-all xs e p.1
+    ap (λ (b : Bool). cond b (judged xs e) (Err s.word)) p.0 ∙ judged-all xs e p.1
 
 -- one fails: the word of the first
-pub judged-first : (xs : List Step) (e : Verdict) → all_hold xs ≡ false → judged xs e ≡ Refuse (first_failing xs)
+pub judged-first : (xs : List Step) (e : Verdict) → all_hold xs ≡ false → judged xs e ≡ Err (first_failing xs)
 judged-first [] e h = absurd (false≢true (sym h))
 judged-first (s ∷ xs) e h = go s.holds h (λ q. judged-first xs e q)
   where
-    go : (b : Bool) → (b && all_hold xs) ≡ false → (all_hold xs ≡ false → judged xs e ≡ Refuse (first_failing xs))
-        → cond b (judged xs e) (Refuse s.word) ≡ Refuse (cond b (first_failing xs) s.word)
+    go : (b : Bool) → (b && all_hold xs) ≡ false → (all_hold xs ≡ false → judged xs e ≡ Err (first_failing xs))
+        → cond b (judged xs e) (Err s.word) ≡ Err (cond b (first_failing xs) s.word)
     go true q rec = rec q
     go false q rec = refl

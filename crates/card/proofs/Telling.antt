@@ -8,8 +8,7 @@ use native.Mathlib.Omega.{arith}
 use lib.Dec.{eqb}
 use lib.ListN.{length, length-drop}
 use borrow.Author.Tests.{eq-eqb, eqb-true, eqb-false}
-use Rattle.laws.specs.declared.Found.{Found}
-use Rattle.laws.specs.declared.Found.TheVariants.{At, Nothing}
+use Rattle.std.specs.Prelude.{Option, Some, None, is_some, Ok, Err}
 use Rattle.laws.specs.Lists.{part}
 use Rattle.laws.proofs.Says.{and-says, not-says, same_or}
 use Rattle.laws.proofs.Firsts.{first_is}
@@ -34,7 +33,8 @@ use Rattle.sound.proofs.FullTable.{slot_exists}
 use Rattle.kinship.specs.Climb.{Stands}
 use Rattle.kinship.specs.Search.{is_df_named, df_named}
 use Rattle.create_data.specs.declared.Data.{Data}
-use Rattle.create_data.specs.declared.Data.TheVariants.{Df, Ef, Bad}
+use Rattle.std.specs.Prelude.{Option, Some, None}
+use Rattle.create_data.specs.declared.Data.TheVariants.{Df, Ef}
 use Rattle.create_data.specs.Data.{data_of}
 use Rattle.template.specs.declared.Span.{Span}
 use Rattle.template.specs.Objects.{bytes_at}
@@ -42,13 +42,13 @@ use Rattle.create_data.specs.declared.NewFile.{NewFile}
 use Rattle.create_data.specs.Good.{GoodFile, Good}
 use Rattle.create_data.proofs.Good.{good}
 use Rattle.verdict.specs.declared.State.{State}
-use Rattle.verdict.specs.declared.Verdict.TheVariants.{Refuse, Create}
+use Rattle.verdict.specs.declared.Effect.TheVariants.{Create}
 use Rattle.verdict.specs.Applied.{sent_data}
 use Rattle.effect.specs.Fit.{FieldSent}
 use Rattle.judge_target.specs.Steps.{step, all_hold, Plan, followed}
 use Rattle.apdu.specs.Apdu.{instruction, is_known, is_body, fit_length}
 use Rattle.judge.specs.Shared.{shared_steps}
-use Rattle.judge_target.specs.Target.{current_file, is_found, slot_in, describes, right_for, new_identifier, new_name, new_size, new_head}
+use Rattle.judge_target.specs.Target.{current_file, slot_in, describes, right_for, new_identifier, new_name, new_size, new_head}
 use Rattle.judge_target.specs.Target.{new_record}
 use Rattle.judge_target.specs.Target.{creating, selected}
 use Rattle.judge_create.specs.Creation.{admission, create}
@@ -78,16 +78,16 @@ field-sent : (most : ℕ) (c : List ℕ) (p : Span) → 5 ≤ length c → p.sta
 field-sent most c p long l h k = record { order = l; inside = omega (arith, length-drop 5 c); short = k }
 
 -- what was found
-found_some : (f : Found) → (f ≡ Nothing → ⊥) → f ≡ At (slot_in f)
-found_some (At s) z = refl
-found_some Nothing z = absurd (z refl)
+found_some : (f : Option ℕ) → (f ≡ None → ⊥) → f ≡ Some (slot_in f)
+found_some (Some s) z = refl
+found_some None z = absurd (z refl)
 
-pub found_at : (f : Found) → is_found f ≡ true → f ≡ At (slot_in f)
-found_at (At s) e = refl
-found_at Nothing e = absurd (false≢true e)
+pub found_at : (f : Option ℕ) → is_some f ≡ true → f ≡ Some (slot_in f)
+found_at (Some s) e = refl
+found_at None e = absurd (false≢true e)
 
 module _ (img pool c : List ℕ) (sound : Sound img) where
-  refused : (w : ℕ) → any_word w ≡ true → Tells img c (Refuse w)
+  refused : (w : ℕ) → any_word w ≡ true → Tells img c (Err w)
   refused w k = tt
 
   -- a directory has a directory above it
@@ -105,7 +105,7 @@ module _ (img pool c : List ℕ) (sound : Sound img) where
   Reachable : ℕ → Type 0
   Reachable s = ((view_at img s).kind ≡ df) ⊎ (File (view_at img) s × ((view_at img s).parent ≡ current_df_of img))
 
-  reachable : (x s : ℕ) → selected img (count_of img) (current_df_of img) x ≡ At s → Reachable s
+  reachable : (x s : ℕ) → selected img (count_of img) (current_df_of img) x ≡ Some s → Reachable s
   unfolding Reachable child_named df_named is_df_named
   reachable x s e =
       selected_by Reachable img (count_of img) (current_df_of img) x s (inl sound.kin.root-kind) (inl sound.current.df-dir)
@@ -126,7 +126,7 @@ module _ (img pool c : List ℕ) (sound : Sound img) where
   unfolding selecting Reachable
   select_tells x = followed_by (Tells img c) any_word refused _ refl (λ a. found (found_at _ ((and-says _ _).0 a).0))
     where
-      found : selected img (count_of img) (current_df_of img) x ≡ At (slot_in (selected img (count_of img) (current_df_of img) x))
+      found : selected img (count_of img) (current_df_of img) x ≡ Some (slot_in (selected img (count_of img) (current_df_of img) x))
           → Tells img c (selecting img (current_df_of img) (slot_in (selected img (count_of img) (current_df_of img) x)))
       found e =
           let s : ℕ = slot_in (selected img (count_of img) (current_df_of img) x) in
@@ -153,7 +153,7 @@ module _ (img pool c : List ℕ) (sound : Sound img) where
   delete_tells x sets = followed_by (Tells img c) any_word refused _ refl (λ a. found (found_at _ ((and-says _ _).0 a).0))
     where
       found : child_named (count_of img) (view_at img) (current_df_of img) x
-          ≡ At (slot_in (child_named (count_of img) (view_at img) (current_df_of img) x))
+          ≡ Some (slot_in (child_named (count_of img) (view_at img) (current_df_of img) x))
           → Deletes img (slot_in (child_named (count_of img) (view_at img) (current_df_of img) x))
       found e =
           let f = first_is (count_of img) (is_child_named (view_at img) (current_df_of img) x) _ e in
@@ -169,7 +169,7 @@ module _ (img pool c : List ℕ) (sound : Sound img) where
         let p = simp and-says at a in
         (p.1.1.0, (p.1.1.1.0, p.1.1.1.1.0))
 
-    slot : free_slot (count_of img) (view_at img) ≡ At (slot_in (free_slot (count_of img) (view_at img)))
+    slot : free_slot (count_of img) (view_at img) ≡ Some (slot_in (free_slot (count_of img) (view_at img)))
     slot = found_some _ (slot_exists img (current_df_of img) z sound sound.current.df-low sound.current.df-dir
         ((room_says (count_of img) (view_at img) (current_df_of img) z).0 admitted.1.1))
 
@@ -184,7 +184,7 @@ module _ (img pool c : List ℕ) (sound : Sound img) where
         (bytes_at (sent_data c) x.rule)
         → all_hold (admission img pool (count_of img) (current_df_of img) right x.identifier (bytes_at (sent_data c) x.name) x.size sets)
         ≡ true
-        → Tells img c (Create (new_record img (current_df_of img) (slot_in (free_slot (count_of img) (view_at img))) kind x))
+        → Tells img c (Ok (Create (new_record img (current_df_of img) (slot_in (free_slot (count_of img) (view_at img))) kind x)))
     record_tells kind right x g short good h =
         let w = fits-short (version_of img) x.form _ g.rule in
         let r = part-long (sent_data c) x.rule.start x.rule.end g.rule-low g.rule-high in
@@ -210,15 +210,15 @@ module _ (img pool c : List ℕ) (sound : Sound img) where
         → length (bytes_at (sent_data c) x.name) ≡ x.name.end - x.name.start
     name-long x g = part-long (sent_data c) x.name.start x.name.end g.name-low g.name-high
 
-    new_tells : (new : Data) → Good (version_of img) (sent_data c) new
+    new_tells : (new : Option Data) → Good (version_of img) (sent_data c) new
         → all_hold
         (step (describes new) 0x6A80
         ∷ admission img pool (count_of img) (current_df_of img) (right_for new) (new_identifier new) (new_name (sent_data c) new) (new_size new)
         sets)
         ≡ true
         → Tells img c (creating img (current_df_of img) (slot_in (free_slot (count_of img) (view_at img))) new)
-    new_tells Bad g h = tt
-    new_tells (Df x) g h = record_tells df CreateDf x g.file g.name-short (record {
+    new_tells None g h = tt
+    new_tells (Some (Df x)) g h = record_tells df CreateDf x g.file g.name-short (record {
       class = g.class;
       some = λ e. omega arith;
       life = new_known x.life g.file.life;
@@ -229,7 +229,7 @@ module _ (img pool c : List ℕ) (sound : Sound img) where
       nameless = λ e. absurd (omega arith);
       formed = g.file.rule;
     }) h
-    new_tells (Ef x) g h = record_tells ef CreateEf x g.file (omega (arith, g.nameless)) (record {
+    new_tells (Some (Ef x)) g h = record_tells ef CreateEf x g.file (omega (arith, g.nameless)) (record {
       class = g.class;
       some = λ e. omega arith;
       life = new_known x.life g.file.life;

@@ -7,6 +7,7 @@ use Prim.Native.Nat.{ℕ, ◌+◌, ◌*◌, ◌-◌, ◌<◌, ◌≤◌}
 use native.Mathlib.Omega.{arith}
 use lib.Dec.{eqb}
 use lib.ListN.{length, length-drop}
+use Rattle.std.specs.Prelude.{Ok, Err}
 use Rattle.template.specs.Objects.{bytes_at}
 use Rattle.rules.specs.Life.{known_life}
 use Rattle.rules.specs.Descriptor.{ef}
@@ -25,9 +26,8 @@ use Rattle.sound.proofs.Deleted.{sound-deleted}
 use Rattle.sound.proofs.Lived.{sound_lived}
 use Rattle.kinship.specs.Climb.{Stands}
 use Rattle.kinship.proofs.Sound.{rooted, housed}
-use Rattle.verdict.specs.declared.Verdict.{Verdict}
-use Rattle.verdict.specs.declared.Verdict.TheVariants.{Refuse, Select, Create, Delete, SetLife, Read, Update}
-use Rattle.verdict.specs.Applied.{sent_data, applied_of}
+use Rattle.verdict.specs.declared.Effect.TheVariants.{Select, Create, Delete, SetLife, Read, Update}
+use Rattle.verdict.specs.Applied.{Verdict, sent_data, applied_of}
 use Rattle.apdu.specs.Apdu.{instruction, is_binary, parameters, record_number, asked}
 use Rattle.effect.specs.Fit.{FileSent, Roomy, Fit, Applies}
 use Rattle.card.specs.Touching.{place_of}
@@ -50,15 +50,15 @@ pub record Touches (img c : List ℕ) (at n : ℕ) : Type 0 where
   pub body : 0 < body_at img (current_ef_of img)
 
 abbrev pub Tells : List ℕ → List ℕ → Verdict → Type 0
-Tells img c (Refuse w) = Unit {0}
-Tells img c (Select d e w) = Current (count_of img) (view_at img) d e
-Tells img c (Create x) =
+Tells img c (Err w) = Unit {0}
+Tells img c (Ok (Select d e w)) = Current (count_of img) (view_at img) d e
+Tells img c (Ok (Create x)) =
     FileSent (version_of img) (count_of img) c x × Creates img x.slot x.head (bytes_at (sent_data c) x.name)
     (bytes_at (sent_data c) x.rule)
-Tells img c (Delete s) = Deletes img s
-Tells img c (SetLife s life) = Stands img (count_of img) s × (known_life life ≡ true)
-Tells img c (Read at n) = Touches img c at n × (n ≡ asked c)
-Tells img c (Update at) = (5 ≤ length c) × Touches img c at (length (sent_data c))
+Tells img c (Ok (Delete s)) = Deletes img s
+Tells img c (Ok (SetLife s life)) = Stands img (count_of img) s × (known_life life ≡ true)
+Tells img c (Ok (Read at n)) = Touches img c at n × (n ≡ asked c)
+Tells img c (Ok (Update at)) = (5 ≤ length c) × Touches img c at (length (sent_data c))
 
 -- a new file with a body is on a card that has bodies
 pub new_bodies : (v : ℕ) (h : Head) → 0 < new_body v h → has_bodies v ≡ true
@@ -94,23 +94,23 @@ module _ (img pool : List ℕ) (sound : Sound img) (k : PoolFits img pool) where
   }
 
   fit : (c : List ℕ) (v : Verdict) → Tells img c v → Fit img pool (count_of img) c v
-  fit c (Refuse w) t = tt
-  fit c (Select d e w) t = tt
-  fit c (Create x) t = (t.0, roomy x.slot x.head _ _ t.1)
-  fit c (Delete s) t = t.low
-  fit c (SetLife s life) t = t.0.low
-  fit c (Read at n) t = tt
-  fit c (Update at) t = (t.0, omega (arith, touched c at (length (sent_data c)) t.1, length-drop 5 c))
+  fit c (Err w) t = tt
+  fit c (Ok (Select d e w)) t = tt
+  fit c (Ok (Create x)) t = (t.0, roomy x.slot x.head _ _ t.1)
+  fit c (Ok (Delete s)) t = t.low
+  fit c (Ok (SetLife s life)) t = t.0.low
+  fit c (Ok (Read at n)) t = tt
+  fit c (Ok (Update at)) t = (t.0, omega (arith, touched c at (length (sent_data c)) t.1, length-drop 5 c))
 
   pub applies : (c : List ℕ) (v : Verdict) → Tells img c v → Applies img (count_of img) pool c v
   applies c v t = record { rooted = rooted img sound; housed = housed img sound; count = refl; laid = lies; fit = fit c v t }
 
 -- and leaves a sound image
 pub sound_applied : (img c : List ℕ) (v : Verdict) → Sound img → Tells img c v → Sound (applied_of img c v)
-sound_applied img c (Refuse w) sound t = sound
-sound_applied img c (Select d e w) sound t = sound-select img d e sound t
-sound_applied img c (Create x) sound t = sound-made img x.slot x.head _ _ sound t.1
-sound_applied img c (Delete s) sound t = sound-deleted img s sound t
-sound_applied img c (SetLife s life) sound t = sound_lived img s life sound t.0.low t.0.used t.1
-sound_applied img c (Read at n) sound t = sound
-sound_applied img c (Update at) sound t = sound
+sound_applied img c (Err w) sound t = sound
+sound_applied img c (Ok (Select d e w)) sound t = sound-select img d e sound t
+sound_applied img c (Ok (Create x)) sound t = sound-made img x.slot x.head _ _ sound t.1
+sound_applied img c (Ok (Delete s)) sound t = sound-deleted img s sound t
+sound_applied img c (Ok (SetLife s life)) sound t = sound_lived img s life sound t.0.low t.0.used t.1
+sound_applied img c (Ok (Read at n)) sound t = sound
+sound_applied img c (Ok (Update at)) sound t = sound

@@ -11,6 +11,7 @@ use lib.ListN.{length, get_or}
 use borrow.Author.Tests.{eqb-true, eq-eqb, ltb-true, lt-ltb}
 use Rattle.laws.proofs.Says.{eq-says, le-says, and-says, or-says, not-says}
 use Rattle.numbers.specs.Numbers.{u16_at}
+use Rattle.rules.proofs.Lives.{same-says}
 use Rattle.rules.specs.Descriptor.{type_of, structure_of, has_records, class_of, is_df, is_ef, df, ef, neither}
 use Rattle.image.specs.Layout.{has_bodies, version_of, current_ef_of, none, rec_at, descriptor_of, record_length_of, size_of}
 use Rattle.pool.specs.Bodies.{start_at}
@@ -131,7 +132,7 @@ read_binary_obeys img pool c st response sound fit third e =
     (reads-ask _ _ _ _ _ _ (five_says c 0xB0 e refl refl refl) refl
     (reads_then _ _ _ _ _ _ (is_not-says _ _) refl (λ some.
     reads-ask _ _ _ _ _ _ ((λ h. h), (λ h. h)) refl
-    (reads-ask _ _ _ _ _ _ (eq-says _ _) refl
+    (reads-ask _ _ _ _ _ _ (same-says _ _) refl
     (reads-ask _ _ _ _ _ _ (none-says img (current_ef_of img)) refl
     (reads-ask _ _ _ _ _ _ (transparent-says _ (class-ef img pool c st sound third some)) refl
     (reads-ask _ _ _ _ _ _ (lt-says _ _) refl
@@ -151,7 +152,7 @@ update-binary_obeys img pool c st response sound fit third e =
     (reads-ask _ _ _ _ _ _ (update-says c 0xD6 e refl refl) refl
     (reads_then _ _ _ _ _ _ (is_not-says _ _) refl (λ some.
     reads-ask _ _ _ _ _ _ ((λ h. h), (λ h. h)) refl
-    (reads-ask _ _ _ _ _ _ (eq-says _ _) refl
+    (reads-ask _ _ _ _ _ _ (same-says _ _) refl
     (reads-ask _ _ _ _ _ _ (none-says img (current_ef_of img)) refl
     (reads-ask _ _ _ _ _ _ (transparent-says _ (class-ef img pool c st sound third some)) refl
     (reads-ask _ _ _ _ _ _ (lt-says _ _) refl
@@ -170,7 +171,7 @@ read_record_obeys img pool c st response sound fit third e =
     (reads-ask _ _ _ _ _ _ (five_says c 0xB2 e refl refl refl) refl
     (reads-ask _ _ _ _ _ _ (is_not-says _ _) refl
     (reads-ask _ _ _ _ _ _ ((λ h. h), (λ h. h)) refl
-    (reads-ask _ _ _ _ _ _ (eq-says _ _) refl
+    (reads-ask _ _ _ _ _ _ (same-says _ _) refl
     (reads-ask _ _ _ _ _ _ (none-says img (current_ef_of img)) refl
     (reads-ask _ _ _ _ _ _ (records_say _) refl
     (reads-ask _ _ _ _ _ _ (record_says img (current_ef_of img) (get_or c 2 0)) refl
@@ -190,7 +191,7 @@ update_record_obeys img pool c st response sound fit third e =
     (reads-ask _ _ _ _ _ _ (update-says c 0xDC e refl refl) refl
     (reads-ask _ _ _ _ _ _ (is_not-says _ _) refl
     (reads-ask _ _ _ _ _ _ ((λ h. h), (λ h. h)) refl
-    (reads-ask _ _ _ _ _ _ (eq-says _ _) refl
+    (reads-ask _ _ _ _ _ _ (same-says _ _) refl
     (reads-ask _ _ _ _ _ _ (none-says img (current_ef_of img)) refl
     (reads-ask _ _ _ _ _ _ (records_say _) refl
     (reads-ask _ _ _ _ _ _ (record_says img (current_ef_of img) (get_or c 2 0)) refl

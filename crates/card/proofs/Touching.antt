@@ -9,13 +9,13 @@ use native.Mathlib.Omega.{arith}
 use lib.Dec.{eqb, leb}
 use lib.ListN.{length, length-drop}
 use borrow.Author.Tests.{eq-eqb, eqb-true, leb-true, ltb-true}
+use Rattle.std.specs.Prelude.{Err}
 use Rattle.laws.proofs.Says.{and-says, or-says, not-says}
 use Rattle.rules.specs.declared.Sets.{Sets}
 use Rattle.rules.specs.Descriptor.{ef}
 use Rattle.image.specs.Layout.{has_bodies, version_of, current_ef_of, none, rec_at, kind_of, size_of, record_length_of, start_of}
 use Rattle.pool.specs.Bodies.{body_of, start_at, body_at}
 use Rattle.sound.specs.Sound.{Sound}
-use Rattle.verdict.specs.declared.Verdict.TheVariants.{Refuse}
 use Rattle.verdict.specs.Applied.{sent_data}
 use Rattle.judge_target.specs.Steps.{Plan, followed}
 use Rattle.apdu.specs.Apdu.{instruction, lc, is_old, is_terminate, is_known, is_body, is_binary, is_record, is_read, is_update, has_data}
@@ -108,7 +108,7 @@ module _ (img pool c : List ℕ) (sound : Sound img) (has : has_bodies (version_
         },
       ))
 
-  refused : (w : ℕ) → any_word w ≡ true → Tells img c (Refuse w)
+  refused : (w : ℕ) → any_word w ≡ true → Tells img c (Err w)
   refused w k = tt
 
   pub body_tells : (x : Sets) → Tells img c (followed (body_plan img pool c x))

@@ -6,6 +6,7 @@ use Prim.Native.Nat.{ℕ, zero, suc}
 use lib.Dec.{leb}
 use lib.ListN.{length, replicate, length-take, length-drop}
 use borrow.Author.Tests.{ne_eqb}
+use Rattle.std.specs.Prelude.{Ok, Err}
 use Rattle.laws.specs.Lists.{part, splice}
 use Rattle.laws.proofs.Splices.{splice-nil}
 use Rattle.image.specs.declared.Head.{Head}
@@ -18,9 +19,8 @@ use Rattle.sound.specs.Sound.{Sound, soundb}
 use Rattle.sound.specs.Effects.{new_body, filled, wiped}
 use Rattle.sound.proofs.Says.{sound-says}
 use Rattle.verdict.specs.declared.State.{State}
-use Rattle.verdict.specs.declared.Verdict.{Verdict}
-use Rattle.verdict.specs.declared.Verdict.TheVariants.{Refuse, Select, Create, Delete, SetLife, Read, Update}
-use Rattle.verdict.specs.Applied.{pooled_of}
+use Rattle.verdict.specs.declared.Effect.TheVariants.{Select, Create, Delete, SetLife, Read, Update}
+use Rattle.verdict.specs.Applied.{Verdict, pooled_of}
 use Rattle.judge_target.specs.Target.{rule_at}
 use Rattle.judge.specs.Judge.{judge_of}
 use Rattle.judge.proofs.Alike.{judge_alike}
@@ -58,13 +58,13 @@ module _ (img pool c : List ℕ) (sound : Sound img) (older : has_bodies (versio
 
   verdict_stays : (v : Verdict) → Tells img c v → pooled_of img pool c v ≡ pool
   unfolding wiped
-  verdict_stays (Refuse w) t = refl
-  verdict_stays (Select d e w) t = refl
-  verdict_stays (Create x) t = unfilled x.head
-  verdict_stays (Delete s) t = unwiped (at_or_beneath (view_at img) s) (count_of img)
-  verdict_stays (SetLife s life) t = refl
-  verdict_stays (Read at n) t = refl
-  verdict_stays (Update at) t = absurd (none (some-bodies img pool sound (λ h. absurd (none h)) (current_ef_of img) t.1.body))
+  verdict_stays (Err w) t = refl
+  verdict_stays (Ok (Select d e w)) t = refl
+  verdict_stays (Ok (Create x)) t = unfilled x.head
+  verdict_stays (Ok (Delete s)) t = unwiped (at_or_beneath (view_at img) s) (count_of img)
+  verdict_stays (Ok (SetLife s life)) t = refl
+  verdict_stays (Ok (Read at n)) t = refl
+  verdict_stays (Ok (Update at)) t = absurd (none (some-bodies img pool sound (λ h. absurd (none h)) (current_ef_of img) t.1.body))
 
 pub older_pool_stays : OlderPoolStays
 unfolding has_bodies
@@ -99,13 +99,13 @@ module _ (img pool other c : List ℕ) (st : State) (lent : ℕ) (same : length 
   part_alike at n = rw (length-take, length-take, length-drop, length-drop, same)
 
   told_alike : (v : Verdict) → length (told img pool c v) ≡ length (told img other c v)
-  told_alike (Refuse w) = refl
-  told_alike (Select d e w) = refl
-  told_alike (Create x) = refl
-  told_alike (Delete s) = refl
-  told_alike (SetLife s life) = refl
-  told_alike (Read at n) = part_alike at n
-  told_alike (Update at) = refl
+  told_alike (Err w) = refl
+  told_alike (Ok (Select d e w)) = refl
+  told_alike (Ok (Create x)) = refl
+  told_alike (Ok (Delete s)) = refl
+  told_alike (Ok (SetLife s life)) = refl
+  told_alike (Ok (Read at n)) = part_alike at n
+  told_alike (Ok (Update at)) = refl
 
   pool_alike : pool_fits img pool ≡ pool_fits img other
   pool_alike = fit_alike img pool other same

@@ -6,18 +6,18 @@ use mathlib.Core.Logic.{◌⊎◌, inl, inr, ⊎_elim}
 use Prim.Native.Nat.{ℕ}
 use lib.Dec.{eqb}
 use borrow.Author.Tests.{eq-eqb}
+use Rattle.std.specs.Prelude.{Err}
 use Rattle.laws.proofs.Says.{and-says, not-says, or-says}
 use Rattle.rules.specs.Descriptor.{df}
 use Rattle.rules.specs.Life.{is_deactivated, is_terminated}
 use Rattle.image.specs.Layout.{version_of, count_of, current_df_of}
 use Rattle.sound.specs.Table.{view_at}
 use Rattle.create_data.specs.declared.Data.{Data}
-use Rattle.create_data.specs.declared.Data.TheVariants.{Df, Ef, Bad}
+use Rattle.std.specs.Prelude.{Option, Some, None}
+use Rattle.create_data.specs.declared.Data.TheVariants.{Df, Ef}
 use Rattle.create_data.specs.Data.{data_of}
 use Rattle.verdict.specs.declared.State.{State}
-use Rattle.verdict.specs.declared.Verdict.{Verdict}
-use Rattle.verdict.specs.declared.Verdict.TheVariants.{Refuse}
-use Rattle.verdict.specs.Applied.{word_of, sent_data}
+use Rattle.verdict.specs.Applied.{Verdict, word_of, sent_data}
 use Rattle.judge_target.specs.Steps.{Plan, followed}
 use Rattle.judge_target.specs.Target.{life_at, creating}
 use Rattle.rules.specs.declared.Sets.{Sets}
@@ -46,7 +46,7 @@ pub record Worded (c : List ℕ) (v : Verdict) : Type 0 where
   pub warns : warning (word_of v) ≡ true → instruction c ≡ 0xA4
 
 module _ (img pool c : List ℕ) (st : State) where
-  refused : (w : ℕ) → refuses w ≡ true → Worded c (Refuse w)
+  refused : (w : ℕ) → refuses w ≡ true → Worded c (Err w)
   refused w k =
       let p = (and-says (ours w) (not (warning w))).0 k in
       record { word = p.0; warns = λ e. absurd ((not-says (warning w)).0 p.1 e) }
@@ -54,10 +54,10 @@ module _ (img pool c : List ℕ) (st : State) where
   plain : (v : Verdict) → word_of v ≡ 0x9000 → Worded c v
   plain v e = record { word = rw e; warns = λ q. absurd (false≢true (rw e at q)) }
 
-  creating_worded : (d s : ℕ) (new : Data) → Worded c (creating img d s new)
-  creating_worded d s Bad = refused 0x6A80 refl
-  creating_worded d s (Df x) = plain _ refl
-  creating_worded d s (Ef x) = plain _ refl
+  creating_worded : (d s : ℕ) (new : Option Data) → Worded c (creating img d s new)
+  creating_worded d s None = refused 0x6A80 refl
+  creating_worded d s (Some (Df x)) = plain _ refl
+  creating_worded d s (Some (Ef x)) = plain _ refl
 
   select_word_lem : (life : ℕ) → ours (select_word life) ≡ true
   unfolding select_word

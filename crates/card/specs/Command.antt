@@ -1,48 +1,52 @@
 -- What one call gives, for any image, pool, command, state and response: the reply, and every byte of the image, of the pool and of the
 -- response afterwards. `lent` is how many bytes the response has.
-use Rattle.std.specs.Prelude.{ℕ, ◌+◌, ◌<◌, ◌≡◌, Bool, true, cond, List, eqb, leb, length}
+use Rattle.std.specs.Prelude.{ℕ, ◌+◌, ◌<◌, ◌≡◌, Bool, true, cond, List, eqb, leb, length, false, Result, Ok, Err}
 use Rattle.laws.specs.Lists.{splice}
 use Rattle.laws.specs.Tests.{implies}
-use Rattle.image.specs.Layout.{has_bodies, longest_rule, version_of}
+use Rattle.image.specs.Layout.{has_bodies, longest_rule, version_of, count_of}
 use Rattle.sound.specs.Sound.{soundb, pool_length}
 use Rattle.verdict.specs.declared.State.{State}
-use Rattle.verdict.specs.declared.Verdict.{Verdict}
-use Rattle.verdict.specs.declared.Verdict.TheVariants.{Refuse}
-use Rattle.verdict.specs.Applied.{word_of, applied_of, pooled_of}
+use Rattle.verdict.specs.Applied.{word_of, applied_of, pooled_of, Verdict}
+use Rattle.access.specs.declared.Decision.{Decision}
 use Rattle.access.specs.Decision.{decision_number}
 use Rattle.judge.specs.Judge.{judge_of}
 use Rattle.judge_security.specs.Security.{denial_of}
 use Rattle.effect.specs.Told.{told}
-use Rattle.card.specs.declared.Reply.{Reply}
-use Rattle.card.specs.declared.Reply.TheVariants.{Word, Damaged, Short, WrongPool}
+use Rattle.card.specs.declared.Answer.{Answer}
+use Rattle.card.specs.declared.CardError.{CardError}
+use Rattle.card.specs.declared.CardError.TheVariants.{Damaged, WrongPool}
+use Rattle.card.specs.declared.CommandError.{CommandError}
+use Rattle.card.specs.declared.CommandError.TheVariants.{Card, Short}
+
+-- the reply to a command: its answer, or why there is none
+abbrev pub Reply : Type 0
+Reply = Result Answer CommandError
+
+-- .. an answer, by its word, how many bytes were told and what a security refusal lacks
+abbrev pub with_word : ℕ → ℕ → Decision → Reply
+with_word w n d = Ok (record { word = w; told = n; security = d })
 
 -- 01's number and word for each reply, how many bytes were told, and what a security refusal lacks: 0 and the word of the command; 1 and
 -- 0000 where the image isn't sound; 5 and 0000 where the response is too short (02 Ticket 2); 6 and 0000 where the pool has a wrong length
 -- (02 Ticket 4)
 abbrev pub answer_number : Reply → ℕ
-answer_number (Word w n d) = 0
-answer_number Damaged = 1
-answer_number Short = 5
-answer_number WrongPool = 6
+answer_number (Ok a) = 0
+answer_number (Err (Card Damaged)) = 1
+answer_number (Err Short) = 5
+answer_number (Err (Card WrongPool)) = 6
 
 abbrev pub answer_word : Reply → ℕ
-answer_word (Word w n d) = w
-answer_word Damaged = 0x0000
-answer_word Short = 0x0000
-answer_word WrongPool = 0x0000
+answer_word (Ok a) = a.word
+answer_word (Err e) = 0x0000
 
 abbrev pub answer_told : Reply → ℕ
-answer_told (Word w n d) = n
-answer_told Damaged = 0
-answer_told Short = 0
-answer_told WrongPool = 0
+answer_told (Ok a) = a.told
+answer_told (Err e) = 0
 
 -- 02's number on security (02 Ticket 6): 0 no security refusal, 1 lacking, 2 closed
 abbrev pub answer_security : Reply → ℕ
-answer_security (Word w n d) = decision_number d
-answer_security Damaged = 0
-answer_security Short = 0
-answer_security WrongPool = 0
+answer_security (Ok a) = decision_number a.security
+answer_security (Err e) = 0
 
 -- the check before all others of a command: where files have bodies, the pool is as long as the root's total; else any pool will do
 unfoldable pub pool_fits : List ℕ → List ℕ → Bool
@@ -52,6 +56,12 @@ pool_fits img pool = implies (has_bodies (version_of img)) (eqb (length pool) (p
 abbrev pub PoolFits : List ℕ → List ℕ → Type 0
 PoolFits img pool = has_bodies (version_of img) ≡ true → length pool ≡ pool_length img
 
+-- what the checks before all others tell of an image and a pool: a card of so many slots, or what makes them none, soundness first
+abbrev pub Checked : List ℕ → List ℕ → Result ℕ CardError → Type 0
+Checked img pool (Ok n) = (soundb img ≡ true) × ((pool_fits img pool ≡ true) × (n ≡ count_of img))
+Checked img pool (Err Damaged) = soundb img ≡ false
+Checked img pool (Err WrongPool) = (soundb img ≡ true) × (pool_fits img pool ≡ false)
+
 -- the last check: what the verdict tells fits the response
 unfoldable pub fits : List ℕ → List ℕ → List ℕ → State → ℕ → Bool
 fits img pool c st lent = leb (length (told img pool c (judge_of img pool c st))) lent
@@ -59,7 +69,7 @@ fits img pool c st lent = leb (length (told img pool c (judge_of img pool c st))
 -- the verdict that stands: where one of these two checks fails, a refusal without a word
 unfoldable pub due_of : List ℕ → List ℕ → List ℕ → State → ℕ → Verdict
 due_of img pool c st lent =
-    cond (pool_fits img pool) (cond (fits img pool c st lent) (judge_of img pool c st) (Refuse 0x0000)) (Refuse 0x0000)
+    cond (pool_fits img pool) (cond (fits img pool c st lent) (judge_of img pool c st) (Err 0x0000)) (Err 0x0000)
 
 -- the longest data on a card of a version: a template, or what one READ asks for
 unfoldable pub longest_answer : ℕ → ℕ
@@ -72,8 +82,8 @@ reply_of img pool c st lent =
     cond (soundb img)
     (cond (pool_fits img pool)
     (cond (fits img pool c st lent)
-    (Word (word_of due) (length (told img pool c due)) (denial_of img pool c st.sets due)) Short) WrongPool)
-    Damaged
+    (with_word (word_of due) (length (told img pool c due)) (denial_of img pool c st.sets due)) (Err Short)) (Err (Card WrongPool)))
+    (Err (Card Damaged))
 
 unfoldable pub image_of : List ℕ → List ℕ → List ℕ → State → ℕ → List ℕ
 image_of img pool c st lent = cond (soundb img) (applied_of img c (due_of img pool c st lent)) img

@@ -2,7 +2,7 @@
 -- judged" and the commands' paragraphs). The words, instructions and lengths are 01's own numbers, and a condition is a
 -- sentence about the bytes of the command and the records of the image: nothing here rests on the tests that judging makes. `lent` is
 -- how many bytes the response has.
-use Rattle.std.specs.Prelude.{◌≡◌, true, cond, List, [], ◌∷◌, ◌⊎◌, ℕ, ◌+◌, ◌*◌, ◌-◌, ◌/◌, ◌%◌, ◌<◌, ◌≤◌, eqb, length, get_or}
+use Rattle.std.specs.Prelude.{◌≡◌, true, cond, List, [], ◌∷◌, ◌⊎◌, ℕ, ◌+◌, ◌*◌, ◌-◌, ◌/◌, ◌%◌, ◌<◌, ◌≤◌, eqb, length, get_or, is_some}
 use Rattle.laws.specs.Lists.{part}
 use Rattle.rules.specs.declared.Right.{Right}
 use Rattle.rules.specs.declared.Right.TheVariants.{DeleteSelf, Terminate, Activate, Deactivate, DeleteChild}
@@ -12,13 +12,14 @@ use Rattle.rules.specs.Life.{life_of, creation, initialisation, activated, deact
 use Rattle.image.specs.Layout.{version_of, count_of, current_df_of, current_ef_of, none, rec_at, descriptor_of, record_length_of, size_of}
 use Rattle.pool.specs.Bodies.{start_at}
 use Rattle.create_data.specs.declared.Data.{Data}
+use Rattle.std.specs.Prelude.{Option}
 use Rattle.sound.specs.Table.{File, view_at, up}
 use Rattle.sound.specs.Kinship.{child_named, room_for}
 use Rattle.create_data.specs.Data.{data_of}
 use Rattle.create_data.specs.Grammar.{DfData, EfData}
 use Rattle.verdict.specs.declared.State.{State}
 use Rattle.verdict.specs.Applied.{sent_data}
-use Rattle.judge_target.specs.Target.{current_file, life_at, allowed_at, is_found, slot_in, selected, right_for, new_identifier, new_name}
+use Rattle.judge_target.specs.Target.{current_file, life_at, allowed_at, slot_in, selected, right_for, new_identifier, new_name}
 use Rattle.judge_target.specs.Target.{new_size}
 use Rattle.apdu.specs.Apdu.{class_byte, lc, sent_identifier}
 use Rattle.fcp.specs.Template.{template_of}
@@ -90,7 +91,7 @@ select_asks img c lent =
     known_asks img c
     (ask ((get_or c 2 0 ≡ 0x00) × ((get_or c 3 0 ≡ 0x0C) ⊎ AsksTemplate c)) 0x6B00  -- F
     ∷ ask (SelectLong c) 0x6700  -- G
-    ∷ ask (is_found (selected img (count_of img) (current_df_of img) (sent_identifier c)) ≡ true) 0x6A82  -- I
+    ∷ ask (is_some (selected img (count_of img) (current_df_of img) (sent_identifier c)) ≡ true) 0x6A82  -- I
     ∷ ask (AsksTemplate c → length (template_of (rec_at img (found img c))) ≤ lent) 0x0000  -- answer 5
     ∷ [])
 
@@ -105,7 +106,7 @@ abbrev pub FreeName : List ℕ → List ℕ → Type 0
 FreeName img name = (name ≡ [] → ⊥) → (s : ℕ) → s < count_of img → (view_at img s).name ≡ name → ⊥
 
 -- the new file that CREATE's data describe, as a card of this version reads them
-abbrev pub new_of : List ℕ → List ℕ → Data
+abbrev pub new_of : List ℕ → List ℕ → Option Data
 new_of img c = data_of (version_of img) (sent_data c)
 
 abbrev pub create_asks : List ℕ → List ℕ → List ℕ → State → List Ask
@@ -132,7 +133,7 @@ delete_asks img pool c st =
     (alone st  -- E
     ∷ parameters_are c 0x00 0x00  -- F
     ∷ ask ((length c ≡ 7) × (lc c ≡ 2)) 0x6700  -- G
-    ∷ ask (is_found (child_named (count_of img) (view_at img) (current_df_of img) (sent_identifier c)) ≡ true) 0x6A82  -- I
+    ∷ ask (is_some (child_named (count_of img) (view_at img) (current_df_of img) (sent_identifier c)) ≡ true) 0x6A82  -- I
     ∷ ask ((allowed_at img pool (named_child img c) DeleteSelf st.sets ≡ true)
     ⊎ (allowed_at img pool (current_df_of img) DeleteChild st.sets ≡ true)) 0x6982  -- J
     ∷ [])

@@ -1,8 +1,7 @@
 -- Demands 1 and 2, as statements over what a call gives (specs/Command). Each is proved in proofs/Answered, proofs/Silent (demand 1, and
 -- what is told), proofs/Pooled or proofs/Demands under the same name in small letters. What each command asks and does stands in
 -- specs/Obeyed.
-use Rattle.std.specs.Prelude.{◌≡◌, true, false, List, [], ◌∷◌, ◌⊎◌, ℕ, ◌+◌, ◌<◌, ◌≤◌, length, get_or}
-use Rattle.laws.specs.declared.Found.TheVariants.{At}
+use Rattle.std.specs.Prelude.{◌≡◌, true, false, List, [], ◌∷◌, ◌⊎◌, ℕ, ◌+◌, ◌<◌, ◌≤◌, length, get_or, Some, Err}
 use Rattle.laws.specs.Lists.{splice}
 use Rattle.laws.specs.Settled.{Settles}
 use Rattle.image.specs.Layout.{has_bodies, form_of, version_of, rec_at, free_bytes, kind_of, count_of, current_df_of, current_ef_of}
@@ -12,16 +11,16 @@ use Rattle.sound.specs.Table.{view_at}
 use Rattle.sound.specs.Sound.{Sound, soundb}
 use Rattle.sound.specs.Kinship.{terminated_at, child_named, at_or_beneath}
 use Rattle.verdict.specs.declared.State.{State}
-use Rattle.verdict.specs.declared.Verdict.{Verdict}
 use Rattle.verdict.specs.Words.{done, file_deactivated, file_terminated}
 use Rattle.pool.specs.Bodies.{body_of}
-use Rattle.verdict.specs.Applied.{word_of, applied_of, pooled_of}
+use Rattle.verdict.specs.Applied.{Verdict, word_of, applied_of, pooled_of}
 use Rattle.judge_target.specs.Steps.{all_hold}
 use Rattle.apdu.specs.Apdu.{instruction, sent_identifier}
 use Rattle.judge.specs.Judge.{judge_of}
 use Rattle.effect.specs.Told.{told}
-use Rattle.card.specs.declared.Reply.{Reply}
-use Rattle.card.specs.declared.Reply.TheVariants.{Word, Short, WrongPool}
+use Rattle.card.specs.declared.CardError.TheVariants.{WrongPool}
+use Rattle.card.specs.declared.CommandError.TheVariants.{Card, Short}
+use Rattle.card.specs.Command.{Reply, with_word}
 use Rattle.card.specs.Command.{answer_number, answer_word, answer_told, PoolFits, longest_answer, due_of, reply_of, image_of, pool_of}
 use Rattle.card.specs.Command.{response_of, CommandPromises}
 use Rattle.card.specs.Steps.{all_steps, effect_of, first_failing}
@@ -78,7 +77,7 @@ words_of_table =
 abbrev pub OnlyTheseWords : Type 0
 OnlyTheseWords = (img pool c : List ℕ) (st : State) (lent : ℕ) → soundb img ≡ true
     → ((answer_number (reply_of img pool c st lent) ≡ 0) × (is_one_of (answer_word (reply_of img pool c st lent)) words_of_table ≡ true))
-    ⊎ ((reply_of img pool c st lent ≡ Short) ⊎ (reply_of img pool c st lent ≡ WrongPool))
+    ⊎ ((reply_of img pool c st lent ≡ Err Short) ⊎ (reply_of img pool c st lent ≡ Err (Card WrongPool)))
 
 -- 6283 and 6285 come from SELECT alone
 abbrev pub WarnsInSelect : Type 0
@@ -90,13 +89,13 @@ abbrev pub OthersTellNothing : Type 0
 OthersTellNothing = (img pool c : List ℕ) (st : State) (response : List ℕ) → (instruction c ≡ 0xA4 → get_or c 3 0 ≡ 0x04 → ⊥)
     → (instruction c ≡ 0xB0 → ⊥) → (instruction c ≡ 0xB2 → ⊥)
     → (response_of img pool c st response ≡ response) × (answer_told (reply_of img pool c st (length response)) ≡ 0)
-    × (reply_of img pool c st (length response) ≡ Short → ⊥)
+    × (reply_of img pool c st (length response) ≡ Err Short → ⊥)
 
 -- a response of 37 bytes and as many as the version's longest rule is never too short where there are no bodies: 53 bytes on version 1, 67
 -- on version 2; on version 3 one of 256 (a READ asks by one byte, which the bytes of a command are)
 abbrev pub LongEnough : Type 0
 LongEnough = (img pool c : List ℕ) (st : State) (lent : ℕ) → (has_bodies (version_of img) ≡ true → get_or c 4 0 < 256)
-    → longest_answer (version_of img) ≤ lent → reply_of img pool c st lent ≡ Short → ⊥
+    → longest_answer (version_of img) ≤ lent → reply_of img pool c st lent ≡ Err Short → ⊥
 
 -- the response keeps its length, and every byte past what was told
 pub record PastStays (response answered : List ℕ) (n : ℕ) : Type 0 where
@@ -137,7 +136,7 @@ abbrev pub RepliesInOrder : Type 0
 RepliesInOrder = (img pool c : List ℕ) (st : State) (response : List ℕ) → Sound img → PoolFits img pool
     → (all_hold (all_steps img pool c st (length response)) ≡ true
     → (reply_of img pool c st (length response)
-    ≡ Word (word_of (effect_of img pool c st)) (length (told img pool c (effect_of img pool c st))) Granted)
+    ≡ with_word (word_of (effect_of img pool c st)) (length (told img pool c (effect_of img pool c st))) Granted)
     × (image_of img pool c st (length response) ≡ applied_of img c (effect_of img pool c st))
     × (pool_of img pool c st (length response) ≡ pooled_of img pool c (effect_of img pool c st))
     × (response_of img pool c st response ≡ splice response 0 (told img pool c (effect_of img pool c st))))
@@ -178,7 +177,7 @@ pub record Deleting (img pool c : List ℕ) (st : State) (lent s : ℕ) : Type 0
   pub delete : instruction c ≡ 0xE4
   pub answered : answer_word (reply_of img pool c st lent) ≡ 0x9000
   pub top : ℕ
-  pub child : child_named (count_of img) (view_at img) (current_df_of img) (sent_identifier c) ≡ At top
+  pub child : child_named (count_of img) (view_at img) (current_df_of img) (sent_identifier c) ≡ Some top
   pub over : at_or_beneath (view_at img) top s ≡ true
 
 -- Demand 2: a terminated file stays terminated until it is deleted: over one command, it is deleted, or not one byte of its

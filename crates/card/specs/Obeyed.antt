@@ -1,11 +1,12 @@
 -- Demand 2, command by command: on a sound image with its pool a command succeeds exactly when all its conditions hold, and then has that
 -- word, leaves that image and that pool and tells that; otherwise it gives the word of the first condition that fails, and image, pool and
 -- response are as they came. Each statement is proved in proofs/Obeyed or proofs/Touched under the same name in small letters.
-use Rattle.std.specs.Prelude.{◌≡◌, Bool, true, false, cond, ◌||◌, List, [], ◌∷◌, ◌⊎◌, ℕ, ◌+◌, ◌≤◌, eqb, length, get_or}
+use Rattle.std.specs.Prelude.{◌≡◌, Bool, true, false, cond, ◌||◌, List, [], ◌∷◌, ◌⊎◌, ℕ, ◌+◌, ◌≤◌, eqb, length, get_or, Err}
 use Rattle.laws.specs.Lists.{splice}
 use Rattle.rules.specs.declared.Sets.{Sets}
 use Rattle.rules.specs.Descriptor.{df, ef}
-use Rattle.rules.specs.Life.{life_of, deactivated, terminated}
+use Rattle.rules.specs.declared.life_cycle.Life.{Life}
+use Rattle.rules.specs.Life.{same_life, life_of, deactivated, terminated}
 use Rattle.image.specs.declared.Head.{Head}
 use Rattle.image.specs.Layout.{version_of, count_of, current_df_of, current_ef_of, none, rec_at, set_current, set_life}
 use Rattle.sound.specs.Table.{view_at}
@@ -15,7 +16,8 @@ use Rattle.sound.specs.Effects.{made, filled, deleted, wiped}
 use Rattle.template.specs.Objects.{bytes_at}
 use Rattle.create_data.specs.declared.NewFile.{NewFile}
 use Rattle.create_data.specs.declared.Data.{Data}
-use Rattle.create_data.specs.declared.Data.TheVariants.{Df, Ef, Bad}
+use Rattle.std.specs.Prelude.{Option, Some, None}
+use Rattle.create_data.specs.declared.Data.TheVariants.{Df, Ef}
 use Rattle.verdict.specs.declared.State.{State}
 use Rattle.verdict.specs.Applied.{sent_data}
 use Rattle.fcp.specs.Template.{template_of}
@@ -23,8 +25,8 @@ use Rattle.access.specs.declared.Decision.TheVariants.{Granted}
 use Rattle.judge_security.specs.Security.{step_j}
 use Rattle.judge_target.specs.Target.{current_file, life_at, slot_in}
 use Rattle.apdu.specs.Apdu.{class_byte, instruction}
-use Rattle.card.specs.declared.Reply.{Reply}
-use Rattle.card.specs.declared.Reply.TheVariants.{Word, Short}
+use Rattle.card.specs.declared.CommandError.TheVariants.{Short}
+use Rattle.card.specs.Command.{Reply, with_word}
 use Rattle.card.specs.Command.{PoolFits, reply_of, image_of, pool_of, response_of}
 use Rattle.card.specs.Conditions.{Ask, Met, Refused, unknown_asks, select_asks, create_asks, delete_asks, activate_asks}
 use Rattle.pool.specs.Bodies.{start_at}
@@ -34,12 +36,13 @@ use Rattle.card.specs.Conditions.{deactivate_asks, terminate_ef_asks, terminate_
 
 -- a refusal tells nothing; the one without a word is answer 5; that of step J says what it decided (02 Ticket 6)
 abbrev pub refusal : List ℕ → List ℕ → List ℕ → Sets → ℕ → Reply
-refusal img pool c x w = cond (eqb w 0x0000) Short (Word w 0 (cond (eqb w 0x6982) (step_j img pool c x) Granted))
+refusal img pool c x w = cond (eqb w 0x0000) (Err Short) (with_word w 0 (cond (eqb w 0x6982) (step_j img pool c x) Granted))
 
 pub record Obeys (img pool c : List ℕ) (st : State) (response : List ℕ) (asks : List Ask) (word : ℕ) (left kept answer : List ℕ)
     : Type 0 where
   pub met : Met asks
-      → (reply_of img pool c st (length response) ≡ Word word (length answer) Granted) × (image_of img pool c st (length response) ≡ left)
+      → (reply_of img pool c st (length response) ≡ with_word word (length answer) Granted)
+      × (image_of img pool c st (length response) ≡ left)
       × (pool_of img pool c st (length response) ≡ kept) × (response_of img pool c st response ≡ splice response 0 answer)
   pub refused : (w : ℕ) → Refused asks w
       → (reply_of img pool c st (length response) ≡ refusal img pool c st.sets w) × (image_of img pool c st (length response) ≡ img)
@@ -49,8 +52,8 @@ pub record Obeys (img pool c : List ℕ) (st : State) (response : List ℕ) (ask
 
 -- SELECT: 6283 for a deactivated file, 6285 for a terminated one, else 9000; a DF becomes current with no EF, an EF becomes
 -- current EF
-abbrev pub word_for : ℕ → ℕ
-word_for class = cond (eqb class deactivated) 0x6283 (cond (eqb class terminated) 0x6285 0x9000)
+abbrev pub word_for : Option Life → ℕ
+word_for class = cond (same_life class deactivated) 0x6283 (cond (same_life class terminated) 0x6285 0x9000)
 
 abbrev pub selecting : List ℕ → ℕ → List ℕ
 selecting img s = cond (eqb (view_at img s).kind df) (set_current img s none) (set_current img (current_df_of img) s)
@@ -78,16 +81,16 @@ new_head img kind x = record {
   size = x.size;
 }
 
-abbrev pub creating : List ℕ → List ℕ → ℕ → Data → List ℕ
-creating img s slot Bad = img
-creating img s slot (Df x) = made img slot (new_head img df x) (bytes_at s x.name) (bytes_at s x.rule)
-creating img s slot (Ef x) = made img slot (new_head img ef x) (bytes_at s x.name) (bytes_at s x.rule)
+abbrev pub creating : List ℕ → List ℕ → ℕ → Option Data → List ℕ
+creating img s slot None = img
+creating img s slot (Some (Df x)) = made img slot (new_head img df x) (bytes_at s x.name) (bytes_at s x.rule)
+creating img s slot (Some (Ef x)) = made img slot (new_head img ef x) (bytes_at s x.name) (bytes_at s x.rule)
 
 -- .. and its body, all FF, where it has one (02 Ticket 4)
-abbrev pub filling : List ℕ → List ℕ → Data → List ℕ
-filling img pool Bad = pool
-filling img pool (Df x) = filled img pool (new_head img df x)
-filling img pool (Ef x) = filled img pool (new_head img ef x)
+abbrev pub filling : List ℕ → List ℕ → Option Data → List ℕ
+filling img pool None = pool
+filling img pool (Some (Df x)) = filled img pool (new_head img df x)
+filling img pool (Some (Ef x)) = filled img pool (new_head img ef x)
 
 abbrev pub CreateObeys : Type 0
 CreateObeys = (img pool c : List ℕ) (st : State) (response : List ℕ) → Sound img → PoolFits img pool → instruction c ≡ 0xE0
@@ -167,5 +170,5 @@ abbrev pub OlderHaveNone : Type 0
 OlderHaveNone = (img pool c : List ℕ) (st : State) (response : List ℕ) → Sound img → (version_of img ≡ 1) ⊎ (version_of img ≡ 2)
     → 4 ≤ length c → class_byte c ≡ 0x00
     → is_one_of (instruction c) (0xB0 ∷ 0xD6 ∷ 0xB2 ∷ 0xDC ∷ []) ≡ true
-    → (reply_of img pool c st (length response) ≡ Word 0x6D00 0 Granted) × (image_of img pool c st (length response) ≡ img)
+    → (reply_of img pool c st (length response) ≡ with_word 0x6D00 0 Granted) × (image_of img pool c st (length response) ≡ img)
     × (pool_of img pool c st (length response) ≡ pool) × (response_of img pool c st response ≡ response)

@@ -1,6 +1,6 @@
 -- 02 Ticket 7 over one call: the rule that a command asks is read in the pool as it is when the command comes. Each is proved in
 -- proofs/Rules under the same name in small letters. Which file counts and what denies stands in referred/specs/Ticket.
-use Rattle.std.specs.Prelude.{ℕ, ◌*◌, ◌-◌, ◌≤◌, ◌≡◌, true, List}
+use Rattle.std.specs.Prelude.{ℕ, ◌*◌, ◌-◌, ◌≤◌, ◌≡◌, true, List, None}
 use Rattle.laws.specs.Lists.{part}
 use Rattle.rules.specs.declared.Right.{Right}
 use Rattle.rules.specs.declared.Sets.{Sets}
@@ -10,7 +10,6 @@ use Rattle.access.specs.Access.{expanded, granted_of}
 use Rattle.access.specs.Decision.{decision_of}
 use Rattle.pool.specs.Bodies.{body_bytes}
 use Rattle.sound.specs.Sound.{Sound}
-use Rattle.referred.specs.declared.Place.TheVariants.{Nowhere}
 use Rattle.referred.specs.Padding.{Padded}
 use Rattle.referred.specs.Deciding.{named_record_of, is_linear, place_of}
 use Rattle.referred.specs.Ticket.{Names}
@@ -40,4 +39,4 @@ RuleOfTheMoment = (img pool : List ℕ) (s t : ℕ) (r : List ℕ) → Sound img
 -- and where the search denies, every right is closed
 abbrev pub DenialsClosed : Type 0
 DenialsClosed = (img pool : List ℕ) (s : ℕ) (right : Right) (x : Sets)
-    → place_of (count_of img) img pool s ≡ Nowhere → decision_at img pool s right x ≡ Closed
+    → place_of (count_of img) img pool s ≡ None → decision_at img pool s right x ≡ Closed

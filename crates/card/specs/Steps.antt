@@ -3,7 +3,7 @@
 use Rattle.std.specs.Prelude.{ℕ, cond, List, [], ◌∷◌, ◌++◌, leb, length}
 use Rattle.image.specs.Layout.{count_of, current_df_of}
 use Rattle.verdict.specs.declared.State.{State}
-use Rattle.verdict.specs.declared.Verdict.{Verdict}
+use Rattle.verdict.specs.Applied.{Verdict}
 use Rattle.verdict.specs.Words.{done}
 use Rattle.judge_target.specs.Steps.{Step, step}
 use Rattle.judge.specs.Shared.{shared_steps}

@@ -7,37 +7,53 @@
 
 ghost use Rattle.std.specs.Prelude.{◌≡◌};
 ghost use Rattle.sound.specs.Sound.{Sound};
-ghost use Rattle.card.specs.Command.{pool_fits, CommandPromises};
+ghost use Rattle.card.specs.declared.CommandError.TheVariants.{Card, Short};
+ghost use Rattle.card.specs.Command.{pool_fits, Checked, CommandPromises};
 
 use access::Decision;
-use fcp::Written;
-use referred::Place;
+use fcp::TooShort;
 use verdict::State;
 
 pub mod standing;
 
-// What a call answers: the word of a command on a sound image, how many bytes it told, and what it lacks where it was refused for security
-// (with any other word, where no rule was asked too, nothing: Granted); or that the image is damaged; or that the response is too short
-// for what the command would tell; or that the pool does not have the length of this card's.
+// What a command on a card answers: its word, how many bytes it told, and what it lacks where it was refused for security (with any other
+// word, where no rule was asked too, nothing: Granted).
 #[derive(Clone, Copy)]
-pub enum Reply {
-    Word {
-        word: u16,
-        told: usize,
-        security: Decision,
-    },
-    Damaged,
-    Short,
-    WrongPool,
+pub struct Answer {
+    pub word: u16,
+    pub told: usize,
+    pub security: Decision,
 }
 
-// Where the rule of a slot stands, nowhere if there is no file; or that the image is damaged, or that the pool does not have the length of
-// this card's.
-#[derive(Clone, Copy)]
-pub enum Ruling {
-    At(Place),
-    Damaged,
-    WrongPool,
+// Why an image and a pool are no card, with the number of that answer: the image is damaged, or the pool does not have the length of this
+// card's.
+#[derive(Clone, Copy, Debug, PartialEq, Eq)]
+pub enum CardError {
+    Damaged = 1,
+    WrongPool = 6,
+}
+
+// Why a command has no answer: there is no card, or the response is too short for what it would tell.
+#[derive(Clone, Copy, Debug, PartialEq, Eq)]
+pub enum CommandError {
+    Card(CardError),
+    Short,
+}
+
+impl From<CardError> for CommandError {
+    ghost from_gives = { λ e r. r ≡ Card e };
+
+    fn from(e: CardError) -> CommandError {
+        CommandError::Card(e)
+    }
+}
+
+impl From<TooShort> for CommandError {
+    ghost from_gives = { λ _ r. r ≡ Short };
+
+    fn from(_e: TooShort) -> CommandError {
+        CommandError::Short
+    }
 }
 
 // Whether the pool has the length that a sound image wants: the root's total, where files have bodies.
@@ -51,6 +67,19 @@ pub fn pool_fits(image: &[u8], pool: &[u8]) -> bool
     pool.len() == image::fields::size(image, 0) as usize
 }
 
+// The slot count of a card; what is none is refused before all else.
+fn slots(image: &[u8], pool: &[u8]) -> Result<usize, CardError>
+    ensures { Checked image.now pool.now result }
+{
+    if !sound_test::sound(image) {
+        return Err(CardError::Damaged);
+    }
+    if !pool_fits(image, pool) {
+        return Err(CardError::WrongPool);
+    }
+    Ok(image::fields::count(image))
+}
+
 // One command on any image, whatever its bytes, the command, the response and the state.
 pub fn command(
     image: &mut [u8],
@@ -58,26 +87,18 @@ pub fn command(
     command: &[u8],
     response: &mut [u8],
     state: State,
-) -> Reply
+) -> Result<Answer, CommandError>
     ensures { CommandPromises image.old pool.old command.now state response.old result
         image.new pool.new response.new }
 {
-    if !sound_test::sound(image) {
-        return Reply::Damaged;
-    }
-    if !pool_fits(image, pool) {
-        return Reply::WrongPool;
-    }
-    let n = image::fields::count(image);
+    let n = slots(image, pool)?;
     let due = judge::order::judge(image, pool, command, state);
-    let Written::Done(told) = effect::tell::tell(response, image, pool, command, due) else {
-        return Reply::Short;
-    };
+    let told = effect::tell::tell(response, image, pool, command, due)?;
     let security = judge_security::denial(image, pool, command, state, due);
     let word = effect::apply::apply(image, n, pool, command, due);
-    Reply::Word {
-        word: word,
-        told: told,
-        security: security,
-    }
+    Ok(Answer {
+        word,
+        told,
+        security,
+    })
 }

@@ -2,26 +2,20 @@
 ghost use Rattle.std.specs.Prelude.{◌≡◌};
 ghost use Rattle.card.specs.Ruling.{ruling_of, RulingBounded};
 
-use crate::Ruling;
+use crate::CardError;
 use image::fields;
 use referred::{Place, deciding};
 
-// The rule of slot s of any image, whatever its bytes, and any pool.
-pub fn ruling(image: &[u8], pool: &[u8], s: usize) -> Ruling
+// The rule of slot s of any image, whatever its bytes, and any pool; nowhere, None, if there is no file.
+pub fn ruling(image: &[u8], pool: &[u8], s: usize) -> Result<Option<Place>, CardError>
     ensures { (result ≡ ruling_of image.now pool.now s) × RulingBounded result }
 {
-    if !sound_test::sound(image) {
-        return Ruling::Damaged;
-    }
-    if !crate::pool_fits(image, pool) {
-        return Ruling::WrongPool;
-    }
-    let n = fields::count(image);
+    let n = crate::slots(image, pool)?;
     if n <= s {
-        return Ruling::At(Place::Nowhere);
+        return Ok(None);
     }
     if fields::kind(image, s) == image::FREE {
-        return Ruling::At(Place::Nowhere);
+        return Ok(None);
     }
-    Ruling::At(deciding::place(image, pool, n, s))
+    Ok(deciding::place(image, pool, n, s))
 }

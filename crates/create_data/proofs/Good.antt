@@ -1,11 +1,11 @@
 -- What is read from any data is good, or bad.
 use mathlib.Core.Path.{◌≡◌, refl}
-use mathlib.Core.Bool.{Bool, true, false, cond}
+use mathlib.Core.Bool.{Bool, true, false, cond, false≢true}
 use mathlib.Core.List.{List}
 use mathlib.Core.Logic.{⊎_elim}
-use Prim.Native.Nat.{ℕ, ◌≤◌}
+use Prim.Native.Nat.{ℕ, ◌-◌, ◌≤◌}
 use native.Mathlib.Omega.{arith}
-use lib.ListN.{length}
+use lib.ListN.{length, get_or}
 use lib.Dec.{eqb}
 use borrow.Author.Tests.{eqb-true, eqb-false}
 use Rattle.laws.proofs.Says.{and-says, or-says}
@@ -14,9 +14,10 @@ use Rattle.rules.specs.Descriptor.{class_of, df, ef}
 use Rattle.rules.specs.Life.{new_life}
 use Rattle.rules.specs.Value.{good_identifier, good_length}
 use Rattle.template.specs.declared.Objects.{Objects}
+use Rattle.template.specs.declared.Span.{Span}
 use Rattle.create_data.specs.declared.Data.{Data}
-use Rattle.create_data.specs.declared.Data.TheVariants.{Bad}
-use Rattle.template.specs.Objects.{start_in, end_in, length_in, value_in, objects_of, Held}
+use Rattle.std.specs.Prelude.{Option, Some, None, is_none, unwrap_or}
+use Rattle.template.specs.Objects.{nowhere, start_in, end_in, length_in, value_in, objects_of, Held}
 use Rattle.create_data.specs.Form.{t82, t83, t84, t8a, t80, t81, lacks, one_rule, rule_in, df_form, ef_form}
 use Rattle.template.specs.Values.{first_of, pair_of, record_length_of, number_of, fits_name}
 use Rattle.create_data.specs.Data.{is_template, need, name_good, rule_good, both_good, new_file, df_of, sized_ef, ef_of, file_of, data_of}
@@ -26,18 +27,18 @@ use Rattle.create_data.proofs.Meaning.{name-fits}
 
 -- past a test: only the branch that goes on is to be shown good
 module _ (v : ℕ) (s : List ℕ) where
-  needed : (b : Bool) (x : Data) → (b ≡ true → Good v s x) → Good v s (need b x)
+  needed : (b : Bool) (x : Option Data) → (b ≡ true → Good v s x) → Good v s (need b x)
   needed true x f = f refl
   needed false x f = tt
 
-  not-zero : (k : ℕ) (x : Data) → ((k ≡ 0 → ⊥) → Good v s x) → Good v s (cond (eqb k 0) Bad x)
+  not-zero : (k : ℕ) (x : Option Data) → ((k ≡ 0 → ⊥) → Good v s x) → Good v s (cond (eqb k 0) None x)
   not-zero k x f = go (eqb k 0) refl
     where
-      go : (b : Bool) → eqb k 0 ≡ b → Good v s (cond b Bad x)
+      go : (b : Bool) → eqb k 0 ≡ b → Good v s (cond b None x)
       go true p = tt
       go false p = f (eqb-false k 0 p)
 
-  by_class : (k m : ℕ) (x y : Data) → (k ≡ m → Good v s x) → Good v s y → Good v s (cond (eqb k m) x y)
+  by_class : (k m : ℕ) (x y : Option Data) → (k ≡ m → Good v s x) → Good v s y → Good v s (cond (eqb k m) x y)
   by_class k m x y f g = go (eqb k m) refl
     where
       go : (b : Bool) → eqb k m ≡ b → Good v s (cond b x y)
@@ -64,17 +65,22 @@ module _ (v : ℕ) (s : List ℕ) (o : Objects) (h : Held s o) where
   -- an EF's list has no place for a name
   none-sent : (d : ℕ) → ef_form o d ≡ true → end_in o t84 ≡ start_in o t84
   unfolding ef_form lacks
-  none-sent d f =
-      let z : start_in o t84 ≡ 0 = eqb-true _ _ (simp and-says at f).1.1.1.1.1.0 in
-      let e : end_in o t84 ≡ 0 = h.absent t84 z in
-      omega arith
+  none-sent d f = go (get_or o.values t84 None) (simp and-says at f).1.1.1.1.1.0
+    where
+      go : (p : Option Span) → is_none p ≡ true → (unwrap_or p nowhere).end ≡ (unwrap_or p nowhere).start
+      go None e = refl
+      go (Some x) e = absurd (false≢true e)
 
   name-good : name_good s o ≡ true → length_in o t84 ≤ 16
   unfolding name_good lacks
-  name-good e = ⊎_elim none some ((or-says (eqb (start_in o t84) 0) _).0 e)
+  name-good e = ⊎_elim none some ((or-says (is_none (get_or o.values t84 None)) _).0 e)
     where
-      none : eqb (start_in o t84) 0 ≡ true → length_in o t84 ≤ 16
-      none q = let z : end_in o t84 ≡ 0 = h.absent t84 (eqb-true (start_in o t84) 0 q) in omega arith
+      go : (p : Option Span) → is_none p ≡ true → (unwrap_or p nowhere).end - (unwrap_or p nowhere).start ≤ 16
+      go None q = omega arith
+      go (Some x) q = absurd (false≢true q)
+
+      none : is_none (get_or o.values t84 None) ≡ true → length_in o t84 ≤ 16
+      none = go (get_or o.values t84 None)
 
       some : fits_name (value_in s o t84) ≡ true → length_in o t84 ≤ 16
       some q =

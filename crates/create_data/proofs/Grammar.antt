@@ -9,46 +9,46 @@ use native.Mathlib.Omega.{arith}
 use lib.ListN.{length, get_or, drop, length-append}
 use lib.Dec.{eqb, lit<}
 use borrow.Author.Tests.{eq-eqb, ne_eqb, le-leb}
+use Rattle.std.specs.Prelude.{Option, Some, None, is_none}
 use Rattle.rules.specs.Descriptor.{class_of, df, ef}
 use Rattle.rules.specs.Value.{good_length}
 use Rattle.template.specs.declared.Objects.{Objects}
 use Rattle.create_data.specs.declared.Data.{Data}
-use Rattle.create_data.specs.declared.Data.TheVariants.{Bad}
 use Rattle.template.specs.Objects.{value_in, objects_of}
 use Rattle.create_data.specs.Form.{t82, t83, t84, t8a, t8c, tab, t8b, t80, t81, df_form, ef_form}
 use Rattle.template.specs.Values.{first_of, pair_of, record_length_of, number_of}
 use Rattle.create_data.specs.Data.{is_template, name_good, both_good, new_file, df_of, sized_ef, ef_of, file_of, data_of}
-use Rattle.create_data.specs.Grammar.{Optional, absent, sent, object, optional, template, value_of, first, number}
+use Rattle.create_data.specs.Grammar.{object, optional, template, value_of, first, number}
 use Rattle.create_data.specs.Grammar.{Private, neither, in85, in_a5, privately, Ruled, in_8c, in_ab, in_8b, ruled, rule_of, rule_form}
 use Rattle.create_data.specs.Grammar.{FileData, DfData, EfData, DfRead, EfRead, DataExactly, DataRead}
-use Rattle.create_data.proofs.Noting.{is_absent, Noted, standing_noted}
+use Rattle.create_data.proofs.Noting.{Noted, standing_noted}
 use Rattle.create_data.proofs.Order.{run, written-told, written-ends}
 use Rattle.create_data.proofs.Meaning.{and, each, first_is, pair_is, number_is, name-says, file_to, layout_to, layout-length}
 use Rattle.create_data.proofs.Forms.{ruled_of, once_of, value_is, lacks_is, rule_value, rule-form, both_is, df-form, ef-form}
 use Rattle.create_data.proofs.Taken.{taken}
 
 -- past a test
-on : (P : Data → Type 0) (b : Bool) (x y : Data) → b ≡ true → P x → P (cond b x y)
+on : (P : Option Data → Type 0) (b : Bool) (x y : Option Data) → b ≡ true → P x → P (cond b x y)
 on P b x y e h = rw e h
 
-off : (P : Data → Type 0) (b : Bool) (x y : Data) → b ≡ false → P y → P (cond b x y)
+off : (P : Option Data → Type 0) (b : Bool) (x y : Option Data) → b ≡ false → P y → P (cond b x y)
 off P b x y e h = rw e h
 
 -- 8C, AB and 8B as three of the twelve
-abbrev as_8c : Ruled → Optional
-as_8c (in_8c v) = sent v
-as_8c (in_ab v) = absent
-as_8c (in_8b v) = absent
+abbrev as_8c : Ruled → Option (List ℕ)
+as_8c (in_8c v) = Some v
+as_8c (in_ab v) = None
+as_8c (in_8b v) = None
 
-abbrev as_ab : Ruled → Optional
-as_ab (in_8c v) = absent
-as_ab (in_ab v) = sent v
-as_ab (in_8b v) = absent
+abbrev as_ab : Ruled → Option (List ℕ)
+as_ab (in_8c v) = None
+as_ab (in_ab v) = Some v
+as_ab (in_8b v) = None
 
-abbrev as_8b : Ruled → Optional
-as_8b (in_8c v) = absent
-as_8b (in_ab v) = absent
-as_8b (in_8b v) = sent v
+abbrev as_8b : Ruled → Option (List ℕ)
+as_8b (in_8c v) = None
+as_8b (in_ab v) = None
+as_8b (in_8b v) = Some v
 
 rule-one : (r : Ruled) → once_of (as_8c r) (as_ab r) (as_8b r) ≡ true
 rule-one (in_8c v) = refl
@@ -67,17 +67,17 @@ rule-bytes (in_ab v) l = refl
 rule-bytes (in_8b v) l = refl
 
 -- 85 and A5 as two more
-abbrev as85 : Private → Optional
-as85 neither = absent
-as85 (in85 v) = sent v
-as85 (in_a5 v) = absent
+abbrev as85 : Private → Option (List ℕ)
+as85 neither = None
+as85 (in85 v) = Some v
+as85 (in_a5 v) = None
 
-abbrev as_a5 : Private → Optional
-as_a5 neither = absent
-as_a5 (in85 v) = absent
-as_a5 (in_a5 v) = sent v
+abbrev as_a5 : Private → Option (List ℕ)
+as_a5 neither = None
+as_a5 (in85 v) = None
+as_a5 (in_a5 v) = Some v
 
-private-one : (p : Private) → (is_absent (as85 p) || is_absent (as_a5 p)) ≡ true
+private-one : (p : Private) → (is_none (as85 p) || is_none (as_a5 p)) ≡ true
 private-one neither = refl
 private-one (in85 v) = refl
 private-one (in_a5 v) = refl
@@ -88,21 +88,21 @@ private-bytes (in85 v) = sym (append-nil (object 0x85 v))
 private-bytes (in_a5 v) = sym (append-nil (object 0xA5 v))
 
 -- the twelve, by their numbers
-abbrev by_number : List Optional → ℕ → Optional
-by_number xs k = get_or xs k absent
+abbrev by_number : List (Option (List ℕ)) → ℕ → Option (List ℕ)
+by_number xs k = get_or xs k None
 
-abbrev df_objects : {v : ℕ} {s : List ℕ} → DfData v s → ℕ → Optional
+abbrev df_objects : {v : ℕ} {s : List ℕ} → DfData v s → ℕ → Option (List ℕ)
 df_objects t =
-    by_number (sent t.descriptor ∷ sent t.identifier ∷ t.name ∷ sent t.life ∷ as_8c t.rule ∷ as_ab t.rule
-    ∷ as_8b t.rule ∷ absent ∷ sent t.total ∷ sent t.security ∷ as85 t.private ∷ as_a5 t.private ∷ [])
+    by_number (Some t.descriptor ∷ Some t.identifier ∷ t.name ∷ Some t.life ∷ as_8c t.rule ∷ as_ab t.rule
+    ∷ as_8b t.rule ∷ None ∷ Some t.total ∷ Some t.security ∷ as85 t.private ∷ as_a5 t.private ∷ [])
 
-abbrev ef_objects : {v : ℕ} {s : List ℕ} → EfData v s → ℕ → Optional
+abbrev ef_objects : {v : ℕ} {s : List ℕ} → EfData v s → ℕ → Option (List ℕ)
 ef_objects t =
-    by_number (sent t.descriptor ∷ sent t.identifier ∷ absent ∷ sent t.life ∷ as_8c t.rule ∷ as_ab t.rule
-    ∷ as_8b t.rule ∷ sent t.size ∷ absent ∷ absent ∷ as85 t.private ∷ as_a5 t.private ∷ [])
+    by_number (Some t.descriptor ∷ Some t.identifier ∷ None ∷ Some t.life ∷ as_8c t.rule ∷ as_ab t.rule
+    ∷ as_8b t.rule ∷ Some t.size ∷ None ∷ None ∷ as85 t.private ∷ as_a5 t.private ∷ [])
 
 -- data that are twelve such objects, some of them absent
-module _ (v : ℕ) (s : List ℕ) (x : ℕ → Optional) (w : s ≡ template (run 12 0 x)) (short : length s ≤ 2 + 0x7F) where
+module _ (v : ℕ) (s : List ℕ) (x : ℕ → Option (List ℕ)) (w : s ≡ template (run 12 0 x)) (short : length s ≤ 2 + 0x7F) where
   long : 2 ≤ length s
   long = omega (arith, ap length w)
 
@@ -122,8 +122,8 @@ module _ (v : ℕ) (s : List ℕ) (x : ℕ → Optional) (w : s ≡ template (ru
   noted_as k l = rw (written-told s short x long body k l) at (standing_noted s long k l)
 
   -- the reader goes on to tell a DF from an EF
-  opened : (P : Data → Type 0) → let d : ℕ = first_of (value_in s (objects_of s) t82) in
-      P (cond (eqb (class_of d) df) (df_of v s (objects_of s)) (cond (eqb (class_of d) ef) (ef_of v s (objects_of s) d) Bad)) → P (data_of v s)
+  opened : (P : Option Data → Type 0) → let d : ℕ = first_of (value_in s (objects_of s) t82) in
+      P (cond (eqb (class_of d) df) (df_of v s (objects_of s)) (cond (eqb (class_of d) ef) (ef_of v s (objects_of s) d) None)) → P (data_of v s)
   unfolding data_of file_of
   opened P h =
       on P (is_template s) _ _ is-template
@@ -133,7 +133,7 @@ module _ (v : ℕ) (s : List ℕ) (x : ℕ → Optional) (w : s ≡ template (ru
   class_is v k e h = ap class_of (ap first_of (value_is s x (objects_of s) noted_as t82 (lit< tt) ∙ e) ∙ first_is v) ∙ h
 
 -- identifier, life cycle and rule are good, o being what was noted
-both-good : (v : ℕ) (s : List ℕ) (x : ℕ → Optional) (o : Objects) → Noted s x o → (r : Ruled) → as_8c r ≡ x t8c → as_ab r ≡ x tab
+both-good : (v : ℕ) (s : List ℕ) (x : ℕ → Option (List ℕ)) (o : Objects) → Noted s x o → (r : Ruled) → as_8c r ≡ x t8c → as_ab r ≡ x tab
     → as_8b r ≡ x t8b → FileData v (value_of (x t83)) (value_of (x t8a)) r → both_good v s o ≡ true
 both-good v s x o g r p q t f =
     both_is s x o g v ∙ rw (← p, ← q, ← t, rule-same r) (file_to v _ _ (once_of (as_8c r) (as_ab r) (as_8b r)) r (rule-one r) f)

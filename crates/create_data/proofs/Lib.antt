@@ -1,5 +1,3 @@
-mod Judging
-pub mod Lists
 pub mod Good
 pub mod Noting
 pub mod Order

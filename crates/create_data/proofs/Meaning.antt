@@ -9,6 +9,7 @@ use native.Mathlib.Omega.{arith}
 use lib.ListN.{length, drop, drop_of_length-le}
 use lib.Dec.{eqb, leb}
 use borrow.Author.Tests.{eqb-true, eq-eqb}
+use Rattle.std.specs.Prelude.{Option, Some, None, is_none}
 use Rattle.laws.specs.Tests.{either}
 use Rattle.laws.proofs.Says.{and-says, or-says, not-says, either-says, le-says, untrue}
 use Rattle.numbers.specs.Numbers.{u16_at, u32_at}
@@ -19,10 +20,9 @@ use Rattle.image.specs.Layout.{longest_rule, forms_of}
 use Rattle.access.proofs.Fits.{fits-says}
 use Rattle.access.specs.Access.{well_formed, fits_record}
 use Rattle.template.specs.Values.{first_of, pair_of, record_length_of, number_of, fits_name}
-use Rattle.create_data.specs.Grammar.{Optional, absent, sent, value_of, Ruled, rule_of, rule_form, first, number, Long}
+use Rattle.create_data.specs.Grammar.{value_of, Ruled, rule_of, rule_form, first, number, Long}
 use Rattle.create_data.specs.Grammar.{NameLong, FileData}
 use Rattle.create_data.specs.Grammar.{Structured, Records, Layout, plain, records}
-use Rattle.create_data.proofs.Noting.{is_absent}
 
 -- the numbers that are read
 pub first_is : (v : List ℕ) → first_of v ≡ first v
@@ -79,9 +79,9 @@ pub name-fits : (v : List ℕ) → (fits_name v ≡ true) ↔ Long 1 16 v
 unfolding fits_name
 name-fits v = long-says _ _ v
 
-pub name-says : (x : Optional) → ((is_absent x || fits_name (value_of x)) ≡ true) ↔ NameLong x
-name-says absent = (λ e. tt, λ l. refl)
-name-says (sent v) = name-fits v
+pub name-says : (x : Option (List ℕ)) → ((is_none x || fits_name (value_of x)) ≡ true) ↔ NameLong x
+name-says None = (λ e. tt, λ l. refl)
+name-says (Some v) = name-fits v
 
 -- an identifier, a life cycle and a rule
 pub identifier-says : (n : ℕ) → (good_identifier n ≡ true) ↔ ((n ≡ 0x3FFF → ⊥) × (n ≡ 0x7FFF → ⊥) × (n ≡ 0xFFFF → ⊥))

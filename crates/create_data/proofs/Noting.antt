@@ -11,36 +11,37 @@ use native.Mathlib.Omega.{arith}
 use lib.ListN.{length, get_or, take, drop, set, length-set, take-append-drop}
 use lib.Seq.{drop-cons, drop-drop, take_at, get_or-set_same, get_or-set_other}
 use lib.Dec.{eqb, ltb}
-use borrow.Author.Tests.{eqb-true, ltb-false, ne_eqb}
+use borrow.Author.Tests.{eqb-true, ltb-false}
+use Rattle.std.specs.Prelude.{Option, Some, None, is_none, unwrap_or}
 use Rattle.laws.specs.Lists.{part}
 use Rattle.laws.proofs.Branches.{same-cons}
 use Rattle.laws.proofs.Splices.{length_part}
 use Rattle.laws.proofs.Walks.{split_lt}
 use Rattle.template.specs.declared.Object.{Object}
-use Rattle.template.specs.declared.Object.TheVariants.{Whole, Broken}
 use Rattle.template.specs.declared.Objects.{Objects}
-use Rattle.template.specs.Objects.{object_at, order, start_in, end_in, noted, on_tag, taken_at, taken_below, objects_of}
-use Rattle.create_data.specs.Grammar.{Optional, absent, sent, object, value_of}
-use Rattle.template.proofs.Holding.{zeros}
-
-abbrev pub is_absent : Optional → Bool
-is_absent absent = true
-is_absent (sent v) = false
+use Rattle.template.specs.declared.Span.{Span}
+use Rattle.template.specs.Objects.{nowhere, object_at, order, noted, on_tag, taken_at, taken_below, objects_of}
+use Rattle.create_data.specs.Grammar.{object, value_of}
+use Rattle.template.proofs.Holding.{nones}
 
 -- object k, as what stands at its place shows it
-abbrev pub seen : List ℕ → ℕ → Object → Optional
-seen s k Broken = absent
-seen s k (Whole tag start end) = cond (eqb tag (get_or order k 0)) (sent (part s start (end - start))) absent
+abbrev pub seen : List ℕ → ℕ → Option Object → Option (List ℕ)
+seen s k None = None
+seen s k (Some x) = cond (eqb x.tag (get_or order k 0)) (Some (part s x.value.start (x.value.end - x.value.start))) None
 
 -- object k of the data
-unfoldable pub standing : List ℕ → ℕ → Optional
+unfoldable pub standing : List ℕ → ℕ → Option (List ℕ)
 standing s k = seen s k (object_at s (taken_below k s).next)
 
+-- a value of m bytes behind a tag and a length at n
+abbrev pub behind : ℕ → ℕ → Span
+behind n m = record { start = n + 2; end = n + 2 + m }
+
 -- one step: object k is not there and nothing changes, or it is there with value v and is noted
-abbrev pub Step : List ℕ → Objects → ℕ → Optional → Objects → Type 0
-Step s o k absent r = r ≡ o
-Step s o k (sent v) r =
-    (r ≡ noted o k (o.next + 2) (o.next + 2 + length v))
+abbrev pub Step : List ℕ → Objects → ℕ → Option (List ℕ) → Objects → Type 0
+Step s o k None r = r ≡ o
+Step s o k (Some v) r =
+    (r ≡ noted o k (behind o.next (length v)))
     × (drop o.next s ≡ object (get_or order k 0) v ++ drop (o.next + 2 + length v) s)
     × (o.next + 2 + length v ≤ length s)
 
@@ -77,64 +78,60 @@ step s o k = go (ltb (length s) (n + 2)) (ltb 0x7F m) (ltb (length s) (n + 2 + m
     v = part s (n + 2) (n + 2 + m - (n + 2))
 
     tagged : n + 2 + m ≤ length s → (b : Bool) → eqb (get_or s n 0) (get_or order k 0) ≡ b
-        → Step s o k (cond b (sent v) absent) (cond b (noted o k (n + 2) (n + 2 + m)) o)
+        → Step s o k (cond b (Some v) None) (cond b (noted o k (behind n m)) o)
     tagged l false q = refl
     tagged l true q =
         let z : length v ≡ m = value-length s n m refl l in (
-          ap (λ (i : ℕ). noted o k (n + 2) (n + 2 + i)) (sym z),
+          ap (λ (i : ℕ). noted o k (behind n i)) (sym z),
           stands_whole s n m refl l ∙ same-cons (eqb-true _ _ q) (same-cons (sym z) (ap (λ (i : ℕ). v ++ drop (n + 2 + i) s) (sym z))),
           omega arith,
         )
 
     go : (a b c : Bool) → ltb (length s) (n + 2 + m) ≡ c
-        → let r : Object = cond a Broken (cond b Broken (cond c Broken (Whole (get_or s n 0) (n + 2) (n + 2 + m)))) in
+        → let r : Option Object = cond a None (cond b None (cond c None (Some (record { tag = get_or s n 0; value = behind n m })))) in
         Step s o k (seen s k r) (on_tag o k r)
     go true b c q = refl
     go false true c q = refl
     go false false true q = refl
     go false false false q = tagged (ltb-false (length s) (n + 2 + m) q) (eqb (get_or s n 0) (get_or order k 0)) refl
 
--- a value that stands at a to e, or none, at 0 to 0
-pub record Stands (s : List ℕ) (a e : ℕ) (x : Optional) : Type 0 where
-  pub value : part s a (e - a) ≡ value_of x
-  pub long : e - a ≡ length (value_of x)
-  pub lacking : eqb a 0 ≡ is_absent x
+-- a value that stands at p, or none
+pub record Stands (s : List ℕ) (p : Option Span) (x : Option (List ℕ)) : Type 0 where
+  pub value : part s (unwrap_or p nowhere).start ((unwrap_or p nowhere).end - (unwrap_or p nowhere).start) ≡ value_of x
+  pub long : (unwrap_or p nowhere).end - (unwrap_or p nowhere).start ≡ length (value_of x)
+  pub lacking : is_none p ≡ is_none x
 
--- each of the eleven is noted where it stands
-abbrev pub Noted : List ℕ → (ℕ → Optional) → Objects → Type 0
-Noted s x o = (k : ℕ) → k < 12 → Stands s (start_in o k) (end_in o k) (x k)
+-- each of the twelve is noted where it stands
+abbrev pub Noted : List ℕ → (ℕ → Option (List ℕ)) → Objects → Type 0
+Noted s x o = (k : ℕ) → k < 12 → Stands s (get_or o.values k None) (x k)
 
 -- the objects below k are noted, the others are to come
-record Upto (s : List ℕ) (x : ℕ → Optional) (k : ℕ) (o : Objects) : Type 0 where
-  starts_long : length o.starts ≡ 12
-  ends-long : length o.ends ≡ 12
-  read : (j : ℕ) → j < k → Stands s (start_in o j) (end_in o j) (x j)
-  start_none : (j : ℕ) → k ≤ j → start_in o j ≡ 0
-  end_none : (j : ℕ) → k ≤ j → end_in o j ≡ 0
+record Upto (s : List ℕ) (x : ℕ → Option (List ℕ)) (k : ℕ) (o : Objects) : Type 0 where
+  values_long : length o.values ≡ 12
+  read : (j : ℕ) → j < k → Stands s (get_or o.values j None) (x j)
+  none : (j : ℕ) → k ≤ j → ◌≡◌ {A = Option Span} (get_or o.values j None) None
   within : o.next ≤ length s
 
-stands_none : (s : List ℕ) → Stands s 0 0 absent
+stands_none : (s : List ℕ) → Stands s None None
 unfolding part
 stands_none s = record { value = refl; long = refl; lacking = refl }
 
 -- a step keeps it so
-module _ (s : List ℕ) (x : ℕ → Optional) (k : ℕ) (lt : k < 12) (o : Objects) (h : Upto s x k o) where
-  none-noted : x k ≡ absent → Upto s x (suc k) o
+module _ (s : List ℕ) (x : ℕ → Option (List ℕ)) (k : ℕ) (lt : k < 12) (o : Objects) (h : Upto s x k o) where
+  none-noted : x k ≡ None → Upto s x (suc k) o
   none-noted q = record {
-    starts_long = h.starts_long;
-    ends-long = h.ends-long;
+    values_long = h.values_long;
     read = λ j m. ⊎_elim (here j) (h.read j) (split_lt m);
-    start_none = λ j m. h.start_none j (omega arith);
-    end_none = λ j m. h.end_none j (omega arith);
+    none = λ j m. h.none j (omega arith);
     within = h.within;
   }
     where
-      here : (j : ℕ) → j ≡ k → Stands s (start_in o j) (end_in o j) (x j)
-      here j z = rw (z, q, h.start_none k (omega arith), h.end_none k (omega arith)) (stands_none s)
+      here : (j : ℕ) → j ≡ k → Stands s (get_or o.values j None) (x j)
+      here j z = rw (z, q, h.none k (omega arith)) (stands_none s)
 
-  module _ (v : List ℕ) (q : x k ≡ sent v) (w : drop o.next s ≡ object (get_or order k 0) v ++ drop (o.next + 2 + length v) s)
+  module _ (v : List ℕ) (q : x k ≡ Some v) (w : drop o.next s ≡ object (get_or order k 0) v ++ drop (o.next + 2 + length v) s)
       (f : o.next + 2 + length v ≤ length s) where
-    stands : Stands s (o.next + 2) (o.next + 2 + length v) (sent v)
+    stands : Stands s (Some (behind o.next (length v))) (Some v)
     unfolding part
     stands =
         let z : o.next + 2 + length v - (o.next + 2) ≡ length v = omega arith in
@@ -144,49 +141,38 @@ module _ (s : List ℕ) (x : ℕ → Optional) (k : ℕ) (lt : k < 12) (o : Obje
               ∙ ap (λ (l : List ℕ). take (length v) l) (sym (drop-drop 2 o.next s) ∙ ap (λ (l : List ℕ). drop 2 l) w)
               ∙ take_at v (drop (o.next + 2 + length v) s) (length v) refl;
           long = z;
-          lacking = ne_eqb (o.next + 2) 0 (λ i. omega arith);
+          lacking = refl;
         }
 
-    one-noted : Upto s x (suc k) (noted o k (o.next + 2) (o.next + 2 + length v))
+    one-noted : Upto s x (suc k) (noted o k (behind o.next (length v)))
     one-noted = record {
-      starts_long = length-set o.starts k a ∙ h.starts_long;
-      ends-long = length-set o.ends k b ∙ h.ends-long;
+      values_long = length-set o.values k p ∙ h.values_long;
       read = λ j m. ⊎_elim (here j) (λ i. other j (λ z. omega arith) (h.read j i)) (split_lt m);
-      start_none = λ j m. get_or-set_other o.starts k j a 0 (λ z. omega arith) ∙ h.start_none j (omega arith);
-      end_none = λ j m. get_or-set_other o.ends k j b 0 (λ z. omega arith) ∙ h.end_none j (omega arith);
+      none = λ j m. get_or-set_other o.values k j p None (λ z. omega arith) ∙ h.none j (omega arith);
       within = f;
     }
       where
-        a : ℕ
-        a = o.next + 2
+        p : Option Span
+        p = Some (behind o.next (length v))
 
-        b : ℕ
-        b = o.next + 2 + length v
+        here : (j : ℕ) → j ≡ k → Stands s (get_or (set o.values k p) j None) (x j)
+        here j z = rw (z, q, get_or-set_same o.values k p None (omega (arith, h.values_long))) stands
 
-        here : (j : ℕ) → j ≡ k → Stands s (get_or (set o.starts k a) j 0) (get_or (set o.ends k b) j 0) (x j)
-        here j z =
-            let p : k < length o.starts = omega (arith, h.starts_long) in
-            let r : k < length o.ends = omega (arith, h.ends-long) in
-            rw (z, q, get_or-set_same o.starts k a 0 p, get_or-set_same o.ends k b 0 r) stands
+        other : (j : ℕ) → (j ≡ k → ⊥) → Stands s (get_or o.values j None) (x j) → Stands s (get_or (set o.values k p) j None) (x j)
+        other j n t = rw (get_or-set_other o.values k j p None n) t
 
-        other : (j : ℕ) → (j ≡ k → ⊥) → Stands s (start_in o j) (end_in o j) (x j)
-            → Stands s (get_or (set o.starts k a) j 0) (get_or (set o.ends k b) j 0) (x j)
-        other j n t = rw (get_or-set_other o.starts k j a 0 n, get_or-set_other o.ends k j b 0 n) t
-
-  noted-on : (y : Optional) → x k ≡ y → (r : Objects) → Step s o k y r → Upto s x (suc k) r
-  noted-on absent q r p = rw p (none-noted q)
-  noted-on (sent v) q r p = rw p.0 (one-noted v q p.1 p.2)
+  noted-on : (y : Option (List ℕ)) → x k ≡ y → (r : Objects) → Step s o k y r → Upto s x (suc k) r
+  noted-on None q r p = rw p (none-noted q)
+  noted-on (Some v) q r p = rw p.0 (one-noted v q p.1 p.2)
 
 -- what the reader notes is what is standing, in any data that have 62 LL
 module _ (s : List ℕ) (long : 2 ≤ length s) where
   upto : (k : ℕ) → k ≤ 12 → Upto s (standing s) k (taken_below k s)
   unfolding taken_below standing
   upto zero l = record {
-    starts_long = refl;
-    ends-long = refl;
+    values_long = refl;
     read = λ j m. absurd (not-suc-le-zero m);
-    start_none = λ j m. zeros 12 j;
-    end_none = λ j m. zeros 12 j;
+    none = λ j m. nones 12 j;
     within = long;
   }
   upto (suc k) l =

@@ -14,7 +14,7 @@ use Rattle.rules.specs.Descriptor.{class_of, df, ef}
 use Rattle.rules.specs.Value.{good_length}
 use Rattle.template.specs.declared.Objects.{Objects}
 use Rattle.create_data.specs.declared.Data.{Data}
-use Rattle.create_data.specs.declared.Data.TheVariants.{Bad}
+use Rattle.std.specs.Prelude.{Option, None}
 use Rattle.template.specs.Objects.{value_in, objects_of}
 use Rattle.create_data.specs.Form.{t82, t83, t84, t8a, t80, t81, tc6, t85, ta5, df_form, ef_form}
 use Rattle.template.specs.Values.{first_of, record_length_of, number_of}
@@ -27,21 +27,21 @@ use Rattle.create_data.proofs.Forms.{DfForm, EfForm, ruled_in, once_in, value_is
 use Rattle.create_data.proofs.Forms.{df-bytes, ef-bytes}
 
 -- a test that what isn't bad has passed
-needed : (b : Bool) (x : Data) → (need b x ≡ Bad → ⊥) → (b ≡ true) × (x ≡ Bad → ⊥)
+needed : (b : Bool) (x : Option Data) → (need b x ≡ None → ⊥) → (b ≡ true) × (x ≡ None → ⊥)
 needed true x f = (refl, f)
 needed false x f = absurd (f refl)
 
-not-zero : (n : ℕ) (x : Data) → (cond (eqb n 0) Bad x ≡ Bad → ⊥) → (n ≡ 0 → ⊥) × (x ≡ Bad → ⊥)
+not-zero : (n : ℕ) (x : Option Data) → (cond (eqb n 0) None x ≡ None → ⊥) → (n ≡ 0 → ⊥) × (x ≡ None → ⊥)
 not-zero n x = go (eqb n 0) refl
   where
-    go : (b : Bool) → eqb n 0 ≡ b → (cond b Bad x ≡ Bad → ⊥) → (n ≡ 0 → ⊥) × (x ≡ Bad → ⊥)
+    go : (b : Bool) → eqb n 0 ≡ b → (cond b None x ≡ None → ⊥) → (n ≡ 0 → ⊥) × (x ≡ None → ⊥)
     go true p f = absurd (f refl)
     go false p f = (eqb-false n 0 p, f)
 
-by_class : (k m : ℕ) (x y : Data) → (cond (eqb k m) x y ≡ Bad → ⊥) → ((k ≡ m) × (x ≡ Bad → ⊥)) ⊎ (y ≡ Bad → ⊥)
+by_class : (k m : ℕ) (x y : Option Data) → (cond (eqb k m) x y ≡ None → ⊥) → ((k ≡ m) × (x ≡ None → ⊥)) ⊎ (y ≡ None → ⊥)
 by_class k m x y = go (eqb k m) refl
   where
-    go : (b : Bool) → eqb k m ≡ b → (cond b x y ≡ Bad → ⊥) → ((k ≡ m) × (x ≡ Bad → ⊥)) ⊎ (y ≡ Bad → ⊥)
+    go : (b : Bool) → eqb k m ≡ b → (cond b x y ≡ None → ⊥) → ((k ≡ m) × (x ≡ None → ⊥)) ⊎ (y ≡ None → ⊥)
     go true p f = inl (eqb-true k m p, f)
     go false p f = inr f
 
@@ -76,7 +76,7 @@ module _ (v : ℕ) (s : List ℕ) (w : s ≡ template (drop 2 s)) (short : lengt
       file-from v (value_of (x t83)) (value_of (x t8a)) (once_in x) (ruled_in x)
       (omega arith) (omega arith) (sym (both_is s x (objects_of s) (standing_noted s long) v) ∙ e)
 
-  df_taken : class_of (first_of (value_in s (objects_of s) t82)) ≡ df → (df_of v s (objects_of s) ≡ Bad → ⊥) → DfData v s
+  df_taken : class_of (first_of (value_in s (objects_of s) t82)) ≡ df → (df_of v s (objects_of s) ≡ None → ⊥) → DfData v s
   unfolding df_of name_good
   df_taken k n =
       let o : Objects = objects_of s in
@@ -111,7 +111,7 @@ module _ (v : ℕ) (s : List ℕ) (w : s ≡ template (drop 2 s)) (short : lengt
       }
 
   ef_taken : class_of (first_of (value_in s (objects_of s) t82)) ≡ ef
-      → (ef_of v s (objects_of s) (first_of (value_in s (objects_of s) t82)) ≡ Bad → ⊥) → EfData v s
+      → (ef_of v s (objects_of s) (first_of (value_in s (objects_of s) t82)) ≡ None → ⊥) → EfData v s
   unfolding ef_of sized_ef
   ef_taken k n =
       let o : Objects = objects_of s in
@@ -143,7 +143,7 @@ module _ (v : ℕ) (s : List ℕ) (w : s ≡ template (drop 2 s)) (short : lengt
         size-some = λ y. c.0 (z ∙ y);
       }
 
-pub taken : (v : ℕ) (s : List ℕ) → (data_of v s ≡ Bad → ⊥) → DfData v s ⊎ EfData v s
+pub taken : (v : ℕ) (s : List ℕ) → (data_of v s ≡ None → ⊥) → DfData v s ⊎ EfData v s
 unfolding data_of file_of
 taken v s n =
     let o : Objects = objects_of s in

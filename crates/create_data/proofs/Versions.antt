@@ -13,7 +13,7 @@ use Rattle.image.specs.Layout.{longest_rule, forms_of}
 use Rattle.access.specs.Access.{fits_record}
 use Rattle.template.specs.declared.Objects.{Objects}
 use Rattle.create_data.specs.declared.Data.{Data}
-use Rattle.create_data.specs.declared.Data.TheVariants.{Bad}
+use Rattle.std.specs.Prelude.{Option, None}
 use Rattle.template.specs.Objects.{value_in, objects_of}
 use Rattle.create_data.specs.Form.{t82, t83, t8a, one_rule, rule_in, form_in, df_form, ef_form}
 use Rattle.template.specs.Values.{first_of, pair_of}
@@ -22,19 +22,19 @@ use Rattle.create_data.specs.Grammar.{DataAlike}
 use Rattle.create_data.proofs.Meaning.{rule-says}
 
 -- y is the other card's reading of what this one reads as x
-abbrev Alike : Data → Data → Type 0
-Alike x y = (x ≡ Bad → ⊥) → y ≡ x
+abbrev Alike : Option Data → Option Data → Type 0
+Alike x y = (x ≡ None → ⊥) → y ≡ x
 
 -- past a test that both make, and one that the other card passes too
-both-test : (b : Bool) {x y p q : Data} → Alike x y → Alike p q → Alike (cond b x p) (cond b y q)
+both-test : (b : Bool) {x y p q : Option Data} → Alike x y → Alike p q → Alike (cond b x p) (cond b y q)
 both-test true f g = f
 both-test false f g = g
 
-passes_too : (a b : Bool) (x : Data) → (a ≡ true → b ≡ true) → Alike (need a x) (need b x)
+passes_too : (a b : Bool) (x : Option Data) → (a ≡ true → b ≡ true) → Alike (need a x) (need b x)
 passes_too true b x f n = rw (f refl)
 passes_too false b x f n = absurd (n refl)
 
-bad : Alike Bad Bad
+bad : Alike None None
 bad n = refl
 
 and_too : (a : Bool) {b c : Bool} → (b ≡ true → c ≡ true) → (a && b) ≡ true → (a && c) ≡ true
@@ -52,7 +52,7 @@ module _ (v w : ℕ) (long : longest_rule v ≤ longest_rule w) (forms : forms_o
   both_too =
       and_too (good_identifier (pair_of (value_in s o t83))) (and_too (new_life (first_of (value_in s o t8a))) (and_too (one_rule o) fits_too))
 
-  both : (x : Data) → Alike (need (both_good v s o) x) (need (both_good w s o) x)
+  both : (x : Option Data) → Alike (need (both_good v s o) x) (need (both_good w s o) x)
   both x = passes_too (both_good v s o) (both_good w s o) x both_too
 
   file_alike : Alike (file_of v s o) (file_of w s o)

@@ -1,6 +1,6 @@
 -- CREATE's data: what a new file is to be, or bad (01 "CREATE", data). A breach of any of its rules is bad. Which rules fit, the
 -- card's version v says (02 Tickets 3 and 7).
-use Rattle.std.specs.Prelude.{ℕ, ◌-◌, Bool, cond, ◌&&◌, ◌||◌, List, length, get_or, eqb, leb}
+use Rattle.std.specs.Prelude.{ℕ, ◌-◌, Bool, cond, ◌&&◌, ◌||◌, List, length, get_or, eqb, leb, Option, Some, None}
 use Rattle.rules.specs.Descriptor.{class_of, df, ef}
 use Rattle.rules.specs.Life.{new_life}
 use Rattle.rules.specs.Value.{good_identifier, good_length}
@@ -8,8 +8,8 @@ use Rattle.access.specs.Access.{fits_record}
 use Rattle.template.specs.declared.Objects.{Objects}
 use Rattle.create_data.specs.declared.NewFile.{NewFile}
 use Rattle.create_data.specs.declared.Data.{Data}
-use Rattle.create_data.specs.declared.Data.TheVariants.{Df, Ef, Bad}
-use Rattle.template.specs.Objects.{start_in, end_in, value_in, objects_of}
+use Rattle.create_data.specs.declared.Data.TheVariants.{Df, Ef}
+use Rattle.template.specs.Objects.{place_in, value_in, objects_of}
 use Rattle.create_data.specs.Form.{t82, t83, t84, t8a, t80, t81, lacks, one_rule, rule_in, form_in, df_form, ef_form}
 use Rattle.template.specs.Values.{first_of, pair_of, record_length_of, number_of, fits_name}
 
@@ -18,9 +18,9 @@ unfoldable pub is_template : List ℕ → Bool
 is_template s =
     leb 2 (length s) && (eqb (get_or s 0 0) 0x62 && (leb (get_or s 1 0) 0x7F && eqb (length s - 2) (get_or s 1 0)))
 
--- what the test lets pass, or bad
-abbrev pub need : Bool → Data → Data
-need test file = cond test file Bad
+-- what the test lets pass, or none: bad
+abbrev pub need : Bool → Option Data → Option Data
+need test file = cond test file None
 
 -- the rule is there once, and a record of the version may hold it: its length, its form, well formed
 unfoldable pub rule_good : ℕ → List ℕ → Objects → Bool
@@ -43,38 +43,38 @@ new_file s o length size = record {
   form = form_in o;
   record_length = length;
   size = size;
-  name = record { start = start_in o t84; end = end_in o t84 };
-  rule = record { start = start_in o (rule_in o); end = end_in o (rule_in o) };
+  name = place_in o t84;
+  rule = place_in o (rule_in o);
 }
 
 -- a DF: its list, its values, and a total that is never 0
-unfoldable pub df_of : ℕ → List ℕ → Objects → Data
+unfoldable pub df_of : ℕ → List ℕ → Objects → Option Data
 df_of v s o =
     need (df_form o)
     (need (name_good s o)
     (need (both_good v s o)
-    (cond (eqb (number_of (value_in s o t81)) 0) Bad
-    (Df (new_file s o 0 (number_of (value_in s o t81)))))))
+    (cond (eqb (number_of (value_in s o t81)) 0) None
+    (Some (Df (new_file s o 0 (number_of (value_in s o t81))))))))
 
 -- an EF's size is never 0, and its record length suits descriptor and size
-unfoldable pub sized_ef : List ℕ → Objects → ℕ → Data
+unfoldable pub sized_ef : List ℕ → Objects → ℕ → Option Data
 sized_ef s o descriptor =
-    cond (eqb (number_of (value_in s o t80)) 0) Bad
+    cond (eqb (number_of (value_in s o t80)) 0) None
     (need (good_length descriptor (record_length_of (value_in s o t82)) (number_of (value_in s o t80)))
-    (Ef (new_file s o (record_length_of (value_in s o t82)) (number_of (value_in s o t80)))))
+    (Some (Ef (new_file s o (record_length_of (value_in s o t82)) (number_of (value_in s o t80))))))
 
 -- an EF: its list and its values
-unfoldable pub ef_of : ℕ → List ℕ → Objects → ℕ → Data
+unfoldable pub ef_of : ℕ → List ℕ → Objects → ℕ → Option Data
 ef_of v s o descriptor = need (ef_form o descriptor) (need (both_good v s o) (sized_ef s o descriptor))
 
 -- the objects end the data; the descriptor, the first byte of 82, tells a DF from an EF. The second isn't interpreted
-unfoldable pub file_of : ℕ → List ℕ → Objects → Data
+unfoldable pub file_of : ℕ → List ℕ → Objects → Option Data
 file_of v s o =
     let descriptor : ℕ = first_of (value_in s o t82) in
     need (eqb o.next (length s))
     (cond (eqb (class_of descriptor) df) (df_of v s o)
     (cond (eqb (class_of descriptor) ef) (ef_of v s o descriptor)
-    Bad))
+    None))
 
-unfoldable pub data_of : ℕ → List ℕ → Data
+unfoldable pub data_of : ℕ → List ℕ → Option Data
 data_of v s = need (is_template s) (file_of v s (objects_of s))

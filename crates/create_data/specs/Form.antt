@@ -2,11 +2,11 @@
 -- DF: 82 (2 bytes), 83 (2), 84 optional (1-16), 8A (1), 8C (1-16), 81 (2-4), C6 (at least 1), 85 or A5 optional.
 -- EF: 82 (2, or 4 with record length), 83, 8A, 8C, 80 (2-4), 85 or A5 optional.
 -- In 8C's place may stand AB, an expanded rule (02 Ticket 3), or 8B, a referred one (02 Ticket 7), on a card whose version has that form.
-use Rattle.std.specs.Prelude.{ℕ, Bool, cond, ◌&&◌, ◌||◌, eqb, leb}
+use Rattle.std.specs.Prelude.{ℕ, Bool, cond, ◌&&◌, ◌||◌, leb, get_or, None, is_none}
 use Rattle.rules.specs.Descriptor.{has_records}
 use Rattle.access.specs.Access.{compact, expanded, referred}
 use Rattle.template.specs.declared.Objects.{Objects}
-use Rattle.template.specs.Objects.{start_in, length_in}
+use Rattle.template.specs.Objects.{length_in}
 
 -- the numbers of the objects in the order of tags
 abbrev pub t82 : ℕ
@@ -47,7 +47,7 @@ ta5 = 11
 
 -- the object is not there; it has low to high bytes (low at least 1, so it is there)
 unfoldable pub lacks : Objects → ℕ → Bool
-lacks o k = eqb (start_in o k) 0
+lacks o k = is_none (get_or o.values k None)
 
 unfoldable pub has : Objects → ℕ → ℕ → ℕ → Bool
 has o k low high = leb low (length_in o k) && leb (length_in o k) high

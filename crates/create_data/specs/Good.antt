@@ -1,6 +1,6 @@
 -- What good data says of the new file: beside the equation of Data, each rule of 01 "CREATE" (data) as a
 -- statement by itself, for those who make the file and keep the card sound.
-use Rattle.std.specs.Prelude.{◌≡◌, true, List, ℕ, ◌-◌, ◌≤◌, length}
+use Rattle.std.specs.Prelude.{◌≡◌, true, List, ℕ, ◌-◌, ◌≤◌, length, Option, Some, None}
 use Rattle.rules.specs.Descriptor.{class_of, df, ef}
 use Rattle.rules.specs.Life.{new_life}
 use Rattle.rules.specs.Value.{good_identifier, good_length}
@@ -8,7 +8,7 @@ use Rattle.access.specs.Access.{fits_record}
 use Rattle.template.specs.Objects.{bytes_at}
 use Rattle.create_data.specs.declared.NewFile.{NewFile}
 use Rattle.create_data.specs.declared.Data.{Data}
-use Rattle.create_data.specs.declared.Data.TheVariants.{Df, Ef, Bad}
+use Rattle.create_data.specs.declared.Data.TheVariants.{Df, Ef}
 
 -- every new file: its identifier, its life cycle, where its name stands, and its rule, which a record of the version may hold
 pub record GoodFile (v : ℕ) (s : List ℕ) (x : NewFile) : Type 0 where
@@ -36,7 +36,7 @@ pub record GoodEf (v : ℕ) (s : List ℕ) (x : NewFile) : Type 0 where
   pub size : x.size ≡ 0 → ⊥
   pub records : good_length x.descriptor x.record_length x.size ≡ true
 
-abbrev pub Good : ℕ → List ℕ → Data → Type 0
-Good v s Bad = Unit
-Good v s (Df x) = GoodDf v s x
-Good v s (Ef x) = GoodEf v s x
+abbrev pub Good : ℕ → List ℕ → Option Data → Type 0
+Good v s None = Unit
+Good v s (Some (Df x)) = GoodDf v s x
+Good v s (Some (Ef x)) = GoodEf v s x

@@ -2,13 +2,14 @@
 -- of how it is read. The statements at the end hold the reader, `data_of`, to it: it takes exactly these data, and reads
 -- their values, on every card that takes them the same.
 use Rattle.std.specs.Prelude.{ℕ, ◌+◌, ◌*◌, ◌<◌, ◌≤◌, ◌≡◌, true, List, [], ◌∷◌, ◌++◌, ◌↔◌, ◌⊎◌, length, drop}
+use Rattle.std.specs.Prelude.{Option, Some, None}
 use Rattle.rules.specs.Descriptor.{class_of, df, ef, structure_of}
 use Rattle.rules.specs.Life.{new_life}
 use Rattle.image.specs.Layout.{longest_rule, forms_of}
 use Rattle.access.specs.Access.{compact, expanded, referred, well_formed}
 use Rattle.template.specs.Objects.{bytes_at}
 use Rattle.create_data.specs.declared.Data.{Data}
-use Rattle.create_data.specs.declared.Data.TheVariants.{Df, Ef, Bad}
+use Rattle.create_data.specs.declared.Data.TheVariants.{Df, Ef}
 use Rattle.create_data.specs.Data.{data_of}
 
 -- an object: its tag, its length, its value
@@ -19,18 +20,14 @@ object tag v = tag ∷ length v ∷ v
 abbrev pub template : List ℕ → List ℕ
 template objects = 0x62 ∷ length objects ∷ objects
 
--- an optional object; one that is sent with no byte is there all the same
-pub data Optional : Type 0 where
-  absent : Optional
-  sent : List ℕ → Optional
+-- an optional object, by its value; one that is sent with no byte is there all the same
+abbrev pub optional : ℕ → Option (List ℕ) → List ℕ
+optional tag None = []
+optional tag (Some v) = object tag v
 
-abbrev pub optional : ℕ → Optional → List ℕ
-optional tag absent = []
-optional tag (sent v) = object tag v
-
-abbrev pub value_of : Optional → List ℕ
-value_of absent = []
-value_of (sent v) = v
+abbrev pub value_of : Option (List ℕ) → List ℕ
+value_of None = []
+value_of (Some v) = v
 
 -- 85 or A5 optional: not both
 pub data Private : Type 0 where
@@ -80,9 +77,9 @@ number v = number_from 0 v
 abbrev pub Long : ℕ → ℕ → List ℕ → Type 0
 Long low high v = (low ≤ length v) × (length v ≤ high)
 
-abbrev pub NameLong : Optional → Type 0
-NameLong absent = Unit
-NameLong (sent v) = Long 1 16 v
+abbrev pub NameLong : Option (List ℕ) → Type 0
+NameLong None = Unit
+NameLong (Some v) = Long 1 16 v
 
 -- 83 (2 bytes), not 3FFF, 7FFF or FFFF; 8A (1), a life cycle that CREATE takes (rules/specs/Bytes lists them); 8C, AB or 8B,
 -- a well formed rule, as long as the card's version v allows and of a form that it has
@@ -102,7 +99,7 @@ pub record FileData (v : ℕ) (identifier life : List ℕ) (rule : Ruled) : Type
 pub record DfData (v : ℕ) (s : List ℕ) : Type 0 where
   pub descriptor : List ℕ
   pub identifier : List ℕ
-  pub name : Optional
+  pub name : Option (List ℕ)
   pub life : List ℕ
   pub rule : Ruled
   pub total : List ℕ
@@ -163,22 +160,22 @@ pub record EfData (v : ℕ) (s : List ℕ) : Type 0 where
 
 -- on a card of any version, data are good exactly if they are a DF's or an EF's; all others are bad
 abbrev pub DataExactly : Type 0
-DataExactly = (v : ℕ) (s : List ℕ) → (data_of v s ≡ Bad → ⊥) ↔ (DfData v s ⊎ EfData v s)
+DataExactly = (v : ℕ) (s : List ℕ) → (data_of v s ≡ None → ⊥) ↔ (DfData v s ⊎ EfData v s)
 
 -- what is read of a DF's data and of an EF's: numbers, the rule's form, and where the name (empty for none) and the rule stand. The second
 -- byte of 82 isn't interpreted; C6, 85 and A5 contents aren't kept
-abbrev pub DfRead : (v : ℕ) (s : List ℕ) → DfData v s → Data → Type 0
-DfRead v s t Bad = ⊥
-DfRead v s t (Ef x) = ⊥
-DfRead v s t (Df x) =
+abbrev pub DfRead : (v : ℕ) (s : List ℕ) → DfData v s → Option Data → Type 0
+DfRead v s t None = ⊥
+DfRead v s t (Some (Ef x)) = ⊥
+DfRead v s t (Some (Df x)) =
     (x.descriptor ≡ first t.descriptor) × (x.identifier ≡ number t.identifier) × (x.life ≡ first t.life)
     × (bytes_at s x.name ≡ value_of t.name) × (x.form ≡ rule_form t.rule) × (bytes_at s x.rule ≡ rule_of t.rule)
     × (x.size ≡ number t.total)
 
-abbrev pub EfRead : (v : ℕ) (s : List ℕ) → EfData v s → Data → Type 0
-EfRead v s t Bad = ⊥
-EfRead v s t (Df x) = ⊥
-EfRead v s t (Ef x) =
+abbrev pub EfRead : (v : ℕ) (s : List ℕ) → EfData v s → Option Data → Type 0
+EfRead v s t None = ⊥
+EfRead v s t (Some (Df x)) = ⊥
+EfRead v s t (Some (Ef x)) =
     (x.descriptor ≡ first t.descriptor) × (x.identifier ≡ number t.identifier) × (x.life ≡ first t.life)
     × (x.record_length ≡ number (drop 2 t.descriptor)) × (x.form ≡ rule_form t.rule)
     × (bytes_at s x.rule ≡ rule_of t.rule) × (x.size ≡ number t.size)
@@ -192,4 +189,4 @@ DataRead =
 abbrev pub DataAlike : Type 0
 DataAlike =
     (v w : ℕ) → longest_rule v ≤ longest_rule w → forms_of v ≤ forms_of w
-    → (s : List ℕ) → (data_of v s ≡ Bad → ⊥) → data_of w s ≡ data_of v s
+    → (s : List ℕ) → (data_of v s ≡ None → ⊥) → data_of w s ≡ data_of v s

@@ -1,7 +1,7 @@
 -- Both sides of a line, on whole templates: row W9 of 01 (record length 10: size 20 good, 25 bad; length 1: 254
 -- good, 255 bad), the two templates of 01's replay, and an 82 whose second byte isn't 21, which 01 has seen
 -- others refuse; then rules of every form (02 Tickets 3 and 7), the same data on cards of each version.
-use Rattle.std.specs.Prelude.{ℕ, zero, suc, ◌≡◌, refl, List, [], ◌∷◌, ◌++◌}
+use Rattle.std.specs.Prelude.{ℕ, zero, suc, ◌≡◌, refl, List, [], ◌∷◌, ◌++◌, Option, Some, None}
 use Rattle.laws.specs.Lists.{part}
 use Rattle.numbers.specs.Numbers.{u16_at, u32_at}
 use Rattle.rules.specs.Descriptor.{class_of, has_records}
@@ -17,7 +17,7 @@ use Rattle.image.specs.Layout.{longest_rule, forms_of}
 use Rattle.access.specs.Access.{compact, expanded, referred, well_formed, fits_record}
 use Rattle.create_data.specs.declared.NewFile.{NewFile}
 use Rattle.create_data.specs.declared.Data.{Data}
-use Rattle.create_data.specs.declared.Data.TheVariants.{Df, Ef, Bad}
+use Rattle.create_data.specs.declared.Data.TheVariants.{Df, Ef}
 use Rattle.template.specs.Objects.{object_at, taken_at, taken_below, objects_of}
 use Rattle.create_data.specs.Form.{lacks, has, one_private, one_rule, rule_in, form_in, df_form, first_form, ef_form}
 use Rattle.template.specs.Values.{pair_of, record_length_of, number_of, fits_name}
@@ -43,7 +43,7 @@ replay_ef =
     ∷ 0x01 ∷ 0x00 ∷ 0x80 ∷ 0x02 ∷ 0x00 ∷ 0x09 ∷ []
 
 -- what a card of a version reads
-abbrev pub answers : ℕ → List (List ℕ) → List Data
+abbrev pub answers : ℕ → List (List ℕ) → List (Option Data)
 answers v [] = []
 answers v (t ∷ ts) = data_of v t ∷ answers v ts
 
@@ -71,11 +71,11 @@ file descriptor identifier form length from to size = record {
   rule = record { start = from; end = to };
 }
 
-abbrev pub readings : List Data
+abbrev pub readings : List (Option Data)
 readings =
-    Ef (file 0x42 0x6F07 compact 10 17 19 20) ∷ Bad ∷ Ef (file 0x42 0x6F07 compact 1 17 19 254) ∷ Bad
-    ∷ Ef (file 0x42 0x6F07 compact 10 17 19 20) ∷ Bad
-    ∷ Df (file 0x78 0x7F10 compact 0 15 18 0x0100) ∷ Ef (file 0x41 0x6F07 compact 0 15 17 9) ∷ Bad
+    Some (Ef (file 0x42 0x6F07 compact 10 17 19 20)) ∷ None ∷ Some (Ef (file 0x42 0x6F07 compact 1 17 19 254)) ∷ None
+    ∷ Some (Ef (file 0x42 0x6F07 compact 10 17 19 20)) ∷ None
+    ∷ Some (Df (file 0x78 0x7F10 compact 0 15 18 0x0100)) ∷ Some (Ef (file 0x41 0x6F07 compact 0 15 17 9)) ∷ None
     ∷ []
 
 pub lines : answers 1 sent ≡ readings
@@ -121,15 +121,15 @@ ruled_sent =
     ∷ []
 
 -- the rule's form and its end
-abbrev pub ruled_file : ℕ → ℕ → Data
-ruled_file form end = Ef (file 0x41 0x6F07 form 0 15 end 9)
+abbrev pub ruled_file : ℕ → ℕ → Option Data
+ruled_file form end = Some (Ef (file 0x41 0x6F07 form 0 15 end 9))
 
 pub rule-lines :
-    (answers 1 ruled_sent ≡ Bad ∷ Bad ∷ Bad ∷ Bad ∷ ruled_file compact 31 ∷ Bad ∷ Bad ∷ Bad ∷ Bad ∷ Bad ∷ [])
+    (answers 1 ruled_sent ≡ None ∷ None ∷ None ∷ None ∷ ruled_file compact 31 ∷ None ∷ None ∷ None ∷ None ∷ None ∷ [])
     × (answers 2 ruled_sent
-    ≡ ruled_file expanded 20 ∷ Bad ∷ Bad ∷ Bad ∷ ruled_file compact 31 ∷ ruled_file compact 32 ∷ ruled_file compact 45 ∷ Bad
+    ≡ ruled_file expanded 20 ∷ None ∷ None ∷ None ∷ ruled_file compact 31 ∷ ruled_file compact 32 ∷ ruled_file compact 45 ∷ None
     ∷ ruled_file expanded 45
-    ∷ Bad ∷ [])
+    ∷ None ∷ [])
 unfolding data_of is_template file_of ef_of sized_ef new_file rule_good both_good lacks has one_private one_rule rule_in form_in
     first_form ef_form pair_of record_length_of number_of object_at taken_at taken_below objects_of part u16_at u32_at class_of
     has_records life_of known_life new_life next_of some_group malformed_at compact_formed longest_rule forms_of well_formed fits_record
@@ -155,10 +155,10 @@ referred_sent =
     ∷ []
 
 pub referred-lines :
-    (answers 1 referred_sent ≡ Bad ∷ Bad ∷ Bad ∷ Bad ∷ Bad ∷ Bad ∷ Bad ∷ Bad ∷ Bad ∷ Bad ∷ [])
-    × (answers 2 referred_sent ≡ Bad ∷ Bad ∷ Bad ∷ Bad ∷ Bad ∷ Bad ∷ Bad ∷ Bad ∷ Bad ∷ ruled_file expanded 20 ∷ [])
+    (answers 1 referred_sent ≡ None ∷ None ∷ None ∷ None ∷ None ∷ None ∷ None ∷ None ∷ None ∷ None ∷ [])
+    × (answers 2 referred_sent ≡ None ∷ None ∷ None ∷ None ∷ None ∷ None ∷ None ∷ None ∷ None ∷ ruled_file expanded 20 ∷ [])
     × (answers 3 referred_sent
-    ≡ ruled_file referred 18 ∷ Bad ∷ Bad ∷ ruled_file referred 18 ∷ Bad ∷ Bad ∷ Bad ∷ Bad ∷ Bad ∷ ruled_file expanded 20 ∷ [])
+    ≡ ruled_file referred 18 ∷ None ∷ None ∷ ruled_file referred 18 ∷ None ∷ None ∷ None ∷ None ∷ None ∷ ruled_file expanded 20 ∷ [])
 unfolding data_of is_template file_of ef_of sized_ef new_file rule_good both_good lacks has one_private one_rule rule_in form_in
     first_form ef_form pair_of record_length_of number_of object_at taken_at taken_below objects_of part u16_at u32_at class_of
     has_records life_of known_life new_life next_of some_group malformed_at compact_formed longest_rule forms_of well_formed fits_record

@@ -1,5 +1,5 @@
 // CREATE's data judged (01 "CREATE", data): 62 LL, the objects of a DF's or an EF's list, and what their
-// values must obey on a card of version v. Any breach is `Bad`. Each value goes to its reader as a part of the data.
+// values must obey on a card of version v. Any breach is bad: None. Each value goes to its reader as a part of the data.
 ghost use Rattle.std.specs.Prelude.{◌≡◌, ◌<◌};
 ghost use Rattle.template.specs.Objects.{Held, value_in};
 ghost use Rattle.template.specs.Values.{first_of, pair_of, record_length_of, number_of};
@@ -10,197 +10,161 @@ use rules::{descriptor, life_cycle};
 use template::{Objects, Span, value};
 
 // Whether the data is a template: 62, a length 00-7F, and exactly as many bytes.
+#[tactic(auto, unfolding(crate::specs::Data::is_template))]
 pub fn is_template(s: &[u8]) -> bool
     ensures { result ≡ is_template s.now }
 {
-    if s.len() < 2 {
-        return false;
-    }
-    if s[0] != 0x62 {
-        return false;
-    }
-    if 127 < s[1] {
-        return false;
-    }
-    s.len() - 2 == (s[1] as usize)
+    2 <= s.len() && s[0] == 0x62 && s[1] <= 127 && s.len() - 2 == usize::from(s[1])
 }
 
-// The value of object k, as a part of the data.
-fn value_in(s: &[u8], o: Objects, k: usize) -> &[u8]
-    requires { (k < 12) × Held s.now o }
-    ensures { result.now ≡ value_in s.now o k }
-{
-    let start = o.starts[k];
-    let end = o.ends[k];
-    &s[start..end]
+// CREATE's data, and the objects that were gathered in them: each value stands within the data.
+#[derive(Clone, Copy)]
+pub struct Sent<'a> {
+    pub data: &'a [u8],
+    pub objects: Objects,
+    pub ghost held: { Held data.now objects },
 }
 
-// The first byte of object k's value.
-fn byte_in(s: &[u8], o: Objects, k: usize) -> u8
-    requires { (k < 12) × Held s.now o }
-    ensures { result ≡ first_of (value_in s.now o k) }
-{
-    value::first(value_in(s, o, k))
-}
+impl Sent<'_> {
+    // The value of object k, as a part of the data.
+    fn value_in(&self, k: usize) -> &[u8]
+        requires { k < 12 }
+        ensures { result.now ≡ value_in self.now.data.now self.now.objects k }
+    {
+        let Span { start, end } = form::place(self.objects, k);
+        &self.data[start..end]
+    }
 
-// The identifier.
-fn identifier_in(s: &[u8], o: Objects) -> u16
-    requires { Held s.now o }
-    ensures { result ≡ pair_of (value_in s.now o 1) }
-{
-    value::pair(value_in(s, o, 1))
-}
+    // The first byte of object k's value.
+    fn byte_in(&self, k: usize) -> u8
+        requires { k < 12 }
+        ensures { result ≡ first_of (value_in self.now.data.now self.now.objects k) }
+    {
+        value::first(self.value_in(k))
+    }
 
-// The record length, behind the descriptor's two bytes.
-fn record_length_in(s: &[u8], o: Objects) -> u16
-    requires { Held s.now o }
-    ensures { result ≡ record_length_of (value_in s.now o 0) }
-{
-    value::record_length(value_in(s, o, 0))
-}
+    // The identifier.
+    fn identifier_in(&self) -> u16
+        ensures { result ≡ pair_of (value_in self.now.data.now self.now.objects 1) }
+    {
+        value::pair(self.value_in(1))
+    }
 
-// The size of object k: 80 or 81.
-fn size_in(s: &[u8], o: Objects, k: usize) -> u32
-    requires { (k < 12) × Held s.now o }
-    ensures { result ≡ number_of (value_in s.now o k) }
-{
-    value::number(value_in(s, o, k))
-}
+    // The record length, behind the descriptor's two bytes.
+    fn record_length_in(&self) -> u16
+        ensures { result ≡ record_length_of (value_in self.now.data.now self.now.objects 0) }
+    {
+        value::record_length(self.value_in(0))
+    }
 
-// Whether the rule is there once, and a record of version v may hold it.
-fn is_rule_good(s: &[u8], o: Objects, v: u32) -> bool
-    requires { Held s.now o }
-    ensures { result ≡ rule_good v s.now o }
-{
-    if !form::has_one_rule(o) {
-        return false;
+    // The size of object k: 80 or 81.
+    fn size_in(&self, k: usize) -> u32
+        requires { k < 12 }
+        ensures { result ≡ number_of (value_in self.now.data.now self.now.objects k) }
+    {
+        value::number(self.value_in(k))
     }
-    let k = form::rule_in(o);
-    access::fits_record(v, form::form_in(o), value_in(s, o, k))
-}
 
-// Whether the name is not there, or has 1 to 16 bytes.
-fn is_name_good(s: &[u8], o: Objects) -> bool
-    requires { Held s.now o }
-    ensures { result ≡ name_good s.now o }
-{
-    if form::is_absent(o, 2) {
-        return true;
+    // Whether the rule is there once, and a record of version v may hold it.
+    #[tactic(auto, unfolding(crate::specs::Data::rule_good))]
+    fn is_rule_good(&self, v: u32) -> bool
+        ensures { result ≡ rule_good v self.now.data.now self.now.objects }
+    {
+        form::has_one_rule(self.objects)
+            && access::fits_record(
+                v,
+                form::form_in(self.objects),
+                self.value_in(form::rule_in(self.objects)),
+            )
     }
-    value::fits_name(value_in(s, o, 2))
-}
 
-// What identifier, life cycle and rule must obey in every file.
-fn is_both_good(s: &[u8], o: Objects, v: u32) -> bool
-    requires { Held s.now o }
-    ensures { result ≡ both_good v s.now o }
-{
-    if !rules::value::good_identifier(identifier_in(s, o)) {
-        return false;
+    // Whether the name is not there, or has 1 to 16 bytes.
+    #[tactic(auto, unfolding(crate::specs::Data::name_good))]
+    fn is_name_good(&self) -> bool
+        ensures { result ≡ name_good self.now.data.now self.now.objects }
+    {
+        form::is_absent(self.objects, 2) || value::fits_name(self.value_in(2))
     }
-    if !life_cycle::is_new(byte_in(s, o, 3)) {
-        return false;
-    }
-    is_rule_good(s, o, v)
-}
 
-// The new file, all tests passed: its numbers, and where its name and its rule stand.
-fn new_file(s: &[u8], o: Objects, length: u16, size: u32) -> NewFile
-    requires { Held s.now o }
-    ensures { result ≡ new_file s.now o length size }
-{
-    let descriptor = byte_in(s, o, 0);
-    let identifier = identifier_in(s, o);
-    let life = byte_in(s, o, 3);
-    let form = form::form_in(o);
-    let name = Span {
-        start: o.starts[2],
-        end: o.ends[2],
-    };
-    let k = form::rule_in(o);
-    let rule = Span {
-        start: o.starts[k],
-        end: o.ends[k],
-    };
-    NewFile {
-        descriptor,
-        identifier,
-        life,
-        form,
-        record_length: length,
-        size,
-        name,
-        rule,
+    // What identifier, life cycle and rule must obey in every file.
+    #[tactic(auto, unfolding(crate::specs::Data::both_good))]
+    fn is_both_good(&self, v: u32) -> bool
+        ensures { result ≡ both_good v self.now.data.now self.now.objects }
+    {
+        rules::value::good_identifier(self.identifier_in())
+            && life_cycle::is_new(self.byte_in(3))
+            && self.is_rule_good(v)
     }
-}
 
-// A DF by its list and its values.
-fn df(s: &[u8], o: Objects, v: u32) -> Data
-    requires { Held s.now o }
-    ensures { result ≡ df_of v s.now o }
-{
-    if !form::is_df(o) {
-        return Data::Bad;
+    // The new file, all tests passed: its numbers, and where its name and its rule stand.
+    #[tactic(auto, unfolding(crate::specs::Data::new_file))]
+    fn new_file(&self, length: u16, size: u32) -> NewFile
+        ensures { result ≡ new_file self.now.data.now self.now.objects length size }
+    {
+        NewFile {
+            descriptor: self.byte_in(0),
+            identifier: self.identifier_in(),
+            life: self.byte_in(3),
+            form: form::form_in(self.objects),
+            record_length: length,
+            size,
+            name: form::place(self.objects, 2),
+            rule: form::place(self.objects, form::rule_in(self.objects)),
+        }
     }
-    if !is_name_good(s, o) {
-        return Data::Bad;
-    }
-    if !is_both_good(s, o, v) {
-        return Data::Bad;
-    }
-    let total = size_in(s, o, 8);
-    if total == 0 {
-        return Data::Bad;
-    }
-    Data::Df(new_file(s, o, 0, total))
-}
 
-// An EF by its size and its record length.
-fn sized_ef(s: &[u8], o: Objects, descriptor: u8) -> Data
-    requires { Held s.now o }
-    ensures { result ≡ sized_ef s.now o descriptor }
-{
-    let size = size_in(s, o, 7);
-    if size == 0 {
-        return Data::Bad;
+    // A DF by its list and its values.
+    #[tactic(auto, unfolding(crate::specs::Data::df_of))]
+    fn df(&self, v: u32) -> Option<Data>
+        ensures { result ≡ df_of v self.now.data.now self.now.objects }
+    {
+        if !form::is_df(self.objects) || !self.is_name_good() || !self.is_both_good(v) {
+            return None;
+        }
+        let total = self.size_in(8);
+        if total == 0 {
+            return None;
+        }
+        Some(Data::Df(self.new_file(0, total)))
     }
-    let length = record_length_in(s, o);
-    if !rules::value::good_length(descriptor, length, size) {
-        return Data::Bad;
-    }
-    Data::Ef(new_file(s, o, length, size))
-}
 
-// An EF by its list and its values.
-fn ef(s: &[u8], o: Objects, descriptor: u8, v: u32) -> Data
-    requires { Held s.now o }
-    ensures { result ≡ ef_of v s.now o descriptor }
-{
-    if !form::is_ef(o, descriptor) {
-        return Data::Bad;
+    // An EF by its size and its record length.
+    #[tactic(auto, unfolding(crate::specs::Data::sized_ef))]
+    fn sized_ef(&self, descriptor: u8) -> Option<Data>
+        ensures { result ≡ sized_ef self.now.data.now self.now.objects descriptor }
+    {
+        let size = self.size_in(7);
+        let length = self.record_length_in();
+        if size == 0 || !rules::value::good_length(descriptor, length, size) {
+            return None;
+        }
+        Some(Data::Ef(self.new_file(length, size)))
     }
-    if !is_both_good(s, o, v) {
-        return Data::Bad;
-    }
-    sized_ef(s, o, descriptor)
-}
 
-// The file by the class of its descriptor, once the objects end the data.
-pub fn file(s: &[u8], o: Objects, v: u32) -> Data
-    requires { Held s.now o }
-    ensures { result ≡ file_of v s.now o }
-{
-    let next = o.next;
-    if next != s.len() {
-        return Data::Bad;
+    // An EF by its list and its values.
+    #[tactic(auto, unfolding(crate::specs::Data::ef_of))]
+    fn ef(&self, descriptor: u8, v: u32) -> Option<Data>
+        ensures { result ≡ ef_of v self.now.data.now self.now.objects descriptor }
+    {
+        if !form::is_ef(self.objects, descriptor) || !self.is_both_good(v) {
+            return None;
+        }
+        self.sized_ef(descriptor)
     }
-    let descriptor = byte_in(s, o, 0);
-    let class = descriptor::class(descriptor);
-    if class == descriptor::DF {
-        return df(s, o, v);
+
+    // The file by the class of its descriptor, once the objects end the data.
+    #[tactic(auto, unfolding(crate::specs::Data::file_of))]
+    pub fn file(&self, v: u32) -> Option<Data>
+        ensures { result ≡ file_of v self.now.data.now self.now.objects }
+    {
+        if self.objects.next != self.data.len() {
+            return None;
+        }
+        let descriptor = self.byte_in(0);
+        match descriptor::class(descriptor) {
+            descriptor::DF => self.df(v),
+            descriptor::EF => self.ef(descriptor, v),
+            _ => None,
+        }
     }
-    if class == descriptor::EF {
-        return ef(s, o, descriptor, v);
-    }
-    Data::Bad
 }

@@ -1,4 +1,4 @@
-// The new file that CREATE's data describe, or "bad" (01 "CREATE", data; 6A80), for any bytes. Which rules
+// The new file that CREATE's data describe, or none where they are bad (01 "CREATE", data; 6A80), for any bytes. Which rules
 // fit goes by the card's version (02 Tickets 3 and 7).
 //
 // `judge` judges which objects were gathered and the bytes that they point at. Every value is handed on as a part of
@@ -9,6 +9,7 @@ ghost use Rattle.std.specs.Prelude.{◌≡◌};
 ghost use Rattle.create_data.specs.Data.{data_of};
 ghost use Rattle.create_data.specs.Good.{Good};
 
+use judge::Sent;
 use template::{Span, gather};
 
 pub mod form;
@@ -21,27 +22,34 @@ pub struct NewFile {
     pub descriptor: u8,
     pub identifier: u16,
     pub life: u8,
+    // no enum: it is the byte that a record keeps, which `access::fits_record` takes for any byte
     pub form: u8,
     pub record_length: u16,
     pub size: u32,
+    // no `Option`: a file without a name has one of no bytes, and whoever takes the name takes its bytes
     pub name: Span,
     pub rule: Span,
 }
 
+// What good data describe.
 #[derive(Clone, Copy)]
 pub enum Data {
     Df(NewFile),
     Ef(NewFile),
-    Bad,
 }
 
-// CREATE's data read, for a card of version v: any bytes, from the byte after Lc to the end of the command.
-pub fn read(s: &[u8], v: u32) -> Data
+// CREATE's data read, for a card of version v: any bytes, from the byte after Lc to the end of the command. None where they
+// are bad.
+#[tactic(auto, unfolding(crate::specs::Data::data_of))]
+pub fn read(s: &[u8], v: u32) -> Option<Data>
     ensures { (result ≡ data_of v s.now) × Good v s.now result }
 {
     if !judge::is_template(s) {
-        return Data::Bad;
+        return None;
     }
-    let o = gather::all(s);
-    judge::file(s, o, v)
+    let sent = Sent {
+        data: s,
+        objects: gather::all(s),
+    };
+    sent.file(v)
 }

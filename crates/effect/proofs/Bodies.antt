@@ -8,8 +8,7 @@ use Prim.Native.Nat.{ℕ, ◌+◌, ◌<◌, ◌≤◌}
 use native.Mathlib.Omega.{arith}
 use lib.ListN.{length}
 use borrow.Author.Tests.{not-true, not-false, eq-eqb, ne_eqb}
-use Rattle.laws.specs.declared.Found.{Found}
-use Rattle.laws.specs.declared.Found.TheVariants.{At, Nothing}
+use Rattle.std.specs.Prelude.{Option, Some, None}
 use Rattle.laws.specs.Walks.{sum_below}
 use Rattle.laws.proofs.Says.{lt-or}
 use Rattle.image.specs.declared.Head.{Head}
@@ -40,9 +39,9 @@ module _ (v : ℕ) (h : Head) (r : Bool) (e : r ≡ has_bodies v) where
 
 -- moving down or not, the header stays
 same_head : (n : ℕ) (img pool : List ℕ) → Sized img n → Laid n (start_at img) (body_at img) (length pool)
-    → (g : Found) → SameHeader img (place_image g n img)
-same_head n img pool sized laid (At p) = record { long = refl; bytes = λ k l. refl }
-same_head n img pool sized laid Nothing = after-head n img pool sized laid
+    → (g : Option ℕ) → SameHeader img (place_image g n img)
+same_head n img pool sized laid (Some p) = record { long = refl; bytes = λ k l. refl }
+same_head n img pool sized laid None = after-head n img pool sized laid
 
 -- m is the count that was asked for, by the version that was read
 module _ (n v m : ℕ) (img pool : List ℕ) (h : Head) (count : n ≡ count_of img) (known : v ≡ version_of img) (size : m ≡ new_body v h) where

@@ -1,6 +1,6 @@
 -- What the effect of a verdict needs: the numbers that the verdict carries stand within the image, the pool and the
 -- command. A sound image and its judging give all of it.
-use Rattle.std.specs.Prelude.{◌≡◌, List, ℕ, ◌+◌, ◌-◌, ◌<◌, ◌≤◌, length}
+use Rattle.std.specs.Prelude.{◌≡◌, List, ℕ, ◌+◌, ◌-◌, ◌<◌, ◌≤◌, length, Ok, Err}
 use Rattle.image.specs.Layout.{longest_rule, version_of, count_of}
 use Rattle.laws.specs.Walks.{sum_below}
 use Rattle.image.specs.declared.Head.{Head}
@@ -11,8 +11,8 @@ use Rattle.sound.specs.Effects.{new_body}
 use Rattle.kinship.specs.Climb.{Rooted, Housed}
 use Rattle.template.specs.declared.Span.{Span}
 use Rattle.verdict.specs.declared.NewRecord.{NewRecord}
-use Rattle.verdict.specs.declared.Verdict.{Verdict}
-use Rattle.verdict.specs.declared.Verdict.TheVariants.{Refuse, Select, Create, Delete, SetLife, Read, Update}
+use Rattle.verdict.specs.Applied.{Verdict}
+use Rattle.verdict.specs.declared.Effect.TheVariants.{Select, Create, Delete, SetLife, Read, Update}
 
 -- a stretch of CREATE's data, which follow five bytes, that a field of `most` bytes can hold
 pub record FieldSent (most : ℕ) (c : List ℕ) (p : Span) : Type 0 where
@@ -34,13 +34,13 @@ pub record Roomy (img pool : List ℕ) (h : Head) : Type 0 where
 
 -- by the verdict on the command c; a refusal, SELECT and READ need nothing
 abbrev pub Fit : List ℕ → List ℕ → ℕ → List ℕ → Verdict → Type 0
-Fit img pool n c (Refuse word) = Unit {0}
-Fit img pool n c (Select d e word) = Unit {0}
-Fit img pool n c (Create x) = FileSent (version_of img) n c x × Roomy img pool x.head
-Fit img pool n c (Delete s) = s < n
-Fit img pool n c (SetLife s life) = s < n
-Fit img pool n c (Read at m) = Unit {0}
-Fit img pool n c (Update at) = (5 ≤ length c) × (at + (length c - 5) ≤ length pool)
+Fit img pool n c (Err word) = Unit {0}
+Fit img pool n c (Ok (Select d e word)) = Unit {0}
+Fit img pool n c (Ok (Create x)) = FileSent (version_of img) n c x × Roomy img pool x.head
+Fit img pool n c (Ok (Delete s)) = s < n
+Fit img pool n c (Ok (SetLife s life)) = s < n
+Fit img pool n c (Ok (Read at m)) = Unit {0}
+Fit img pool n c (Ok (Update at)) = (5 ≤ length c) × (at + (length c - 5) ≤ length pool)
 
 -- the verdict v on the command c can be applied to the image of n slots and its pool
 pub record Applies (img : List ℕ) (n : ℕ) (pool c : List ℕ) (v : Verdict) : Type 0 where

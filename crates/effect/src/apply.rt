@@ -16,7 +16,7 @@ use crate::erase;
 use image::{Head, fields, write};
 use rules::descriptor;
 use template::Span;
-use verdict::{Verdict, words};
+use verdict::{Effect, Verdict, words};
 
 // What SELECT found becomes current; its word tells the file's life cycle.
 fn select(image: &mut [u8], df: u16, ef: u16, word: u16) -> u16
@@ -131,17 +131,17 @@ pub fn apply(image: &mut [u8], n: usize, pool: &mut [u8], command: &[u8], verdic
         × (pool.new ≡ pooled_of image.old pool.old command.now verdict) }
 {
     match verdict {
-        Verdict::Refuse(word) => word,
-        Verdict::Select { df, ef, word } => select(image, df, ef, word),
-        Verdict::Create(new) => {
+        Err(word) => word,
+        Ok(Effect::Select { df, ef, word }) => select(image, df, ef, word),
+        Ok(Effect::Create(new)) => {
             let name = sent(command, new.name);
             let rule = sent(command, new.rule);
             let head = new.head;
             create(image, n, pool, new.slot, head, name, rule)
         }
-        Verdict::Delete(slot) => delete(image, n, pool, slot),
-        Verdict::SetLife { slot, life } => set_life(image, slot, life),
-        Verdict::Read { at, count } => words::DONE,
-        Verdict::Update(at) => update(pool, at, command),
+        Ok(Effect::Delete(slot)) => delete(image, n, pool, slot),
+        Ok(Effect::SetLife { slot, life }) => set_life(image, slot, life),
+        Ok(Effect::Read { .. }) => words::DONE,
+        Ok(Effect::Update(at)) => update(pool, at, command),
     }
 }

@@ -29,10 +29,8 @@ fn clear_chosen(image: &mut [u8], n: usize, marks: &[u8; 1023])
     requires { Sized image.old n }
     ensures { image.new ≡ clear_below n (λ k. eqb (get_or marks.now k 0) 1) image.old }
 {
-    let mut s = 0;
-    while s < n {
+    for s in 0..n {
         clear_if(image, s, marks[s] == 1);
-        s += 1;
     }
 }
 

@@ -4,3 +4,4 @@ pub mod Rows
 pub mod Standing
 pub mod Alike
 pub mod Growing
+pub mod Given

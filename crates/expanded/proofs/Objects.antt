@@ -10,7 +10,7 @@ use lib.ListN.{length, get_or, take, drop, length-drop, drop_of_length-le}
 use lib.Seq.{drop-cons, drop-drop}
 use lib.Dec.{leb, ltb}
 use borrow.Author.Tests.{le-leb, lt-leb, ltb-true, ltb-false, not-true, not-false}
-use Rattle.expanded.specs.Object.{Object, object, cut, objects_from, objects_of, every, some, several, Ends}
+use Rattle.expanded.specs.Object.{Object, object, cut, objects_from, objects_of, every, several, Ends}
 
 -- bounds that are large enough make no difference
 same_more : (m n : ℕ) (s : List ℕ) → length s ≤ m → length s ≤ n → objects_from m s ≡ objects_from n s
@@ -182,31 +182,3 @@ module _ {f : Object → Bool} {s : List ℕ} {at : ℕ} (inv : Each f s at) whe
       each_next t = record { left = inv.left ∙ ap (every f) (e.whole h) ∙ rw (← q, not-false r t) }
 
 pub ruleset eachs = (each_start, each_end, each_cut, each_no, each_next)
-
--- a loop that asks f of each object, and stops at one that holds
-pub record Some (f : Object → Bool) (s : List ℕ) (at : ℕ) : Type 0 where
-  pub left : some f (objects_of s) ≡ some f (objects_of (drop at s))
-
-pub some-start : (f : Object → Bool) (s : List ℕ) → Some f s 0
-some-start f s = record { left = refl }
-
-module _ {f : Object → Bool} {s : List ℕ} {at : ℕ} (inv : Some f s at) where
-  pub some_end : length s ≤ at → false ≡ some f (objects_of s)
-  unfolding some
-  some_end h = sym (inv.left ∙ ap (some f) (objects_end s at h))
-
-  module _ {to : ℕ} (e : Ends s at to) where
-    pub some-cut : to - at < 2 → f cut ≡ false → false ≡ some f (objects_of s)
-    unfolding some
-    some-cut h z = sym (inv.left ∙ ap (some f) (e.broken h) ∙ rw z)
-
-    module _ {r : Bool} (h : 2 ≤ to - at) (q : r ≡ f (object (get_or s at 0) (take (to - (at + 2)) (drop (at + 2) s)))) where
-      pub some-yes : r ≡ true → true ≡ some f (objects_of s)
-      unfolding some
-      some-yes t = sym (inv.left ∙ ap (some f) (e.whole h) ∙ rw (← q, t))
-
-      pub some_next : r ≡ false → Some f s to
-      unfolding some
-      some_next t = record { left = inv.left ∙ ap (some f) (e.whole h) ∙ rw (← q, t) }
-
-pub ruleset somes = (some-start, some_end, some-cut, some-yes, some_next)

@@ -78,10 +78,10 @@ module _ {due : Bool} {s : List ℕ} {at : ℕ} (inv : Going due s at) where
 pub ruleset goings = (going_none, going_other, going_start, going_end, going_cut, going_no, going_next)
 
 -- a rule of which no object has opened so far; `am` is the AM byte that counts
-pub record Closed (bit : ℕ) (x : Sets) (am : ℕ) (s : List ℕ) (at : ℕ) : Type 0 where
-  pub left : opens_one bit x 0 (objects_of s) ≡ opens_one bit x am (objects_of (drop at s))
+pub record Closed (bit : ℕ) (x : Sets) (am : ℕ) (all rest : List Object) : Type 0 where
+  pub left : opens_one bit x 0 all ≡ opens_one bit x am rest
 
-open_cut : (bit : ℕ) (x : Sets) (am : ℕ) → opens bit x am cut ≡ false
+pub open_cut : (bit : ℕ) (x : Sets) (am : ℕ) → opens bit x am cut ≡ false
 unfolding opens
 open_cut bit x am = ap (λ (b : Bool). cond (eqb (am / bit % 2) 1) b false) (holds-cut 4 x) ∙ go (eqb (am / bit % 2) 1)
   where
@@ -89,29 +89,23 @@ open_cut bit x am = ap (λ (b : Bool). cond (eqb (am / bit % 2) 1) b false) (hol
     go true = refl
     go false = refl
 
-pub closed-start : (bit : ℕ) (x : Sets) (s : List ℕ) → Closed bit x 0 s 0
-closed-start bit x s = record { left = refl }
+pub after_cut : (am : ℕ) → am ≡ am_after am cut
+unfolding am_after
+after_cut am = refl
 
-module _ {bit : ℕ} {x : Sets} {am : ℕ} {s : List ℕ} {at : ℕ} (inv : Closed bit x am s at) where
-  pub closed-end : length s ≤ at → false ≡ opens_one bit x 0 (objects_of s)
+module _ {bit : ℕ} {x : Sets} {am : ℕ} {all rest : List Object} (inv : Closed bit x am all rest) where
+  pub closed-over : rest ≡ [] → false ≡ opens_one bit x 0 all
   unfolding opens_one
-  closed-end h = sym (inv.left ∙ ap (opens_one bit x am) (objects_end s at h))
+  closed-over e = sym (inv.left ∙ ap (opens_one bit x am) e)
 
-  module _ {to : ℕ} (e : Ends s at to) where
-    pub closed-cut : to - at < 2 → false ≡ opens_one bit x 0 (objects_of s)
+  module _ {o : Object} {more : List Object} (e : rest ≡ o ∷ more) where
+    pub closed-yes : opens bit x am o ≡ true → true ≡ opens_one bit x 0 all
     unfolding opens_one
-    closed-cut h = sym (inv.left ∙ ap (opens_one bit x am) (e.broken h) ∙ rw (open_cut bit x am))
+    closed-yes q = sym (inv.left ∙ ap (opens_one bit x am) e ∙ rw q)
 
-    module _ {r : Bool} (h : 2 ≤ to - at) (q : r ≡ opens bit x am (object_at s at to)) where
-      pub closed-yes : r ≡ true → true ≡ opens_one bit x 0 (objects_of s)
-      unfolding opens_one
-      closed-yes t = sym (inv.left ∙ ap (opens_one bit x am) (e.whole h) ∙ rw (← q, t))
-
-      pub closed-next : {a : ℕ} → r ≡ false → a ≡ am_after am (object_at s at to) → Closed bit x a s to
-      unfolding opens_one
-      closed-next {a} t k = record { left = inv.left ∙ ap (opens_one bit x am) (e.whole h) ∙ rw (← q, t, ← k) }
-
-pub ruleset closeds = (closed-start, closed-end, closed-cut, closed-yes, closed-next)
+    pub closed-on : {a : ℕ} → opens bit x am o ≡ false → a ≡ am_after am o → Closed bit x a all more
+    unfolding opens_one
+    closed-on {a} q k = record { left = inv.left ∙ ap (opens_one bit x am) e ∙ rw (q, ← k) }
 
 -- the bit that a callee gave
 pub bit-given : (b : ℕ) (x : Sets) (os : List Object) {z : ℕ} {r : Bool} → r ≡ opens_one z x 0 os → z ≡ b → r ≡ opens_one b x 0 os

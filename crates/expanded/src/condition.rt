@@ -4,9 +4,10 @@ ghost use Rattle.std.specs.Prelude.{◌≡◌, true, ◌<◌, ◌+◌, length, [
 ghost use Rattle.expanded.specs.Object.{object, objects_of, every, some, Stands};
 ghost use Rattle.expanded.specs.Condition.{formed_plain, is_template, formed, sc_of, holds_plain, holds};
 
-use crate::object;
+use crate::object::{self, Objects};
 use rules::Sets;
 
+// The tags of conditions. No enum: a tag is a byte of a rule, and each byte is answered.
 const ALWAYS: u8 = 0x90;
 
 const NEVER: u8 = 0x97;
@@ -18,29 +19,23 @@ const ONE_OF: u8 = 0xA0;
 const ALL_OF: u8 = 0xAF;
 
 // Whether a condition that is no template is well formed.
+#[tactic(auto, unfolding(crate::specs::Condition::formed_plain))]
 pub fn is_formed_plain(tag: u8, value: &[u8]) -> bool
     ensures { result ≡ formed_plain tag value.now }
 {
-    if tag == ALWAYS {
-        return value.len() == 0;
+    match tag {
+        ALWAYS | NEVER => value.is_empty(),
+        BYTE => value.len() == 1,
+        _ => false,
     }
-    if tag == NEVER {
-        return value.len() == 0;
-    }
-    if tag == BYTE {
-        return value.len() == 1;
-    }
-    false
 }
 
 // Whether a tag is that of always or of never, which hold nothing.
+#[tactic(auto, unfolding(crate::specs::Condition::formed_plain))]
 fn is_constant(tag: u8) -> bool
     ensures { result ≡ formed_plain tag [] }
 {
-    if tag == ALWAYS {
-        return true;
-    }
-    tag == NEVER
+    matches!(tag, ALWAYS | NEVER)
 }
 
 // Whether a 9E with its SC byte stands at `at`.
@@ -66,13 +61,11 @@ pub fn is_constant_at(s: &[u8], at: usize) -> bool
 }
 
 // Whether conditions stand in the value.
+#[tactic(auto, unfolding(crate::specs::Condition::is_template))]
 pub fn is_template(tag: u8) -> bool
     ensures { result ≡ is_template tag }
 {
-    if tag == ONE_OF {
-        return true;
-    }
-    tag == ALL_OF
+    matches!(tag, ONE_OF | ALL_OF)
 }
 
 // Whether a condition is well formed, nested at most `left` deep.
@@ -92,8 +85,8 @@ pub fn is_formed(tag: u8, value: &[u8], left: usize) -> bool
     are_formed(value, left - 1)
 }
 
-// Whether each object of a row is such a condition. What is no template is passed by a constant, so that the next object does not
-// wait for the length of this one; all else, and what is malformed, goes the general way.
+// Whether each object of a row is such a condition. What is no template is passed by a constant, and not by `Objects`, so that the next
+// object does not wait for the length of this one: soundness asks this. All else, and what is malformed, goes the general way.
 #[cycle(are_formed_is_formed)]
 fn are_formed(s: &[u8], left: usize) -> bool
     ensures { result ≡ every (formed left) (objects_of s.now) }
@@ -101,11 +94,11 @@ fn are_formed(s: &[u8], left: usize) -> bool
     let mut at: usize = 0;
     while at < s.len() {
         if is_byte_at(s, at) {
-            at = at + 3;
+            at += 3;
             continue;
         }
         if is_constant_at(s, at) {
-            at = at + 2;
+            at += 2;
             continue;
         }
         let to = object::end(s, at);
@@ -121,26 +114,26 @@ fn are_formed(s: &[u8], left: usize) -> bool
 }
 
 // The SC byte of a 9E; FF, never, where there is none.
+#[tactic(auto, unfolding(crate::specs::Condition::sc_of))]
 fn sc_of(value: &[u8]) -> u8
     ensures { result ≡ sc_of value.now }
 {
-    if value.len() == 1 {
-        return value[0];
+    match value {
+        [sc] => *sc,
+        _ => 0xFF,
     }
-    0xFF
 }
 
 // Whether a condition that is no template holds.
+#[tactic(auto, unfolding(crate::specs::Condition::holds_plain))]
 fn does_hold_plain(tag: u8, value: &[u8], sets: Sets) -> bool
     ensures { result ≡ holds_plain sets tag value.now }
 {
-    if tag == ALWAYS {
-        return true;
+    match tag {
+        ALWAYS => true,
+        BYTE => rules::condition::holds(sc_of(value), sets),
+        _ => false,
     }
-    if tag == BYTE {
-        return rules::condition::holds(sc_of(value), sets);
-    }
-    false
 }
 
 // Whether a condition holds, nested at most `left` deep.
@@ -165,16 +158,13 @@ pub fn does_hold(tag: u8, value: &[u8], left: usize, sets: Sets) -> bool
 fn does_one(s: &[u8], left: usize, sets: Sets) -> bool
     ensures { result ≡ some (holds left sets) (objects_of s.now) }
 {
-    let mut at: usize = 0;
-    while at < s.len() {
-        let to = object::end(s, at);
-        if to - at < 2 {
-            return false;
-        }
-        if does_hold(s[at], &s[at + 2..to], left, sets) {
+    for o in Objects(s) {
+        let Some((tag, value)) = o else {
+            continue;
+        };
+        if does_hold(tag, value, left, sets) {
             return true;
         }
-        at = to;
     }
     false
 }
@@ -184,16 +174,13 @@ fn does_one(s: &[u8], left: usize, sets: Sets) -> bool
 fn do_all(s: &[u8], left: usize, sets: Sets) -> bool
     ensures { result ≡ every (holds left sets) (objects_of s.now) }
 {
-    let mut at: usize = 0;
-    while at < s.len() {
-        let to = object::end(s, at);
-        if to - at < 2 {
+    for o in Objects(s) {
+        let Some((tag, value)) = o else {
+            return false;
+        };
+        if !does_hold(tag, value, left, sets) {
             return false;
         }
-        if !does_hold(s[at], &s[at + 2..to], left, sets) {
-            return false;
-        }
-        at = to;
     }
     true
 }

@@ -2,7 +2,7 @@
 use mathlib.Core.Path.{◌≡◌, refl, sym, ap, ◌∙◌}
 use mathlib.Core.Bool.{Bool, true, false, cond}
 use mathlib.Core.List.{List, [], ◌∷◌}
-use Prim.Native.Nat.{ℕ, ◌+◌, ◌≤◌}
+use Prim.Native.Nat.{ℕ, ◌+◌, ◌<◌, ◌≤◌, ◌/◌, ◌%◌}
 use native.Mathlib.Omega.{arith}
 use lib.ListN.{length, get_or, length-take}
 use Rattle.laws.specs.Lists.{part}
@@ -38,28 +38,34 @@ rule_fits r e h = omega (arith, ap length e, field-short r 33)
 records : (r : List ℕ) {d : ℕ} {q : Bool} → d ≡ descriptor_of r → q ≡ has_records d → q ≡ has_records (descriptor_of r)
 records r h f = f ∙ ap has_records h
 
+-- the two bytes of a number, as the library gives them
+pub two-bytes : {n m : ℕ} {b : List ℕ} → b ≡ n / 256 % 256 ∷ n % 256 ∷ [] → n < 65536 → n ≡ m → b ≡ be16 m
+two-bytes {n} e h q =
+    let low : n / 256 % 256 ≡ n / 256 = omega (arith, h) in
+    e ∙ ap (λ (k : ℕ). k ∷ n % 256 ∷ []) low ∙ ap be16 q
+
 module _ {at to : ℕ} {o y : List ℕ} (r : List ℕ) where
-  pub identifier-told : {n : ℕ} → n ≡ identifier_of r → WroteAt at to o y (object 0x83 (be16 n)) → WroteAt at to o y (identifier_object r)
-  identifier-told e w = same_text _ _ w (ap (λ (n : ℕ). object 0x83 (be16 n)) e)
+  pub identifier-told : {b : List ℕ} → b ≡ be16 (identifier_of r) → WroteAt at to o y (object 0x83 b) → WroteAt at to o y (identifier_object r)
+  identifier-told e w = same_text _ _ w (ap (λ (b : List ℕ). object 0x83 b) e)
 
   pub life-told : {n : ℕ} → n ≡ life_cycle_of r → WroteAt at to o y (object 0x8A (n ∷ [])) → WroteAt at to o y (life_object r)
   life-told e w = same_text _ _ w (ap (λ (n : ℕ). object 0x8A (n ∷ [])) e)
 
-  pub rule_told_lem : {tag : ℕ} {v : List ℕ} → tag ≡ rule_tag r → v ≡ rule_of r → WroteAt at to o y (object tag v)
+  pub rule-told : {tag : ℕ} {v : List ℕ} → tag ≡ rule_tag r → v ≡ rule_of r → WroteAt at to o y (object tag v)
       → WroteAt at to o y (rule_object r)
-  rule_told_lem {tag} {v} t e w = same_text _ _ w (ap (λ (x : ℕ). object x v) t ∙ ap (λ (x : List ℕ). object (rule_tag r) x) e)
+  rule-told {tag} {v} t e w = same_text _ _ w (ap (λ (x : ℕ). object x v) t ∙ ap (λ (x : List ℕ). object (rule_tag r) x) e)
 
-  pub size-told : {tag n : ℕ} → tag ≡ size_tag r → n ≡ size_of r → WroteAt at to o y (object tag (be16 n)) → WroteAt at to o y (size_object r)
-  size-told {tag} {n} t e w = same_text _ _ w (ap (λ (x : ℕ). object x (be16 n)) t ∙ ap (λ (x : ℕ). object (size_tag r) (be16 x)) e)
+  pub size-told : {tag : ℕ} {b : List ℕ} → tag ≡ size_tag r → b ≡ be16 (size_of r) → WroteAt at to o y (object tag b) → WroteAt at to o y (size_object r)
+  size-told {tag} {b} t e w = same_text _ _ w (ap (λ (x : ℕ). object x b) t ∙ ap (λ (x : List ℕ). object (size_tag r) x) e)
 
   module _ {d : ℕ} {q : Bool} (h : d ≡ descriptor_of r) (f : q ≡ has_records d) where
-    pub records-told : {n : ℕ} → q ≡ true → n ≡ record_length_of r → WroteAt at to o y (object 0x82 (d ∷ 0x21 ∷ be16 n))
+    pub records-told : {b : List ℕ} → q ≡ true → b ≡ be16 (record_length_of r) → WroteAt at to o y (object 0x82 (d ∷ 0x21 ∷ get_or b 0 0 ∷ get_or b 1 0 ∷ []))
         → WroteAt at to o y (descriptor_object r)
     unfolding record_bytes_of
-    records-told {n} t e w =
+    records-told {b} t e w =
         same_text _ _ w
-        (ap (λ (x : ℕ). object 0x82 (x ∷ 0x21 ∷ be16 n)) h
-        ∙ ap (λ (m : ℕ). object 0x82 (descriptor_of r ∷ 0x21 ∷ be16 m)) e
+        (ap (λ (x : ℕ). object 0x82 (x ∷ 0x21 ∷ get_or b 0 0 ∷ get_or b 1 0 ∷ [])) h
+        ∙ ap (λ (m : List ℕ). object 0x82 (descriptor_of r ∷ 0x21 ∷ get_or m 0 0 ∷ get_or m 1 0 ∷ [])) e
         ∙ ap (λ (b : Bool). object 0x82 (descriptor_of r ∷ 0x21 ∷ cond b (be16 (record_length_of r)) [])) (sym t ∙ records r h f))
 
     pub plain-told : q ≡ false → WroteAt at to o y (object 0x82 (d ∷ 0x21 ∷ [])) → WroteAt at to o y (descriptor_object r)

@@ -23,7 +23,8 @@ use Rattle.sound.specs.Own.{Used}
 use Rattle.template.specs.declared.Span.{Span}
 use Rattle.template.specs.Objects.{bytes_at}
 use Rattle.create_data.specs.declared.Data.{Data}
-use Rattle.create_data.specs.declared.Data.TheVariants.{Df, Ef, Bad}
+use Rattle.std.specs.Prelude.{Option, Some, None}
+use Rattle.create_data.specs.declared.Data.TheVariants.{Df, Ef}
 use Rattle.create_data.specs.Data.{data_of}
 use Rattle.create_data.specs.Good.{Good}
 use Rattle.create_data.specs.Grammar.{object, template, value_of, number, neither, NameLong, FileData, DfData, EfData, DfRead, EfRead}
@@ -146,9 +147,9 @@ module _ (v : ℕ) (r s : List ℕ) (u : Used v r) (new : new_life (life_cycle_o
     size-some = size-some v r u;
   }
 
-  ef_tells : (x : Data) → EfRead v s ef_data x → Good v s x → Tells s r x
+  ef_tells : (x : Option Data) → EfRead v s ef_data x → Good v s x → Tells s r x
   unfolding ef_data
-  ef_tells (Ef x) t g = record {
+  ef_tells (Some (Ef x)) t g = record {
     kind_is = w.kind;
     descriptor = t.0;
     identifier = t.1 ∙ number_back (identifier_of r);
@@ -159,8 +160,8 @@ module _ (v : ℕ) (r s : List ℕ) (u : Used v r) (new : new_life (life_cycle_o
     name = no_bytes s x.name g.nameless ∙ sym (ef-nameless v r u w.kind);
     rule = t.5 ∙ (told v r u).value;
   }
-  ef_tells (Df x) t g = absurd t
-  ef_tells Bad t g = absurd t
+  ef_tells (Some (Df x)) t g = absurd t
+  ef_tells None t g = absurd t
 
 -- a DF's with a C6
 module _ (v : ℕ) (r s : List ℕ) (u : Used v r) (new : new_life (life_cycle_of r) ≡ true) (w : SendsDf r (template_of r) s) where
@@ -192,9 +193,9 @@ module _ (v : ℕ) (r s : List ℕ) (u : Used v r) (new : new_life (life_cycle_o
     security-long = w.some;
   }
 
-  df_tells : (x : Data) → DfRead v s df_data x → Good v s x → Tells s r x
+  df_tells : (x : Option Data) → DfRead v s df_data x → Good v s x → Tells s r x
   unfolding df_data
-  df_tells (Df x) t g = record {
+  df_tells (Some (Df x)) t g = record {
     kind_is = w.kind;
     descriptor = t.0;
     identifier = t.1 ∙ number_back (identifier_of r);
@@ -205,8 +206,8 @@ module _ (v : ℕ) (r s : List ℕ) (u : Used v r) (new : new_life (life_cycle_o
     name = t.3 ∙ named_value (name_of r);
     rule = t.5 ∙ (told v r u).value;
   }
-  df_tells (Ef x) t g = absurd t
-  df_tells Bad t g = absurd t
+  df_tells (Some (Ef x)) t g = absurd t
+  df_tells None t g = absurd t
 
 pub read_back : ReadBack
 read_back v r s u new w = ⊎_elim

@@ -14,7 +14,8 @@ use Rattle.sound.specs.Sound.{Sound}
 use Rattle.template.specs.Objects.{bytes_at}
 use Rattle.create_data.specs.declared.NewFile.{NewFile}
 use Rattle.create_data.specs.declared.Data.{Data}
-use Rattle.create_data.specs.declared.Data.TheVariants.{Df, Ef, Bad}
+use Rattle.std.specs.Prelude.{Option, Some, None}
+use Rattle.create_data.specs.declared.Data.TheVariants.{Df, Ef}
 use Rattle.create_data.specs.Data.{data_of}
 use Rattle.create_data.specs.Grammar.{DfData, EfData}
 use Rattle.fcp.specs.Template.{template_of, with_c6}
@@ -47,10 +48,10 @@ pub record SameFile (s r : List ℕ) (kind : ℕ) (x : NewFile) : Type 0 where
   pub name : bytes_at s x.name ≡ name_of r
   pub rule : bytes_at s x.rule ≡ rule_of r
 
-abbrev pub Tells : List ℕ → List ℕ → Data → Type 0
-Tells s r Bad = ⊥
-Tells s r (Df x) = SameFile s r df x
-Tells s r (Ef x) = SameFile s r ef x
+abbrev pub Tells : List ℕ → List ℕ → Option Data → Type 0
+Tells s r None = ⊥
+Tells s r (Some (Df x)) = SameFile s r df x
+Tells s r (Some (Ef x)) = SameFile s r ef x
 
 -- the round trip: what a template says is good data on a card of the same version, and is read as the file that it was written of
 abbrev pub ReadBack : Type 0

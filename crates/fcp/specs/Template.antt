@@ -1,20 +1,20 @@
 -- The template 62 that SELECT answers with (02 Ticket 2): what a record says of its file, in the order in which CREATE takes it and in
 -- the words of CREATE's grammar. 82 has 21 as second byte, a size has two bytes; there is no C6, 85 or A5.
-use Rattle.std.specs.Prelude.{ℕ, cond, List, [], ◌∷◌, ◌++◌, eqb, drop}
+use Rattle.std.specs.Prelude.{ℕ, cond, List, [], ◌∷◌, ◌++◌, eqb, drop, Option, Some, None}
 use Rattle.numbers.specs.Numbers.{be16}
 use Rattle.rules.specs.Descriptor.{df, has_records}
 use Rattle.image.specs.Layout.{kind_of, descriptor_of, life_cycle_of, form_of, identifier_of, record_length_of, size_of, name_of, rule_of}
 use Rattle.access.specs.Access.{tag_of}
-use Rattle.create_data.specs.Grammar.{object, template, Optional, absent, sent, optional}
+use Rattle.create_data.specs.Grammar.{object, template, optional}
 
 -- the record length, where the structure has records
 unfoldable pub record_bytes_of : List ℕ → List ℕ
 record_bytes_of r = cond (has_records (descriptor_of r)) (be16 (record_length_of r)) []
 
 -- a name, where there is one
-abbrev pub named : List ℕ → Optional
-named [] = absent
-named (x ∷ v) = sent (x ∷ v)
+abbrev pub named : List ℕ → Option (List ℕ)
+named [] = None
+named (x ∷ v) = Some (x ∷ v)
 
 -- 8C for a compact rule, AB for an expanded one (02 Ticket 3), 8B for a referred one (02 Ticket 7)
 unfoldable pub rule_tag : List ℕ → ℕ

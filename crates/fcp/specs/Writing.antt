@@ -1,10 +1,9 @@
 -- What the writer of a template needs of a record, and what it leaves of the buffer.
-use Rattle.std.specs.Prelude.{◌≡◌, cond, List, ℕ, ◌+◌, ◌<◌, ◌≤◌, length, get_or, eqb}
+use Rattle.std.specs.Prelude.{◌≡◌, cond, List, ℕ, ◌+◌, ◌<◌, ◌≤◌, length, get_or, eqb, Result, Ok, Err}
 use Rattle.laws.specs.Lists.{splice}
 use Rattle.rules.specs.Descriptor.{has_records}
 use Rattle.image.specs.Layout.{Within, rec_at, size_of}
-use Rattle.fcp.specs.declared.Written.{Written}
-use Rattle.fcp.specs.declared.Written.TheVariants.{Done, Short}
+use Rattle.fcp.specs.declared.TooShort.{TooShort}
 
 -- record s is within the image, its name and rule within their fields, and two bytes hold its size
 pub record Tellable (img : List ℕ) (s : ℕ) : Type 0 where
@@ -21,6 +20,6 @@ unfoldable pub name_length : ℕ → ℕ
 name_length n = cond (eqb n 0) 0 (n + 2)
 
 -- what is told was written at the start of the buffer, which was long enough; or it was shorter, and is as it came
-abbrev pub Answered : List ℕ → List ℕ → List ℕ → Written → Type 0
-Answered told before after (Done n) = (length told ≤ length before) × ((n ≡ length told) × (after ≡ splice before 0 told))
-Answered told before after Short = (length before < length told) × (after ≡ before)
+abbrev pub Answered : List ℕ → List ℕ → List ℕ → Result ℕ TooShort → Type 0
+Answered told before after (Ok n) = (length told ≤ length before) × ((n ≡ length told) × (after ≡ splice before 0 told))
+Answered told before after (Err e) = (length before < length told) × (after ≡ before)

@@ -5,7 +5,7 @@ ghost use Rattle.text.specs.Written.{Wrote};
 ghost use Rattle.fcp.specs.Template.{template_of};
 ghost use Rattle.fcp.specs.Writing.{Tellable, descriptor_length, name_length, Answered};
 
-use crate::{Written, objects};
+use crate::{TooShort, objects};
 use image::fields;
 use rules::descriptor;
 
@@ -30,6 +30,7 @@ fn name_length(n: usize) -> usize
     n + 2
 }
 
+// Image and slot stay two parameters, here and in `objects`: the readers in `image::fields`, asked for each object, take them so.
 // How long the template is: 62 LL, 83, 8A, the rule's tag and length and the size are 15 bytes.
 fn length_of(image: &[u8], s: usize) -> usize
     requires { Tellable image.now s }
@@ -42,7 +43,8 @@ fn length_of(image: &[u8], s: usize) -> usize
     first + named + rule.len() + 15
 }
 
-// Writes the template, n bytes long, at the buffer's start.
+// Writes the template, n bytes long, at the buffer's start: 62 LL, then the objects in CREATE's order, 82, 83, 84, 8A, the rule and the
+// size.
 fn fill(out: &mut [u8], image: &[u8], s: usize, n: usize) -> usize
     requires tellable { Tellable image.now s }
     requires n_value { (n ≡ length (template_of (rec_at image.now s))) × ((n ≤ 69) × (n ≤ length out.old)) }
@@ -50,23 +52,28 @@ fn fill(out: &mut [u8], image: &[u8], s: usize, n: usize) -> usize
 {
     let a = text::put(out, 0, &[0x62, (n - 2) as u8]);
     let b = objects::put_descriptor(out, a, image, s);
-    let c = objects::put_identifier(out, b, image, s);
+    let c = objects::put(out, b, 0x83, &fields::identifier(image, s).to_be_bytes());
     let d = objects::put_name(out, c, image, s);
-    let e = objects::put_life(out, d, image, s);
-    let f = objects::put_rule(out, e, image, s);
-    objects::put_size(out, f, image, s)
+    let e = objects::put(out, d, 0x8A, &[fields::life_cycle(image, s)]);
+    let f = objects::put(
+        out,
+        e,
+        access::tag_of(fields::form(image, s)),
+        fields::rule(image, s),
+    );
+    let size = fields::size(image, s) as u16;
+    objects::put(out, f, objects::size_tag(image, s), &size.to_be_bytes())
 }
 
-// The template of the file in slot s at the start of the buffer, whose other bytes stay; or Short, and the buffer as it came,
-// where it is shorter than the template.
-pub fn write(out: &mut [u8], image: &[u8], s: usize) -> Written
+// The template of the file in slot s at the start of the buffer, whose other bytes stay, with its length; or that the buffer, as it came,
+// is shorter than the template.
+pub fn write(out: &mut [u8], image: &[u8], s: usize) -> Result<usize, TooShort>
     requires { Tellable image.now s }
     ensures { Answered (template_of (rec_at image.now s)) out.old out.new result }
 {
     let n = length_of(image, s);
     if out.len() < n {
-        return Written::Short;
+        return Err(TooShort);
     }
-    let m = fill(out, image, s, n);
-    Written::Done(m)
+    Ok(fill(out, image, s, n))
 }

@@ -6,9 +6,6 @@
 pub mod answer;
 pub mod objects;
 
-// The template was written, and is so long; or the buffer is too short for it and as it came.
-#[derive(Clone, Copy)]
-pub enum Written {
-    Done(usize),
-    Short,
-}
+// The buffer is too short for what is told, and as it came.
+#[derive(Clone, Copy, Debug, PartialEq, Eq)]
+pub struct TooShort;

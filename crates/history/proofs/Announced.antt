@@ -6,7 +6,7 @@ use mathlib.Core.List.{List}
 use Prim.Native.Nat.{ℕ}
 use lib.Dec.{eqb}
 use borrow.Author.Tests.{ne_eqb}
-use Rattle.laws.specs.declared.Found.TheVariants.{At}
+use Rattle.std.specs.Prelude.{Some, Ok, Err}
 use Rattle.laws.proofs.Says.{and-says}
 use Rattle.laws.proofs.Firsts.{first_is}
 use Rattle.rules.specs.declared.Sets.{Sets}
@@ -16,12 +16,12 @@ use Rattle.sound.specs.Table.{view_at}
 use Rattle.sound.specs.Kinship.{is_child_named, child_named, free_slot}
 use Rattle.sound.proofs.Says.{child-says}
 use Rattle.create_data.specs.declared.Data.{Data}
-use Rattle.create_data.specs.declared.Data.TheVariants.{Df, Ef, Bad}
+use Rattle.std.specs.Prelude.{Option, Some, None}
+use Rattle.create_data.specs.declared.Data.TheVariants.{Df, Ef}
 use Rattle.create_data.specs.Data.{data_of}
 use Rattle.verdict.specs.declared.State.{State}
-use Rattle.verdict.specs.declared.Verdict.{Verdict}
-use Rattle.verdict.specs.declared.Verdict.TheVariants.{Refuse, Select, Create, Delete, SetLife, Read, Update}
-use Rattle.verdict.specs.Applied.{sent_data}
+use Rattle.verdict.specs.declared.Effect.TheVariants.{Select, Create, Delete, SetLife, Read, Update}
+use Rattle.verdict.specs.Applied.{Verdict, sent_data}
 use Rattle.judge_target.specs.Steps.{Plan, followed}
 use Rattle.judge_target.specs.Target.{slot_in, selected, creating}
 use Rattle.judge_create.specs.Creation.{create}
@@ -36,16 +36,16 @@ use Rattle.history.specs.Ledger.{makes, deletes, neither}
 use Rattle.history.specs.Story.{new_entry, announced}
 
 abbrev pub Announces : List ℕ → List ℕ → Verdict → Type 0
-Announces img c (Refuse w) = Unit {0}
-Announces img c (Select d e w) = announced (version_of img) c ≡ neither
-Announces img c (Create x) = announced (version_of img) c ≡ makes x.head.identifier x.head.size (eqb x.head.kind df)
-Announces img c (Delete s) = announced (version_of img) c ≡ deletes (view_at img s).identifier
-Announces img c (SetLife s life) = (announced (version_of img) c ≡ neither) × (is_body (instruction c) ≡ false)
-Announces img c (Read at n) = announced (version_of img) c ≡ neither
-Announces img c (Update at) = announced (version_of img) c ≡ neither
+Announces img c (Err w) = Unit {0}
+Announces img c (Ok (Select d e w)) = announced (version_of img) c ≡ neither
+Announces img c (Ok (Create x)) = announced (version_of img) c ≡ makes x.head.identifier x.head.size (eqb x.head.kind df)
+Announces img c (Ok (Delete s)) = announced (version_of img) c ≡ deletes (view_at img s).identifier
+Announces img c (Ok (SetLife s life)) = (announced (version_of img) c ≡ neither) × (is_body (instruction c) ≡ false)
+Announces img c (Ok (Read at n)) = announced (version_of img) c ≡ neither
+Announces img c (Ok (Update at)) = announced (version_of img) c ≡ neither
 
 module _ (img pool c : List ℕ) where
-  refused : (w : ℕ) → any_word w ≡ true → Announces img c (Refuse w)
+  refused : (w : ℕ) → any_word w ≡ true → Announces img c (Err w)
   refused w k = tt
 
   -- a plan's verdict does
@@ -63,10 +63,10 @@ module _ (img pool c : List ℕ) where
   create_announces n d sets e =
       followed_by (Announces img c) any_word refused _ refl (λ a. new (data_of (version_of img) (sent_data c)) (unfold announced in rw e))
     where
-      new : (f : Data) → announced (version_of img) c ≡ new_entry f → Announces img c (creating img d (slot_in (free_slot n (view_at img))) f)
-      new Bad q = tt
-      new (Df x) q = q
-      new (Ef x) q = q
+      new : (f : Option Data) → announced (version_of img) c ≡ new_entry f → Announces img c (creating img d (slot_in (free_slot n (view_at img))) f)
+      new None q = tt
+      new (Some (Df x)) q = q
+      new (Some (Ef x)) q = q
 
   delete_announces :
       (n d : ℕ) (sets : Sets) → instruction c ≡ delete_file → Announces img c (followed (delete img pool n d (sent_identifier c) sets))
@@ -76,7 +76,7 @@ module _ (img pool c : List ℕ) where
       sent : announced (version_of img) c ≡ deletes (sent_identifier c)
       sent = unfold announced in rw e
 
-      found : child_named n (view_at img) d (sent_identifier c) ≡ At (slot_in (child_named n (view_at img) d (sent_identifier c)))
+      found : child_named n (view_at img) d (sent_identifier c) ≡ Some (slot_in (child_named n (view_at img) d (sent_identifier c)))
           → announced (version_of img) c ≡ deletes (view_at img (slot_in (child_named n (view_at img) d (sent_identifier c)))).identifier
       found q =
           let f = first_is n (is_child_named (view_at img) d (sent_identifier c)) _ q in

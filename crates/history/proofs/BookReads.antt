@@ -8,6 +8,7 @@ use native.Mathlib.Omega.{arith}
 use lib.Dec.{eqb}
 use lib.ListN.{length}
 use borrow.Author.Tests.{eq-eqb, ne_eqb, eqb-true}
+use Rattle.std.specs.Prelude.{Ok, Err}
 use Rattle.laws.specs.Lists.{part, splice}
 use Rattle.laws.proofs.Says.{or-says}
 use Rattle.laws.proofs.Splices.{length_part, get_or-splice_in, get_or-splice_below, get_or-splice_above}
@@ -15,10 +16,9 @@ use Rattle.image.specs.Layout.{current_ef_of, none}
 use Rattle.pool.specs.Bodies.{body_at, body_bytes}
 use Rattle.sound.specs.Sound.{Sound}
 use Rattle.verdict.specs.declared.State.{State}
-use Rattle.verdict.specs.declared.Verdict.{Verdict}
-use Rattle.verdict.specs.declared.Verdict.TheVariants.{Refuse, Select, Create, Delete, SetLife, Read, Update}
+use Rattle.verdict.specs.declared.Effect.TheVariants.{Select, Create, Delete, SetLife, Read, Update}
 use Rattle.verdict.specs.Words.{done}
-use Rattle.verdict.specs.Applied.{sent_data, word_of}
+use Rattle.verdict.specs.Applied.{Verdict, sent_data, word_of}
 use Rattle.apdu.specs.Apdu.{instruction, is_binary, is_record, is_read, is_body, asked, create_file}
 use Rattle.effect.specs.Told.{told}
 use Rattle.card.specs.Touching.{place_of}
@@ -52,13 +52,13 @@ update_is i h = one_of_two_lem (λ j. (is_body j ≡ true) × (is_read j ≡ fal
 
 -- a command on a body that succeeds reads or updates
 abbrev Body : Verdict → Type 0
-Body (Refuse w) = ⊥
-Body (Select d e w) = ⊥
-Body (Create x) = ⊥
-Body (Delete s) = ⊥
-Body (SetLife s life) = ⊥
-Body (Read at n) = Unit {0}
-Body (Update at) = Unit {0}
+Body (Err w) = ⊥
+Body (Ok (Select d e w)) = ⊥
+Body (Ok (Create x)) = ⊥
+Body (Ok (Delete s)) = ⊥
+Body (Ok (SetLife s life)) = ⊥
+Body (Ok (Read at n)) = Unit {0}
+Body (Ok (Update at)) = Unit {0}
 
 module _ (img pool c : List ℕ) (st : State) (lent : ℕ) (sound : Sound img) (b : is_body (instruction c) ≡ true)
     (w : answer_word (reply_of img pool c st lent) ≡ done) where
@@ -66,13 +66,13 @@ module _ (img pool c : List ℕ) (st : State) (lent : ℕ) (sound : Sound img) (
   no_body i h e = false≢true (sym h ∙ sym (ap is_body e) ∙ b)
 
   is_body_lem : (v : Verdict) → Announces img c v → Ordered img c v → Spoken v → word_of v ≡ done → Body v
-  is_body_lem (Refuse x) a o s e = s (inl e)
-  is_body_lem (Select d f x) a o s e = no_body 0xA4 (unfold is_body is_binary is_record in refl) o
-  is_body_lem (Create x) a o s e = no_body 0xE0 (unfold is_body is_binary is_record in refl) o.0
-  is_body_lem (Delete x) a o s e = no_body 0xE4 (unfold is_body is_binary is_record in refl) o.0
-  is_body_lem (SetLife x life) a o s e = false≢true (sym a.1 ∙ b)
-  is_body_lem (Read at n) a o s e = tt
-  is_body_lem (Update at) a o s e = tt
+  is_body_lem (Err x) a o s e = s (inl e)
+  is_body_lem (Ok (Select d f x)) a o s e = no_body 0xA4 (unfold is_body is_binary is_record in refl) o
+  is_body_lem (Ok (Create x)) a o s e = no_body 0xE0 (unfold is_body is_binary is_record in refl) o.0
+  is_body_lem (Ok (Delete x)) a o s e = no_body 0xE4 (unfold is_body is_binary is_record in refl) o.0
+  is_body_lem (Ok (SetLife x life)) a o s e = false≢true (sym a.1 ∙ b)
+  is_body_lem (Ok (Read at n)) a o s e = tt
+  is_body_lem (Ok (Update at)) a o s e = tt
 
   due : Verdict
   due = due_of img pool c st lent
@@ -86,13 +86,13 @@ module _ (img pool c : List ℕ) (st : State) (lent : ℕ) (sound : Sound img) (
   -- a READ tells as much as it asks for
   tells : PoolFits img pool → is_read (instruction c) ≡ true → (v : Verdict) → Body v → Tells img c v → Ordered img c v
       → (current_ef_of img ≡ none → ⊥) × (length (told img pool c v) ≡ asked c)
-  tells k q (Refuse x) n t o = absurd n
-  tells k q (Select d f x) n t o = absurd n
-  tells k q (Create x) n t o = absurd n
-  tells k q (Delete x) n t o = absurd n
-  tells k q (SetLife x life) n t o = absurd n
-  tells k q (Read at m) n t o = (t.0.some, length_part pool at m (touched img pool sound k c at m t.0) ∙ t.1)
-  tells k q (Update at) n t o = absurd (false≢true (sym o.1 ∙ q))
+  tells k q (Err x) n t o = absurd n
+  tells k q (Ok (Select d f x)) n t o = absurd n
+  tells k q (Ok (Create x)) n t o = absurd n
+  tells k q (Ok (Delete x)) n t o = absurd n
+  tells k q (Ok (SetLife x life)) n t o = absurd n
+  tells k q (Ok (Read at m)) n t o = (t.0.some, length_part pool at m (touched img pool sound k c at m t.0) ∙ t.1)
+  tells k q (Ok (Update at)) n t o = absurd (false≢true (sym o.1 ∙ q))
 
   reading : PoolFits img pool → is_read (instruction c) ≡ true
       → (current_ef_of img ≡ none → ⊥) × (answer_told (reply_of img pool c st lent) ≡ asked c)
@@ -104,13 +104,13 @@ module _ (img pool c : List ℕ) (st : State) (lent : ℕ) (sound : Sound img) (
   -- an UPDATE writes within the body
   sends : is_read (instruction c) ≡ false → (v : Verdict) → Body v → Tells img c v → Ordered img c v
       → (at : ℕ) × Touches img c at (length (sent_data c))
-  sends q (Refuse x) n t o = absurd n
-  sends q (Select d f x) n t o = absurd n
-  sends q (Create x) n t o = absurd n
-  sends q (Delete x) n t o = absurd n
-  sends q (SetLife x life) n t o = absurd n
-  sends q (Read at m) n t o = absurd (false≢true (sym q ∙ o.1))
-  sends q (Update at) n t o = (at, t.1)
+  sends q (Err x) n t o = absurd n
+  sends q (Ok (Select d f x)) n t o = absurd n
+  sends q (Ok (Create x)) n t o = absurd n
+  sends q (Ok (Delete x)) n t o = absurd n
+  sends q (Ok (SetLife x life)) n t o = absurd n
+  sends q (Ok (Read at m)) n t o = absurd (false≢true (sym q ∙ o.1))
+  sends q (Ok (Update at)) n t o = (at, t.1)
 
   updating : is_read (instruction c) ≡ false → (at : ℕ) × Touches img c at (length (sent_data c))
   unfolding due

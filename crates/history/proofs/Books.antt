@@ -9,6 +9,7 @@ use native.Mathlib.Omega.{arith}
 use lib.Dec.{eqb}
 use lib.ListN.{length, replicate}
 use borrow.Author.Tests.{eq-eqb, ne_eqb}
+use Rattle.std.specs.Prelude.{Ok, Err}
 use Rattle.laws.specs.Lists.{splice}
 use Rattle.laws.proofs.Says.{same_or}
 use Rattle.rules.specs.Descriptor.{df, ef}
@@ -19,14 +20,12 @@ use Rattle.sound.specs.Sound.{Sound}
 use Rattle.sound.specs.Kinship.{at_or_beneath, free_slot}
 use Rattle.sound.proofs.Kept.{gone}
 use Rattle.maker.specs.declared.Edition.{Edition}
-use Rattle.maker.specs.declared.Made.TheVariants.{Done}
 use Rattle.maker.specs.Making.{made_of, left_by}
 use Rattle.maker.proofs.Buffers.{sound-made, version-made, alone-made}
 use Rattle.verdict.specs.declared.State.{State}
-use Rattle.verdict.specs.declared.Verdict.{Verdict}
-use Rattle.verdict.specs.declared.Verdict.TheVariants.{Refuse, Select, Create, Delete, SetLife, Read, Update}
+use Rattle.verdict.specs.declared.Effect.TheVariants.{Select, Create, Delete, SetLife, Read, Update}
 use Rattle.verdict.specs.Words.{done}
-use Rattle.verdict.specs.Applied.{sent_data, word_of}
+use Rattle.verdict.specs.Applied.{Verdict, sent_data, word_of}
 use Rattle.judge_target.specs.Target.{slot_in}
 use Rattle.apdu.specs.Apdu.{create_file}
 use Rattle.card.specs.Touching.{place_of}
@@ -73,17 +72,17 @@ module _ (img c : List ℕ) (i size : ℕ) (q : announced (version_of img) c ≡
 
   current_by : (v : Verdict) → Announces img c v → Ordered img c v → Spoken v → word_of v ≡ done
       → ef_after img v ≡ slot_in (free_slot (count_of img) (view_at img))
-  current_by (Refuse w) a o s e = absurd (s (inl e))
-  current_by (Select d f w) a o s e = absurd (omega (arith, no_other neither a))
-  current_by (Create x) a o s e = go (eqb x.head.kind df) (no_other _ a)
+  current_by (Err w) a o s e = absurd (s (inl e))
+  current_by (Ok (Select d f w)) a o s e = absurd (omega (arith, no_other neither a))
+  current_by (Ok (Create x)) a o s e = go (eqb x.head.kind df) (no_other _ a)
     where
       go : (b : Bool) → sort (makes 0 0 b) ≡ 2 → cond b none x.slot ≡ slot_in (free_slot (count_of img) (view_at img))
       go true z = absurd (omega arith)
       go false z = o.1
-  current_by (Delete x) a o s e = absurd (omega (arith, no_other _ a))
-  current_by (SetLife x life) a o s e = absurd (omega (arith, no_other neither a.0))
-  current_by (Read at n) a o s e = absurd (omega (arith, no_other neither a))
-  current_by (Update at) a o s e = absurd (omega (arith, no_other neither a))
+  current_by (Ok (Delete x)) a o s e = absurd (omega (arith, no_other _ a))
+  current_by (Ok (SetLife x life)) a o s e = absurd (omega (arith, no_other neither a.0))
+  current_by (Ok (Read at n)) a o s e = absurd (omega (arith, no_other neither a))
+  current_by (Ok (Update at)) a o s e = absurd (omega (arith, no_other neither a))
 
   new_current : (pool : List ℕ) (st : State) (lent : ℕ) → Sound img → answer_word (reply_of img pool c st lent) ≡ done
       → current_ef_of (image_of img pool c st lent) ≡ slot_in (free_slot (count_of img) (view_at img))
@@ -102,10 +101,10 @@ pub record Right (t : Tale) : Type 0 where
   pub holds : (s : ℕ) → s < count_of t.image → (view_at t.image s).kind ≡ ef → body_bytes t.image t.pool s ≡ t.book s
 
 -- on a fresh card there is no EF
-right-fresh : (img : List ℕ) (e : Edition) (total form : ℕ) (rule pool : List ℕ) → made_of img e total form rule ≡ Done → e.version ≡ 3
-    → length pool ≡ total → Right (opening e.version (left_by Done img e total form rule) pool)
+right-fresh : (img : List ℕ) (e : Edition) (total form : ℕ) (rule pool : List ℕ) → made_of img e total form rule ≡ Ok tt → e.version ≡ 3
+    → length pool ≡ total → Right (opening e.version (left_by (Ok tt) img e total form rule) pool)
 right-fresh img e total form rule pool made third long =
-    let left = left_by Done img e total form rule in
+    let left = left_by (Ok tt) img e total form rule in
     let sound = sound-made img e total form rule made in
     let a = alone-made img e total form rule made in
     record {

@@ -8,6 +8,7 @@ use Prim.Native.Nat.{ℕ, ◌+◌, ◌<◌, ◌≤◌}
 use native.Mathlib.Omega.{arith}
 use lib.Dec.{leb}
 use borrow.Author.Tests.{leb-true, leb-false, le-leb, lt-leb}
+use Rattle.std.specs.Prelude.{Ok}
 use Rattle.laws.proofs.Sums.{sum-none}
 use Rattle.laws.proofs.Says.{same_or, untrue}
 use Rattle.image.specs.Layout.{version_of, count_of, current_df_of}
@@ -17,7 +18,6 @@ use Rattle.sound.specs.Table.{View, view_at}
 use Rattle.sound.specs.Sound.{Sound}
 use Rattle.sound.specs.Kin.{Kin}
 use Rattle.sound.specs.Kinship.{total_for, room_for, fits_room}
-use Rattle.maker.specs.declared.Made.TheVariants.{Done}
 use Rattle.maker.specs.Making.{made_of, left_by}
 use Rattle.maker.proofs.Buffers.{sound-made, version-made, alone-made}
 use Rattle.verdict.specs.Words.{done, not_enough_memory}
@@ -52,11 +52,11 @@ pub record Kept (st : Story) : Type 0 where
   pub version : version_of st.image ≡ st.version
 
 -- on a fresh card there is no file but the root
-kept_fresh : (img : List ℕ) (e : Edition) (total form : ℕ) (rule : List ℕ) → made_of img e total form rule ≡ Done
-    → Kept (begun e.version (left_by Done img e total form rule) total)
+kept_fresh : (img : List ℕ) (e : Edition) (total form : ℕ) (rule : List ℕ) → made_of img e total form rule ≡ Ok tt
+    → Kept (begun e.version (left_by (Ok tt) img e total form rule) total)
 unfolding opened sum_over sum_files
 kept_fresh img e total form rule made =
-    let v = view_at (left_by Done img e total form rule) in
+    let v = view_at (left_by (Ok tt) img e total form rule) in
     let a = alone-made img e total form rule made in
     record {
       sound = sound-made img e total form rule made;

@@ -4,7 +4,7 @@ use mathlib.Core.Path.{◌≡◌, refl, sym, ap, ◌∙◌}
 use mathlib.Core.Bool.{Bool, true, false, not, cond}
 use Prim.Native.Nat.{ℕ, ◌<◌}
 use native.Mathlib.Omega.{arith}
-use Rattle.laws.specs.declared.Found.TheVariants.{At}
+use Rattle.std.specs.Prelude.{Some}
 use Rattle.laws.specs.Walks.{if_so}
 use Rattle.laws.proofs.Sums.{sum_cong, sum_change}
 use Rattle.rules.specs.Descriptor.{df, ef}
@@ -22,7 +22,7 @@ pub record OneMore (n : ℕ) (v w : ℕ → View) (x z : ℕ) (is_df : Bool) (be
   pub slot : ℕ
   pub low : slot < n
   pub free : (v slot).kind ≡ 0
-  pub lowest : free_slot n v ≡ At slot
+  pub lowest : free_slot n v ≡ Some slot
   pub other : slot ≡ 0 → ⊥
   pub kind : (w slot).kind ≡ cond is_df df ef
   pub parent : (w slot).parent ≡ before

@@ -7,6 +7,7 @@ use Prim.Native.Nat.{ℕ, ◌<◌}
 use native.Mathlib.Omega.{arith}
 use lib.Dec.{eqb}
 use borrow.Author.Tests.{eq-eqb, ne_eqb, eqb-true}
+use Rattle.std.specs.Prelude.{Ok, Err}
 use Rattle.laws.proofs.Says.{same_or}
 use Rattle.laws.proofs.Firsts.{first_is}
 use Rattle.rules.specs.Descriptor.{df, ef}
@@ -20,10 +21,9 @@ use Rattle.sound.proofs.NewRecords.{view_made, view_free}
 use Rattle.sound.proofs.Kept.{gone}
 use Rattle.sound.proofs.Lived.{view_lived}
 use Rattle.sound.proofs.Created.{class_low}
-use Rattle.verdict.specs.declared.Verdict.{Verdict}
-use Rattle.verdict.specs.declared.Verdict.TheVariants.{Refuse, Select, Create, Delete, SetLife, Read, Update}
+use Rattle.verdict.specs.declared.Effect.TheVariants.{Select, Create, Delete, SetLife, Read, Update}
 use Rattle.verdict.specs.Words.{done}
-use Rattle.verdict.specs.Applied.{word_of}
+use Rattle.verdict.specs.Applied.{Verdict, word_of}
 use Rattle.card.specs.Command.{due_of}
 use Rattle.card.specs.After.{record_after, df_after}
 use Rattle.card.specs.Demands.{Call, image_after}
@@ -87,10 +87,10 @@ module _ (img c : List ℕ) (sound : Sound img) (w : ℕ → View) where
       → ((t : ℕ) → t < count_of img → w t ≡ view_of (record_after img c v t))
       → Did (count_of img) (view_at img) w (said v) (current_df_of img) after
   unfolding said
-  did (Refuse x) k a s after q e = rw (ne_eqb x done (λ z. s (inl z))) e
-  did (Select d f x) k a s after q e = rw (nothing_said (Select d f x) a) e
-  did (Create x) k a z after q e = rw a (one_more x.slot x.head _ _ k.1 after q e)
-  did (Delete s) k a z after q e = rw a (record {
+  did (Err x) k a s after q e = rw (ne_eqb x done (λ z. s (inl z))) e
+  did (Ok (Select d f x)) k a s after q e = rw (nothing_said (Ok (Select d f x)) a) e
+  did (Ok (Create x)) k a z after q e = rw a (one_more x.slot x.head _ _ k.1 after q e)
+  did (Ok (Delete s)) k a z after q e = rw a (record {
     slot = s;
     low = k.low;
     file = k.file;
@@ -103,12 +103,12 @@ module _ (img c : List ℕ) (sound : Sound img) (w : ℕ → View) where
       cleared : (t : ℕ) (b : Bool) → view_of (cond b free_bytes (rec_at img t)) ≡ cond b gone (view_at img t)
       cleared t true = view_free
       cleared t false = refl
-  did (SetLife s life) k a z after q e =
+  did (Ok (SetLife s life)) k a z after q e =
       rw a.0
-      (λ t l. e t l ∙ ap view_of (sym (records-after img c sound (SetLife s life) k t l))
+      (λ t l. e t l ∙ ap view_of (sym (records-after img c sound (Ok (SetLife s life)) k t l))
       ∙ view_lived img s life sound k.0.low k.0.used k.1 t l)
-  did (Read at n) k a z after q e = rw a e
-  did (Update at) k a z after q e = rw a e
+  did (Ok (Read at n)) k a z after q e = rw a e
+  did (Ok (Update at)) k a z after q e = rw a e
 
 -- the table after a call, by what the ledger heard
 pub call_did : (img : List ℕ) (x : Call) → Sound img

@@ -14,7 +14,8 @@ use Rattle.sound.specs.Table.{view_at}
 use Rattle.sound.specs.Sound.{Sound}
 use Rattle.sound.specs.Kinship.{free_slot, identifier_free, name_free, fits_room}
 use Rattle.create_data.specs.declared.Data.{Data}
-use Rattle.create_data.specs.declared.Data.TheVariants.{Df, Ef, Bad}
+use Rattle.std.specs.Prelude.{Option, Some, None}
+use Rattle.create_data.specs.declared.Data.TheVariants.{Df, Ef}
 use Rattle.create_data.specs.Data.{data_of}
 use Rattle.verdict.specs.declared.State.{State}
 use Rattle.verdict.specs.Words.{done, not_enough_memory, wrong_data, security_not_satisfied, conditions_not_satisfied, identifier_exists}
@@ -86,7 +87,7 @@ another : ℕ → Bool
 another w = not (eqb w done || eqb w not_enough_memory)
 
 module _ (img pool c : List ℕ) (st : State) (e : instruction c ≡ create_file) where
-  new : Data
+  new : Option Data
   new = data_of (version_of img) (sent_data c)
 
   earlier : List Step
@@ -117,10 +118,10 @@ module _ (img pool c : List ℕ) (st : State) (e : instruction c ≡ create_file
   unfolding earlier
   is-file h = (simp and-says at h).1.1.1.1.1.1.1.1.0
 
-  created-word : (d s : ℕ) (f : Data) → describes f ≡ true → word_of (creating img d s f) ≡ done
-  created-word d s Bad h = absurd (false≢true h)
-  created-word d s (Df x) h = refl
-  created-word d s (Ef x) h = refl
+  created-word : (d s : ℕ) (f : Option Data) → describes f ≡ true → word_of (creating img d s f) ≡ done
+  created-word d s None h = absurd (false≢true h)
+  created-word d s (Some (Df x)) h = refl
+  created-word d s (Some (Ef x)) h = refl
 
   module _ (sound : Sound img) (h : all_hold (but_last (steps_of img pool c st)) ≡ true) where
     hold : all_hold earlier ≡ true

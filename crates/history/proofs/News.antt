@@ -7,7 +7,8 @@ use native.Mathlib.Omega.{arith}
 use lib.Dec.{eqb}
 use borrow.Author.Tests.{eqb-true, eqb-false, eq-eqb, ne_eqb}
 use Rattle.create_data.specs.declared.Data.{Data}
-use Rattle.create_data.specs.declared.Data.TheVariants.{Df, Ef, Bad}
+use Rattle.std.specs.Prelude.{Option, Some, None}
+use Rattle.create_data.specs.declared.Data.TheVariants.{Df, Ef}
 use Rattle.create_data.specs.Data.{data_of}
 use Rattle.verdict.specs.Words.{done}
 use Rattle.verdict.specs.Applied.{sent_data}
@@ -61,16 +62,16 @@ module _ (v word : ℕ) (c : List ℕ) where
   spoken w a q = rw (eq-eqb word done w) q
 
   -- a CREATE
-  created : word ≡ done → instruction c ≡ create_file → (x : Data) → announced v c ≡ new_entry x → Hears v word c (new_contents x)
-  created w e Bad q = record {
+  created : word ≡ done → instruction c ≡ create_file → (x : Option Data) → announced v c ≡ new_entry x → Hears v word c (new_contents x)
+  created w e None q = record {
     no-ef = λ z. omega (arith, z, ap sort (spoken w neither q));
     no-update = λ y u. update_other c create_file refl u e;
   }
-  created w e (Df x) q = record {
-    no-ef = λ z. omega (arith, z, ap sort (spoken w (new_entry (Df x)) q));
+  created w e (Some (Df x)) q = record {
+    no-ef = λ z. omega (arith, z, ap sort (spoken w (new_entry (Some (Df x))) q));
     no-update = λ y u. update_other c create_file refl u e;
   }
-  created w e (Ef x) q = record { identifier = x.identifier; answered = w; create = e; says = q; heard = spoken w (new_entry (Ef x)) q }
+  created w e (Some (Ef x)) q = record { identifier = x.identifier; answered = w; create = e; says = q; heard = spoken w (new_entry (Some (Ef x))) q }
 
   -- any other
   not-created : word ≡ done → (instruction c ≡ create_file → ⊥) → (u : Bool) → updates c ≡ u

@@ -6,8 +6,7 @@ use native.Mathlib.Omega.{arith}
 use lib.Dec.{eqb, ltb}
 use lib.ListN.{length, get_or}
 use borrow.Author.Tests.{ltb-true}
-use Rattle.laws.specs.declared.Found.{Found}
-use Rattle.laws.specs.declared.Found.TheVariants.{At, Nothing}
+use Rattle.std.specs.Prelude.{Option, Some, None}
 use Rattle.image.specs.declared.Head.{Head}
 use Rattle.image.specs.Layout.{version_of, count_of, rec_at, record_bytes, with_start}
 use Rattle.image.proofs.Made.{length-made, name-length-made}
@@ -56,9 +55,9 @@ view_other img h sound t l =
     used : 0 < body_of (version_of img) (rec_at img t) → Used (version_of img) (rec_at img t)
     used x = (sound.records t l).used (λ e. omega (arith, has-ef (version_of img) (rec_at img t) (bodied (version_of img) (rec_at img t) x)))
 
-    kept : (g : Found) → view_of (kept_record g img t) ≡ view_at img t
-    kept (At p) = unfold kept_record in refl
-    kept Nothing = unfold kept_record in cond_by (λ (r : List ℕ). view_of r ≡ view_at img t) (ltb 0 (body_at img t)) _ _
+    kept : (g : Option ℕ) → view_of (kept_record g img t) ≡ view_at img t
+    kept (Some p) = unfold kept_record in refl
+    kept None = unfold kept_record in cond_by (λ (r : List ℕ). view_of r ≡ view_at img t) (ltb 0 (body_at img t)) _ _
         (λ q. let x : 0 < body_of (version_of img) (rec_at img t) = unfold body_at in ltb-true 0 _ q in
         view_started (version_of img) (rec_at img t) _ (length_record img t (sound-within img sound t l).0) (used x)
         (bodied (version_of img) (rec_at img t) x))

@@ -3,16 +3,17 @@
 -- only which EF slot is current, before and after a command; it never reads a record or the pool. Each statement is proved in
 -- proofs/Books or proofs/BookReads under the same name in small letters.
 use Rattle.std.specs.Prelude.{◌≡◌, true, cond, List, [], ◌∷◌, ◌⊎◌, ℕ, ◌+◌, ◌<◌, ◌≤◌, eqb, length, get_or, replicate}
+use Rattle.std.specs.Prelude.{Ok}
 use Rattle.laws.specs.Lists.{part, splice}
 use Rattle.rules.specs.Descriptor.{ef}
 use Rattle.image.specs.Layout.{count_of, current_ef_of}
 use Rattle.pool.specs.Bodies.{body_bytes}
 use Rattle.sound.specs.Table.{view_at}
 use Rattle.create_data.specs.declared.Data.{Data}
-use Rattle.create_data.specs.declared.Data.TheVariants.{Df, Ef, Bad}
+use Rattle.std.specs.Prelude.{Option, Some, None}
+use Rattle.create_data.specs.declared.Data.TheVariants.{Df, Ef}
 use Rattle.create_data.specs.Data.{data_of}
 use Rattle.maker.specs.declared.Edition.{Edition}
-use Rattle.maker.specs.declared.Made.TheVariants.{Done}
 use Rattle.maker.specs.Making.{made_of, left_by}
 use Rattle.verdict.specs.declared.State.{State}
 use Rattle.verdict.specs.Applied.{sent_data}
@@ -38,10 +39,10 @@ pub data News : Type 0 where
   quiet : News
 
 -- CREATE FILE: what its data announce; UPDATE BINARY and UPDATE RECORD: what they send, from where they begin in the body
-abbrev pub new_contents : Data → News
-new_contents Bad = quiet
-new_contents (Df x) = quiet
-new_contents (Ef x) = begins x.size
+abbrev pub new_contents : Option Data → News
+new_contents None = quiet
+new_contents (Some (Df x)) = quiet
+new_contents (Some (Ef x)) = begins x.size
 
 unfoldable pub news_of : ℕ → List ℕ → News
 news_of v c =
@@ -108,9 +109,9 @@ pub record Chronicle (t : Tale) : Type 0 where
   pub bodies : List ℕ
   pub turns : List Turn
   pub third : edition.version ≡ 3
-  pub made : made_of buffer edition total form rule ≡ Done
+  pub made : made_of buffer edition total form rule ≡ Ok tt
   pub whole : length bodies ≡ total
-  pub tale : turned_by (opening edition.version (left_by Done buffer edition total form rule) bodies) turns ≡ t
+  pub tale : turned_by (opening edition.version (left_by (Ok tt) buffer edition total form rule) bodies) turns ≡ t
 
 -- THE BOOK HOLDS: the body of every EF of the card is what the book has for its slot, byte for byte
 abbrev pub BookHolds : Type 0

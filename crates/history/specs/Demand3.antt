@@ -1,7 +1,6 @@
 -- Demand 3, and what follows from it, as statements about any history of commands on a fresh card (01 "What the
 -- statements must tie down"). Each is proved in proofs/Demand or proofs/Corollaries under the same name in small letters.
-use Rattle.std.specs.Prelude.{◌≡◌, Bool, true, List, [], ◌∷◌, ◌↔◌, ℕ, ◌+◌, ◌<◌, ◌≤◌}
-use Rattle.laws.specs.declared.Found.TheVariants.{Nothing}
+use Rattle.std.specs.Prelude.{◌≡◌, Bool, true, List, [], ◌∷◌, ◌↔◌, ℕ, ◌+◌, ◌<◌, ◌≤◌, None, Ok}
 use Rattle.rules.specs.Descriptor.{df}
 use Rattle.image.specs.Layout.{count_of, current_df_of}
 use Rattle.pool.specs.Bodies.{start_at, body_at}
@@ -9,7 +8,6 @@ use Rattle.pool.specs.Laid.{Laid}
 use Rattle.sound.specs.Table.{view_at}
 use Rattle.sound.specs.Kinship.{free_slot, room_for}
 use Rattle.maker.specs.declared.Edition.{Edition}
-use Rattle.maker.specs.declared.Made.TheVariants.{Done}
 use Rattle.maker.specs.Making.{made_of, left_by}
 use Rattle.verdict.specs.Words.{done, not_enough_memory}
 use Rattle.card.specs.Command.{PoolFits}
@@ -68,8 +66,8 @@ pub record History (st : Story) : Type 0 where
   pub form : ℕ
   pub rule : List ℕ
   pub calls : List Call
-  pub made : made_of buffer edition total form rule ≡ Done
-  pub story : played (begun edition.version (left_by Done buffer edition total form rule) total) calls ≡ st
+  pub made : made_of buffer edition total form rule ≡ Ok tt
+  pub story : played (begun edition.version (left_by (Ok tt) buffer edition total form rule) total) calls ≡ st
 
 abbrev pub Demand3Holds : Type 0
 Demand3Holds = (st : Story) → History st → Demand3 st
@@ -86,7 +84,7 @@ NothingElsewhere = (st : Story) → History st → (d : ℕ) → Lives st d → 
 -- a full file table never refuses a CREATE that has room: a free record is there, and the word is 9000
 abbrev pub FullTableNever : Type 0
 FullTableNever = (st : Story) → History st → (x : Call) → Ready st.image x → size_sent st.version x + 64 ≤ room st (here st)
-    → (free_slot (count_of st.image) (view_at st.image) ≡ Nothing → ⊥) × (word_for st.image x ≡ done)
+    → (free_slot (count_of st.image) (view_at st.image) ≡ None → ⊥) × (word_for st.image x ≡ done)
 
 -- .. and a fragmented pool never does (02 Ticket 4): however the bodies lie, such a CREATE is answered 9000, and afterwards all bodies, the
 -- new one among them, lie apart in a pool of the root's total

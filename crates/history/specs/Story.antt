@@ -4,7 +4,8 @@ use Rattle.std.specs.Prelude.{◌≡◌, true, false, cond, List, [], ◌∷◌,
 use Rattle.image.specs.Layout.{current_df_of}
 use Rattle.sound.specs.Sound.{Sound}
 use Rattle.create_data.specs.declared.Data.{Data}
-use Rattle.create_data.specs.declared.Data.TheVariants.{Df, Ef, Bad}
+use Rattle.std.specs.Prelude.{Option, Some, None}
+use Rattle.create_data.specs.declared.Data.TheVariants.{Df, Ef}
 use Rattle.create_data.specs.Data.{data_of}
 use Rattle.verdict.specs.Words.{done, not_enough_memory}
 use Rattle.verdict.specs.Applied.{sent_data}
@@ -17,10 +18,10 @@ use Rattle.card.specs.Demands.{Call, image_after}
 use Rattle.history.specs.Ledger.{Ledger, Announced, makes, deletes, neither, entered, opened}
 
 -- what CREATE's data announce, and what a command does, to a card of the version that the maker was told
-abbrev pub new_entry : Data → Announced
-new_entry Bad = neither
-new_entry (Df x) = makes x.identifier x.size true
-new_entry (Ef x) = makes x.identifier x.size false
+abbrev pub new_entry : Option Data → Announced
+new_entry None = neither
+new_entry (Some (Df x)) = makes x.identifier x.size true
+new_entry (Some (Ef x)) = makes x.identifier x.size false
 
 unfoldable pub announced : ℕ → List ℕ → Announced
 announced v c =
@@ -78,7 +79,7 @@ pub record Ready (img : List ℕ) (x : Call) : Type 0 where
 abbrev pub size_sent : ℕ → Call → ℕ
 size_sent v x = new_size (data_of v (sent_data x.command))
 
--- such CREATEs are just those answered 9000 or 6A84 (proofs/Memory, `ready-exactly`)
+-- such CREATEs are just those answered 9000 or 6A84 (proofs/Memory, `ready_exactly`)
 abbrev pub ReadyExactly : Type 0
 ReadyExactly = (img : List ℕ) (x : Call) → Sound img → instruction x.command ≡ create_file
     → Ready img x ↔ ((word_for img x ≡ done) ⊎ (word_for img x ≡ not_enough_memory))

@@ -1,10 +1,10 @@
 -- The versions: none has a rule past the end of a record, and none more forms than a byte can tell; two bytes hold each of them.
-use mathlib.Core.Path.{◌≡◌, refl, sym, ◌∙◌, ap}
+use mathlib.Core.Path.{◌≡◌, refl}
 use mathlib.Core.Bool.{Bool, true, false, cond, false≢true}
 use Prim.Native.Nat.{ℕ, ◌<◌, ◌≤◌}
 use native.Mathlib.Omega.{arith}
-use lib.Dec.{eqb, leb, ltb}
-use borrow.Author.Tests.{eqb-true, eqb-false, ltb-true, lt-leb, le-ltb}
+use lib.Dec.{eqb, ltb}
+use borrow.Author.Tests.{eqb-true, ltb-true}
 use Rattle.image.specs.Layout.{longest_rule, forms_of, known_version, has_bodies}
 
 pub longest_within : (v : ℕ) → longest_rule v ≤ 30
@@ -63,48 +63,3 @@ bodies-third v h = eqb-true v 3 h
 pub bodies-rule : (v : ℕ) → has_bodies v ≡ true → longest_rule v ≡ 28
 unfolding longest_rule
 bodies-rule v h = rw (bodies-third v h)
-
--- a form told by itself, a law for each way out of `version::has_form`
-module _ (v : ℕ) {form : ℕ} where
-  pub has-third : form ≡ 2 → eqb v 3 ≡ ltb form (forms_of v)
-  unfolding forms_of
-  has-third f = rw f (go (eqb v 1) (eqb v 2) (eqb v 3) refl refl refl)
-    where
-      go : (a b c : Bool) → eqb v 1 ≡ a → eqb v 2 ≡ b → eqb v 3 ≡ c → c ≡ ltb 2 (cond a 1 (cond b 2 (cond c 3 0)))
-      go true b c p q r = sym r ∙ ap (λ (w : ℕ). eqb w 3) (eqb-true v 1 p)
-      go false true c p q r = sym r ∙ ap (λ (w : ℕ). eqb w 3) (eqb-true v 2 q)
-      go false false true p q r = refl
-      go false false false p q r = refl
-
-  pub has_second : form ≡ 1 → v ≡ 2 → true ≡ ltb form (forms_of v)
-  unfolding forms_of
-  has_second f e = rw f (rw e refl)
-
-  pub has_second_else : form ≡ 1 → (v ≡ 2 → ⊥) → eqb v 3 ≡ ltb form (forms_of v)
-  unfolding forms_of
-  has_second_else f other = rw f (go (eqb v 1) (eqb v 2) (eqb v 3) refl refl refl)
-    where
-      go : (a b c : Bool) → eqb v 1 ≡ a → eqb v 2 ≡ b → eqb v 3 ≡ c → c ≡ ltb 1 (cond a 1 (cond b 2 (cond c 3 0)))
-      go true b c p q r = sym r ∙ ap (λ (w : ℕ). eqb w 3) (eqb-true v 1 p)
-      go false true c p q r = absurd (other (eqb-true v 2 q))
-      go false false true p q r = refl
-      go false false false p q r = refl
-
-  pub has-no_more : (form ≡ 2 → ⊥) → (form ≡ 1 → ⊥) → (form ≡ 0 → ⊥) → false ≡ ltb form (forms_of v)
-  has-no_more two one nought = sym (le-ltb form (forms_of v) (omega (arith, forms-few v, two, one, nought)))
-
-  pub has-none : form ≡ 0 → v < 1 → false ≡ ltb form (forms_of v)
-  unfolding forms_of
-  has-none f low = let nought : v ≡ 0 = omega (arith, low) in rw f (rw nought refl)
-
-  pub has_first : form ≡ 0 → 1 ≤ v → leb v 3 ≡ ltb form (forms_of v)
-  unfolding forms_of
-  has_first f low = rw f (go (eqb v 1) (eqb v 2) (eqb v 3) refl refl refl)
-    where
-      go : (a b c : Bool) → eqb v 1 ≡ a → eqb v 2 ≡ b → eqb v 3 ≡ c → leb v 3 ≡ ltb 0 (cond a 1 (cond b 2 (cond c 3 0)))
-      go true b c p q r = ap (λ (w : ℕ). leb w 3) (eqb-true v 1 p)
-      go false true c p q r = ap (λ (w : ℕ). leb w 3) (eqb-true v 2 q)
-      go false false true p q r = ap (λ (w : ℕ). leb w 3) (eqb-true v 3 r)
-      go false false false p q r = lt-leb v 3 (omega (arith, low, eqb-false v 1 p, eqb-false v 2 q, eqb-false v 3 r))
-
-pub ruleset forms_told = (has-third, has_second, has_second_else, has-no_more, has-none, has_first)

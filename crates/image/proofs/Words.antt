@@ -6,11 +6,13 @@ use mathlib.Core.Logic.{⊎_elim}
 use Prim.Native.Nat.{ℕ, ◌+◌, ◌*◌, ◌/◌, ◌%◌, ◌<◌, ◌≤◌}
 use native.Mathlib.Omega.{arith}
 use lib.Dec.{eqb}
+use mir.Val.{Fits}
+use mir.Syntax.{w8}
 use lib.ListN.{get_or}
 use borrow.Author.Tests.{eq-eqb, ne_eqb}
 use Rattle.laws.proofs.Says.{same_or}
 use Rattle.numbers.specs.Numbers.{u16_at}
-use Rattle.image.specs.Layout.{base, rec_at, parent_of}
+use Rattle.image.specs.Layout.{base, rec_at, identifier_of, parent_of}
 use Rattle.image.specs.Kin.{turned, kin_word, KinAt}
 use Rattle.image.proofs.Places.{identifier_in, parent_in}
 
@@ -32,25 +34,23 @@ turned_back x y l m e =
     let both = bytes (x % 256) (x / 256) (y % 256) (y / 256) (omega arith) (omega arith) e in
     omega (arith, both.0, both.1)
 
--- two bytes, read in the other order
-pub turned_read : (s : List ℕ) (at a b : ℕ) → a ≡ get_or s at 0 → b ≡ get_or s (at + 1) 0 → a < 256 → b < 256 → b * 256 + a ≡ turned (u16_at s at)
-unfolding turned u16_at
-turned_read s at a b e f l m = omega arith
-
-pub two_bytes : (s : List ℕ) (at a b : ℕ) → a ≡ get_or s at 0 → b ≡ get_or s (at + 1) 0 → a < 256 → b < 256 → u16_at s at < 65536
-unfolding u16_at
-two_bytes s at a b e f l m = omega arith
-
--- i and p are what was read of record s, identifier and parent
-pub kin_read : (img : List ℕ) (s i p : ℕ) → i ≡ turned (u16_at img (base s + 4)) → u16_at img (base s + 4) < 65536
-    → p ≡ turned (u16_at img (base s + 4 + 2)) → u16_at img (base s + 4 + 2) < 65536 → KinAt img s (p * 65536 + i)
-unfolding kin_word
-kin_read img s i p e l f m =
-    let parent : parent_of (rec_at img s) ≡ u16_at img (base s + 4 + 2) = parent_in img s ∙ ap (λ (k : ℕ). u16_at img k) (omega arith) in
+-- w is what was read of record s, identifier and parent, the first byte least
+pub kin_read : (img : List ℕ) (s w : ℕ) → ((i : ℕ) → Fits w8 (get_or img i 0))
+    → w ≡ get_or img (base s + 4) 0 + get_or img (base s + 4 + 1) 0 * 0x100 + get_or img (base s + 4 + 2) 0 * 0x1_0000
+    + get_or img (base s + 4 + 3) 0 * 0x100_0000 → KinAt img s w
+unfolding kin_word turned u16_at
+kin_read img s w fits e =
+    let identifier : identifier_of (rec_at img s) ≡ get_or img (base s + 4) 0 * 256 + get_or img (base s + 4 + 1) 0 = identifier_in img s in
+    let parent : parent_of (rec_at img s) ≡ get_or img (base s + 4 + 2) 0 * 256 + get_or img (base s + 4 + 3) 0 =
+    parent_in img s ∙ ap (λ (k : ℕ). u16_at img k) (omega arith) ∙ ap (λ (k : ℕ). get_or img (base s + 4 + 2) 0 * 256 + get_or img k 0) (omega arith) in
+    let a = fits (base s + 4) in
+    let b = fits (base s + 4 + 1) in
+    let c = fits (base s + 4 + 2) in
+    let d = fits (base s + 4 + 3) in
     record {
-      word = rw (identifier_in img s, parent, ← e, ← f);
-      identifier-low = omega (arith, identifier_in img s);
-      parent-low = omega (arith, parent);
+      word = omega (arith, e, identifier, parent, a, b, c, d);
+      identifier-low = omega (arith, identifier, a, b);
+      parent-low = omega (arith, parent, c, d);
     }
 
 -- p is what was read as the parent slot of record s

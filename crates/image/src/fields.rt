@@ -5,34 +5,38 @@ ghost use Rattle.image.specs.Layout.{life_cycle_of, form_of};
 ghost use Rattle.image.specs.Layout.{identifier_of, parent_of, level_of, record_length_of, size_of, start_of, field_at, name_of, rule_of};
 
 // The version.
+#[tactic(auto, unfolding(crate::specs::Layout::version_of))]
 pub fn version(image: &[u8]) -> u32
     requires { 16 ≤ length image.now }
     ensures { result ≡ version_of image.now }
 {
-    numbers::u16_at(image, 3) as u32
+    u32::from(numbers::u16_at(image, 3))
 }
 
 // The slot count N.
+#[tactic(auto, unfolding(crate::specs::Layout::count_of))]
 pub fn count(image: &[u8]) -> usize
     requires { 16 ≤ length image.now }
     ensures { (result ≡ count_of image.now) × (result < 65536) }
 {
-    numbers::u16_at(image, 5) as usize
+    usize::from(numbers::u16_at(image, 5))
 }
 
+#[tactic(auto, unfolding(crate::specs::Layout::current_df_of))]
 pub fn current_df(image: &[u8]) -> usize
     requires { 16 ≤ length image.now }
     ensures { (result ≡ current_df_of image.now) × (result < 65536) }
 {
-    numbers::u16_at(image, 7) as usize
+    usize::from(numbers::u16_at(image, 7))
 }
 
-// The current EF slot, FFFF for none.
+// The current EF slot, FFFF for none: no Option, since the answer is the number that stands there (`current_ef_of`), sound or not.
+#[tactic(auto, unfolding(crate::specs::Layout::current_ef_of))]
 pub fn current_ef(image: &[u8]) -> usize
     requires { 16 ≤ length image.now }
     ensures { (result ≡ current_ef_of image.now) × (result < 65536) }
 {
-    numbers::u16_at(image, 9) as usize
+    usize::from(numbers::u16_at(image, 9))
 }
 
 pub fn kind(image: &[u8], s: usize) -> u8
@@ -76,14 +80,14 @@ pub fn parent(image: &[u8], s: usize) -> usize
     requires { Within image.now s }
     ensures { (result ≡ parent_of (rec_at image.now s)) × (result < 65536) }
 {
-    numbers::u16_at(image, 16 + 64 * s + 6) as usize
+    usize::from(numbers::u16_at(image, 16 + 64 * s + 6))
 }
 
 pub fn level(image: &[u8], s: usize) -> usize
     requires { Within image.now s }
     ensures { (result ≡ level_of (rec_at image.now s)) × (result < 65536) }
 {
-    numbers::u16_at(image, 16 + 64 * s + 8) as usize
+    usize::from(numbers::u16_at(image, 16 + 64 * s + 8))
 }
 
 pub fn record_length(image: &[u8], s: usize) -> u16
@@ -98,7 +102,7 @@ pub fn size(image: &[u8], s: usize) -> u64
     requires { Within image.now s }
     ensures { (result ≡ size_of (rec_at image.now s)) × (result < 4294967296) }
 {
-    numbers::u32_at(image, 16 + 64 * s + 12) as u64
+    u64::from(numbers::u32_at(image, 16 + 64 * s + 12))
 }
 
 // Where the body starts, in the pool.
@@ -106,7 +110,7 @@ pub fn start(image: &[u8], s: usize) -> usize
     requires { Within image.now s }
     ensures { (result ≡ start_of (rec_at image.now s)) × (result < 65536) }
 {
-    numbers::u16_at(image, 16 + 64 * s + 62) as usize
+    usize::from(numbers::u16_at(image, 16 + 64 * s + 62))
 }
 
 // The 64 bytes of record s, as a part of the image.
@@ -126,13 +130,14 @@ fn field(image: &[u8], s: usize, k: usize) -> &[u8]
     ensures { result.now ≡ field_at (rec_at image.now s) k }
 {
     let at = 16 + 64 * s;
-    let n = image[at + k] as usize;
+    let n = usize::from(image[at + k]);
     let from = at + (k + 1);
     let to = from + n;
     &image[from..to]
 }
 
 // The name of record s.
+#[tactic(auto, unfolding(crate::specs::Layout::name_of))]
 pub fn name(image: &[u8], s: usize) -> &[u8]
     requires { Within image.now s × (get_or (rec_at image.now s) 16 0 ≤ 16) }
     ensures { result.now ≡ name_of (rec_at image.now s) }
@@ -141,6 +146,7 @@ pub fn name(image: &[u8], s: usize) -> &[u8]
 }
 
 // The rule of record s.
+#[tactic(auto, unfolding(crate::specs::Layout::rule_of))]
 pub fn rule(image: &[u8], s: usize) -> &[u8]
     requires { Within image.now s × (get_or (rec_at image.now s) 33 0 ≤ 30) }
     ensures { result.now ≡ rule_of (rec_at image.now s) }

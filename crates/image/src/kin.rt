@@ -7,27 +7,28 @@ ghost use Rattle.image.specs.Layout.{Within, rec_at, parent_of};
 ghost use Rattle.image.specs.Kin.{turned, kin_word, KinAt};
 
 // A number's two bytes in the other order.
+#[tactic(auto, unfolding(crate::specs::Kin::turned))]
 fn turned(x: u16) -> u16
     ensures { result ≡ turned x }
 {
-    (x % 256) * 256 + x / 256
+    x.swap_bytes()
 }
 
 // .. of the number that stands at `at`, read in that order.
+#[tactic(auto, unfolding(crate::specs::Kin::turned, numbers::specs::Numbers::u16_at))]
 fn turned_at(s: &[u8], at: usize) -> u16
     requires { at + 2 ≤ length s.now }
     ensures { (result ≡ turned (u16_at s.now at)) × (u16_at s.now at < 65536) }
 {
-    let first = numbers::wide(s[at]);
-    let second = numbers::wide(s[at + 1]);
-    second * 256 + first
+    u16::from_le_bytes([s[at], s[at + 1]])
 }
 
 // The word of an identifier and a parent slot.
+#[tactic(auto, unfolding(crate::specs::Kin::kin_word))]
 pub fn word(identifier: u16, parent: u16) -> u32
     ensures { result ≡ kin_word identifier parent }
 {
-    (turned(parent) as u32) * 65536 + turned(identifier) as u32
+    u32::from(turned(parent)) * 65536 + u32::from(turned(identifier))
 }
 
 // The word that stands in record s.
@@ -36,7 +37,7 @@ pub fn word_at(image: &[u8], s: usize) -> u32
     ensures { KinAt image.now s result }
 {
     let at = 16 + 64 * s + 4;
-    (turned_at(image, at + 2) as u32) * 65536 + turned_at(image, at) as u32
+    u32::from_le_bytes([image[at], image[at + 1], image[at + 2], image[at + 3]])
 }
 
 // Whether the parent slot of record s is d. It is read first: what was read tells that no parent is above 65,535.
@@ -45,8 +46,8 @@ pub fn stands_in(image: &[u8], s: usize, d: usize) -> bool
     ensures { result ≡ eqb (parent_of (rec_at image.now s)) d }
 {
     let parent = turned_at(image, 16 + 64 * s + 6);
-    if 65535 < d {
-        return false;
+    match u16::try_from(d) {
+        Ok(d) => parent == turned(d),
+        Err(_) => false,
     }
-    parent == turned(d as u16)
 }

@@ -49,6 +49,7 @@ pub fn put_record(image: &mut [u8], v: u32, s: usize, h: Head, name: &[u8], rule
 }
 
 // Record s becomes a free one.
+#[tactic(auto, unfolding(crate::specs::Layout::put_record))]
 pub fn clear_record(image: &mut [u8], s: usize)
     requires { Within image.old s }
     ensures { image.new ≡ clear_record image.old s }
@@ -57,6 +58,7 @@ pub fn clear_record(image: &mut [u8], s: usize)
 }
 
 // Another life-cycle byte for record s.
+#[tactic(auto, unfolding(crate::specs::Layout::set_life))]
 pub fn set_life(image: &mut [u8], s: usize, life: u8)
     requires { Within image.old s }
     ensures { image.new ≡ set_life image.old s life }
@@ -65,6 +67,7 @@ pub fn set_life(image: &mut [u8], s: usize, life: u8)
 }
 
 // Another start for the body of record s.
+#[tactic(auto, unfolding(crate::specs::Layout::set_start))]
 pub fn set_start(image: &mut [u8], s: usize, to: usize)
     requires { Within image.old s × (to < 65536) }
     ensures { image.new ≡ set_start image.old s to }

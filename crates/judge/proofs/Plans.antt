@@ -1,5 +1,5 @@
--- A plan that is chosen by a number or a test, a plan about what is current, and what a fit length says.
-use mathlib.Core.Path.{◌≡◌, sym, ap, ◌∙◌}
+-- What is current is a file, and what a fit length says.
+use mathlib.Core.Path.{◌≡◌, sym, ◌∙◌}
 use mathlib.Core.Bool.{Bool, true, false, cond, false≢true}
 use mathlib.Core.List.{List}
 use Prim.Native.Nat.{ℕ, ◌+◌, ◌≤◌}
@@ -9,66 +9,12 @@ use lib.ListN.{length}
 use borrow.Author.Tests.{eq-eqb, ne_eqb, eqb-true}
 use mathlib.Core.Logic.{⊎_elim}
 use Rattle.laws.proofs.Says.{and-says, or-says, same_or}
-use Rattle.rules.specs.declared.Sets.{Sets}
 use Rattle.image.specs.Layout.{current_df_of, current_ef_of, none}
 use Rattle.kinship.specs.Climb.{Stands}
-use Rattle.verdict.specs.declared.Verdict.{Verdict}
 use Rattle.judge_target.specs.Judgeable.{Judgeable}
-use Rattle.apdu.specs.Apdu.{instruction, parameters, lc, record_number, asked, is_binary, is_record, is_read, is_update, is_body, wants_template}
+use Rattle.apdu.specs.Apdu.{instruction, lc, asked, is_binary, is_record, is_read, is_update, is_body, wants_template}
 use Rattle.apdu.specs.Apdu.{is_seven, is_eight, is_five, has_data, fit_length}
-use Rattle.judge_target.specs.Steps.{Plan, followed}
 use Rattle.judge_target.specs.Target.{current_file}
-use Rattle.judge_create.specs.Creation.{create}
-use Rattle.judge_commands.specs.Commands.{select, delete, activate, deactivate, terminate_the_ef}
-use Rattle.judge_bodies.specs.Bodies.{binary, recordwise}
-use Rattle.judge.specs.Judge.{body_plan}
-
-pub plan-eq : (a b : ℕ) (p q : Plan) {x : Verdict} → a ≡ b → x ≡ followed p → x ≡ followed (cond (eqb a b) p q)
-plan-eq a b p q e h = rw (eq-eqb a b e) h
-
-pub plan-ne : (a b : ℕ) (p q : Plan) {x : Verdict} → (a ≡ b → ⊥) → x ≡ followed q → x ≡ followed (cond (eqb a b) p q)
-plan-ne a b p q e h = rw (ne_eqb a b e) h
-
--- by a test that a callee made: r is what it answered, b what it ensures of it
-pub plan-yes : {r : Bool} (b : Bool) (p q : Plan) {x : Verdict} → r ≡ b → r ≡ true → x ≡ followed p → x ≡ followed (cond b p q)
-plan-yes b p q e t h = rw (sym e ∙ t) h
-
-pub plan-no : {r : Bool} (b : Bool) (p q : Plan) {x : Verdict} → r ≡ b → r ≡ false → x ≡ followed q → x ≡ followed (cond b p q)
-plan-no b p q e t h = rw (sym e ∙ t) h
-
-module _ (img pool : List ℕ) (x : Sets) {t : ℕ} {v : Verdict} where
-  pub activates : t ≡ current_file img → v ≡ followed (activate img pool t x) → v ≡ followed (activate img pool (current_file img) x)
-  activates e h = h ∙ ap (λ (s : ℕ). followed (activate img pool s x)) e
-
-  pub deactivates : t ≡ current_file img → v ≡ followed (deactivate img pool t x) → v ≡ followed (deactivate img pool (current_file img) x)
-  deactivates e h = h ∙ ap (λ (s : ℕ). followed (deactivate img pool s x)) e
-
-  pub terminates : t ≡ current_ef_of img → v ≡ followed (terminate_the_ef img pool t x) → v ≡ followed (terminate_the_ef img pool (current_ef_of img) x)
-  terminates e h = h ∙ ap (λ (s : ℕ). followed (terminate_the_ef img pool s x)) e
-
--- a plan for what the command sends
-module _ (img pool : List ℕ) (n d : ℕ) (x : Sets) {v : Verdict} where
-  pub selects : {i : ℕ} (j : ℕ) → i ≡ j → v ≡ followed (select img n d i) → v ≡ followed (select img n d j)
-  selects j e h = h ∙ ap (λ (k : ℕ). followed (select img n d k)) e
-
-  pub deletes : {i : ℕ} (j : ℕ) → i ≡ j → v ≡ followed (delete img pool n d i x) → v ≡ followed (delete img pool n d j x)
-  deletes j e h = h ∙ ap (λ (k : ℕ). followed (delete img pool n d k x)) e
-
-  pub creates : {s : List ℕ} (t : List ℕ) → s ≡ t → v ≡ followed (create img pool n d s x) → v ≡ followed (create img pool n d t x)
-  creates t e h = h ∙ ap (λ (l : List ℕ). followed (create img pool n d l x)) e
-
--- a plan on the body of the current EF: t is that, `reads`, k, i, m what the command was found to send
-module _ (img pool c : List ℕ) (x : Sets) {t m : ℕ} {reads b : Bool} {v : Verdict} (e : t ≡ current_ef_of img)
-    (f : reads ≡ is_read (instruction c)) (g : m ≡ asked c) (h : b ≡ is_binary (instruction c)) where
-  pub on-bytes : {k : ℕ} → k ≡ parameters c → b ≡ true → v ≡ followed (binary img pool t reads k m x) → v ≡ followed (body_plan img pool c x)
-  unfolding body_plan
-  on-bytes p q r = rw (sym h ∙ q, ← e, ← f, ← g, ← p) r
-
-  pub on-records : {i : ℕ} → i ≡ record_number c → b ≡ false → v ≡ followed (recordwise img pool t reads i m x) → v ≡ followed (body_plan img pool c x)
-  unfolding body_plan
-  on-records p q r = rw (sym h ∙ q, ← e, ← f, ← g, ← p) r
-
-pub ruleset plans = (plan-eq, plan-ne, activates, deactivates, terminates)
 
 -- the current file is one
 pub current_stands : (img : List ℕ) (n d t : ℕ) → Judgeable img n d → d ≡ current_df_of img → t ≡ current_file img → Stands img n t

@@ -3,8 +3,7 @@ use Rattle.std.specs.Prelude.{ℕ, Bool, cond, List, eqb}
 use Rattle.rules.specs.declared.Sets.{Sets}
 use Rattle.image.specs.Layout.{count_of, current_df_of, current_ef_of}
 use Rattle.verdict.specs.declared.State.{State}
-use Rattle.verdict.specs.declared.Verdict.{Verdict}
-use Rattle.verdict.specs.Applied.{sent_data}
+use Rattle.verdict.specs.Applied.{Verdict, sent_data}
 use Rattle.judge_target.specs.Steps.{Plan, judged, followed}
 use Rattle.apdu.specs.Apdu.{instruction, sent_identifier, select_file, create_file, delete_file, activate_file, deactivate_file}
 use Rattle.apdu.specs.Apdu.{terminate_ef}

@@ -1,2 +1,1 @@
-pub mod Touching
 pub mod Inside

@@ -1,6 +1,6 @@
 -- READ BINARY, UPDATE BINARY, READ RECORD, UPDATE RECORD (02 Ticket 4), each as the steps I to L that it is judged by and the effect that
 -- it then has. t is the current EF or FFFF; `reads` tells READ from UPDATE; n is how many bytes the command is about.
-use Rattle.std.specs.Prelude.{ℕ, ◌+◌, ◌*◌, ◌-◌, Bool, cond, not, List, [], ◌∷◌, ◌++◌, eqb, ltb, leb}
+use Rattle.std.specs.Prelude.{ℕ, ◌+◌, ◌*◌, ◌-◌, Bool, cond, not, List, [], ◌∷◌, ◌++◌, eqb, ltb, leb, Ok}
 use Rattle.rules.specs.declared.Right.{Right}
 use Rattle.rules.specs.declared.Right.TheVariants as right
 use Rattle.rules.specs.declared.Sets.{Sets}
@@ -9,8 +9,8 @@ use Rattle.rules.specs.Life.{is_activated}
 use Rattle.image.specs.Layout.{none, rec_at, descriptor_of, record_length_of, size_of, start_of}
 use Rattle.pool.specs.Records.{has_record}
 use Rattle.sound.specs.Kinship.{terminated_up}
-use Rattle.verdict.specs.declared.Verdict.{Verdict}
-use Rattle.verdict.specs.declared.Verdict.TheVariants.{Read, Update}
+use Rattle.verdict.specs.Applied.{Verdict}
+use Rattle.verdict.specs.declared.Effect.TheVariants.{Read, Update}
 use Rattle.verdict.specs.Words.{wrong_length, wrong_structure, security_not_satisfied, conditions_not_satisfied, not_allowed}
 use Rattle.verdict.specs.Words.{no_such_record}
 use Rattle.verdict.specs.Words.{wrong_parameters}
@@ -35,7 +35,7 @@ opening img pool t reads x = step (not (eqb t none)) not_allowed ∷ usable img 
 
 -- what is read is told, what is updated is overwritten: n bytes of the body of t from k on
 abbrev pub touching : List ℕ → ℕ → Bool → ℕ → ℕ → Verdict
-touching img t reads k n = cond reads (Read (start_of (rec_at img t) + k) n) (Update (start_of (rec_at img t) + k))
+touching img t reads k n = cond reads (Ok (Read (start_of (rec_at img t) + k) n)) (Ok (Update (start_of (rec_at img t) + k)))
 
 -- READ and UPDATE BINARY from k on, of a transparent EF
 abbrev pub on_bytes : List ℕ → ℕ → ℕ → ℕ → List Step

@@ -1,24 +1,25 @@
 // The commands but CREATE and those on bodies, each by its own steps H to L (01, from "SELECT" on): the word of the first that
 // fails, or the effect that is due.
-#![tactic(auto)]
+#![tactic(auto, unfolding(judge_target::specs::Steps::followed))]
 
-ghost use Rattle.std.specs.Prelude.{◌≡◌, ◌<◌, ◌≤◌};
+ghost use Rattle.std.specs.Prelude.{◌≡◌, ◌<◌, ◌≤◌, not, [], ◌∷◌};
 ghost use Rattle.image.specs.Layout.{Within, none};
 ghost use Rattle.kinship.specs.Climb.{Stands};
-ghost use Rattle.judge_target.specs.Judgeable.{Judgeable};
-ghost use Rattle.judge_target.specs.Steps.{followed};
-ghost use Rattle.judge_target.specs.Target.{life_at};
+ghost use Rattle.sound.specs.Kinship.{terminated_up};
+ghost use Rattle.verdict.specs.Words.{security_not_satisfied, conditions_not_satisfied};
+ghost use Rattle.judge_target.specs.Steps.{step, judged, followed};
+ghost use Rattle.judge_target.specs.Target.{life_at, allowed_at};
 ghost use Rattle.judge_commands.specs.Commands.{select_word, selecting, select, may_delete, deleting, delete, activate, deactivate};
 ghost use Rattle.judge_commands.specs.Commands.{terminate_the_ef, terminate_the_df, terminate_the_card};
 
 use image::fields;
-use judge_target::target;
+use judge_target::{Card, target};
 use kinship::{climb, search};
-use laws::Found;
-use rules::{Right, Sets, descriptor, life_cycle};
-use verdict::{Verdict, words};
+use rules::{Right, descriptor, life_cycle};
+use verdict::{Effect, Verdict, require, words};
 
 // The word of a selection, by the file's life cycle.
+#[tactic(auto, unfolding(crate::specs::Commands::select_word))]
 fn select_word(life: u8) -> u16
     ensures { result ≡ select_word life }
 {
@@ -39,205 +40,143 @@ fn word_at(image: &[u8], s: usize) -> u16
     select_word(fields::life_cycle(image, s))
 }
 
-// What becomes current when the file in slot s is selected, with d the current DF.
-fn selecting_it(image: &[u8], n: usize, d: usize, s: usize) -> Verdict
-    requires judgeable { Judgeable image.now n d }
-    requires s_lt_n { s < n }
-    ensures { result ≡ selecting image.now d s }
+// What becomes current when the file in slot s is selected.
+#[tactic(auto, unfolding(crate::specs::Commands::selecting))]
+fn selecting_it(card: &Card, s: usize) -> Verdict
+    requires s_lt_n { s < card.now.n }
+    ensures { result ≡ selecting card.now.image.now card.now.d s }
 {
-    let word = word_at(image, s);
-    if fields::kind(image, s) == descriptor::DF {
-        return Verdict::Select {
+    let word = word_at(card.image, s);
+    if fields::kind(card.image, s) == descriptor::DF {
+        return Ok(Effect::Select {
             df: s as u16,
             ef: image::NONE,
             word,
-        };
+        });
     }
-    Verdict::Select {
-        df: d as u16,
+    Ok(Effect::Select {
+        df: card.d as u16,
         ef: s as u16,
         word,
-    }
+    })
 }
 
-pub fn select_file(image: &[u8], n: usize, d: usize, x: u16) -> Verdict
-    requires { Judgeable image.now n d }
-    ensures { result ≡ followed (select image.now n d x) }
+pub fn select_file(card: &Card, x: u16) -> Verdict
+    ensures { result ≡ followed (select card.now.image.now card.now.n card.now.d x) }
 {
-    match target::select(image, n, d, x) {
-        Found::At(s) => selecting_it(image, n, d, s),
-        Found::Nothing => Verdict::Refuse(words::NOT_FOUND),
+    match card.select(x) {
+        Some(s) => selecting_it(card, s),
+        None => Err(words::NOT_FOUND),
     }
 }
 
 // Whether the child in slot s may be deleted: by its own rule, or by directory d's.
-fn may_delete<'a>(image: &'a [u8], pool: &'a [u8], n: usize, d: usize, s: usize, sets: Sets) -> bool
-    requires judgeable { Judgeable image.now n d }
-    requires stands { Stands image.now n s }
-    ensures { result ≡ may_delete image.now pool.now d s sets }
+#[tactic(auto, unfolding(crate::specs::Commands::may_delete))]
+fn may_delete(card: &Card, s: usize) -> bool
+    requires stands { Stands card.now.image.now card.now.n s }
+    ensures { result ≡ may_delete card.now.image.now card.now.pool.now card.now.d s card.now.state.sets }
 {
-    if target::allowed(image, pool, n, d, s, Right::DeleteSelf, sets) {
-        return true;
-    }
-    target::allowed(image, pool, n, d, d, Right::DeleteChild, sets)
+    card.allowed(s, Right::DeleteSelf) || card.allowed(card.d, Right::DeleteChild)
 }
 
 // The child in slot s goes, if it may be deleted.
-fn deleting_it<'a>(
-    image: &'a [u8],
-    pool: &'a [u8],
-    n: usize,
-    d: usize,
-    s: usize,
-    sets: Sets,
-) -> Verdict
-    requires judgeable { Judgeable image.now n d }
-    requires stands { Stands image.now n s }
-    ensures { result ≡ deleting image.now pool.now d sets s }
+fn deleting_it(card: &Card, s: usize) -> Verdict
+    requires stands { Stands card.now.image.now card.now.n s }
+    ensures { result ≡ deleting card.now.image.now card.now.pool.now card.now.d card.now.state.sets s }
 {
-    if !may_delete(image, pool, n, d, s, sets) {
-        return Verdict::Refuse(words::SECURITY_NOT_SATISFIED);
-    }
-    Verdict::Delete(s)
+    let granted = may_delete(card, s);
+    require(granted, words::SECURITY_NOT_SATISFIED)?;
+    Ok(Effect::Delete(s))
 }
 
-pub fn delete_file<'a>(
-    image: &'a [u8],
-    pool: &'a [u8],
-    n: usize,
-    d: usize,
-    x: u16,
-    sets: Sets,
-) -> Verdict
-    requires { Judgeable image.now n d }
-    ensures { result ≡ followed (delete image.now pool.now n d x sets) }
+pub fn delete_file(card: &Card, x: u16) -> Verdict
+    ensures { result ≡ followed (delete card.now.image.now card.now.pool.now card.now.n card.now.d x card.now.state.sets) }
 {
-    match search::child_named(image, n, d, x) {
-        Found::At(s) => deleting_it(image, pool, n, d, s, sets),
-        Found::Nothing => Verdict::Refuse(words::NOT_FOUND),
+    match search::child_named(card.image, card.n, card.d, x) {
+        Some(s) => deleting_it(card, s),
+        None => Err(words::NOT_FOUND),
     }
 }
 
-// ACTIVATE of the file in slot t.
-pub fn activate_file<'a>(
-    image: &'a [u8],
-    pool: &'a [u8],
-    n: usize,
-    d: usize,
-    t: usize,
-    sets: Sets,
-) -> Verdict
-    requires judgeable { Judgeable image.now n d }
-    requires stands { Stands image.now n t }
-    ensures { result ≡ followed (activate image.now pool.now t sets) }
+// The steps J and K that the commands on a life cycle share: the right to change the file in slot t, and none of 0C at or above it.
+fn may_change(card: &Card, t: usize, right: Right) -> Result<(), u16>
+    requires stands { Stands card.now.image.now card.now.n t }
+    ensures { result ≡ judged
+        (step (allowed_at card.now.image.now card.now.pool.now t right card.now.state.sets) security_not_satisfied
+        ∷ step (not (terminated_up card.now.image.now t)) conditions_not_satisfied
+        ∷ [])
+        (Ok tt) }
 {
-    if !target::allowed(image, pool, n, d, t, Right::Activate, sets) {
-        return Verdict::Refuse(words::SECURITY_NOT_SATISFIED);
-    }
-    if climb::terminated_up(image, n, t) {
-        return Verdict::Refuse(words::CONDITIONS_NOT_SATISFIED);
-    }
-    if !target::can_activate(image, t) {
-        return Verdict::Refuse(words::CONDITIONS_NOT_SATISFIED);
-    }
-    Verdict::SetLife {
+    let granted = card.allowed(t, right);
+    require(granted, words::SECURITY_NOT_SATISFIED)?;
+    let alive = !climb::terminated_up(card.image, card.n, t);
+    require(alive, words::CONDITIONS_NOT_SATISFIED)
+}
+
+// ACTIVATE of the file in slot t. No one function for it and DEACTIVATE: right, test and byte would be its arguments, and be all of it.
+pub fn activate_file(card: &Card, t: usize) -> Verdict
+    requires stands { Stands card.now.image.now card.now.n t }
+    ensures { result ≡ followed (activate card.now.image.now card.now.pool.now t card.now.state.sets) }
+{
+    may_change(card, t, Right::Activate)?;
+    let takes = target::can_activate(card.image, t);
+    require(takes, words::CONDITIONS_NOT_SATISFIED)?;
+    Ok(Effect::SetLife {
         slot: t,
         life: life_cycle::ACTIVATED_BYTE,
-    }
+    })
 }
 
 // DEACTIVATE of the file in slot t.
-pub fn deactivate_file<'a>(
-    image: &'a [u8],
-    pool: &'a [u8],
-    n: usize,
-    d: usize,
-    t: usize,
-    sets: Sets,
-) -> Verdict
-    requires judgeable { Judgeable image.now n d }
-    requires stands { Stands image.now n t }
-    ensures { result ≡ followed (deactivate image.now pool.now t sets) }
+pub fn deactivate_file(card: &Card, t: usize) -> Verdict
+    requires stands { Stands card.now.image.now card.now.n t }
+    ensures { result ≡ followed (deactivate card.now.image.now card.now.pool.now t card.now.state.sets) }
 {
-    if !target::allowed(image, pool, n, d, t, Right::Deactivate, sets) {
-        return Verdict::Refuse(words::SECURITY_NOT_SATISFIED);
-    }
-    if climb::terminated_up(image, n, t) {
-        return Verdict::Refuse(words::CONDITIONS_NOT_SATISFIED);
-    }
-    if !target::is_activated(image, t) {
-        return Verdict::Refuse(words::CONDITIONS_NOT_SATISFIED);
-    }
-    Verdict::SetLife {
+    may_change(card, t, Right::Deactivate)?;
+    let takes = target::is_activated(card.image, t);
+    require(takes, words::CONDITIONS_NOT_SATISFIED)?;
+    Ok(Effect::SetLife {
         slot: t,
         life: life_cycle::DEACTIVATED_BYTE,
-    }
+    })
 }
 
 // TERMINATE EF, with t the current EF or FFFF.
-pub fn terminate_ef<'a>(
-    image: &'a [u8],
-    pool: &'a [u8],
-    n: usize,
-    d: usize,
-    t: usize,
-    sets: Sets,
-) -> Verdict
-    requires judgeable { Judgeable image.now n d }
-    requires stands { (t ≡ none → ⊥) → Stands image.now n t }
-    ensures { result ≡ followed (terminate_the_ef image.now pool.now t sets) }
+pub fn terminate_ef(card: &Card, t: usize) -> Verdict
+    requires stands { (t ≡ none → ⊥) → Stands card.now.image.now card.now.n t }
+    ensures { result ≡ followed (terminate_the_ef card.now.image.now card.now.pool.now t card.now.state.sets) }
 {
-    if t == image::NO_SLOT {
-        return Verdict::Refuse(words::NOT_ALLOWED);
-    }
-    if !target::allowed(image, pool, n, d, t, Right::Terminate, sets) {
-        return Verdict::Refuse(words::SECURITY_NOT_SATISFIED);
-    }
-    if climb::terminated_up(image, n, t) {
-        return Verdict::Refuse(words::CONDITIONS_NOT_SATISFIED);
-    }
-    Verdict::SetLife {
+    require(t != image::NO_SLOT, words::NOT_ALLOWED)?;
+    may_change(card, t, Right::Terminate)?;
+    Ok(Effect::SetLife {
         slot: t,
         life: life_cycle::TERMINATED_BYTE,
-    }
+    })
 }
 
-// TERMINATE DF, with d the current DF.
-pub fn terminate_df<'a>(image: &'a [u8], pool: &'a [u8], n: usize, d: usize, sets: Sets) -> Verdict
-    requires { Judgeable image.now n d }
-    ensures { result ≡ followed (terminate_the_df image.now pool.now d sets) }
+// TERMINATE DF: the current one.
+pub fn terminate_df(card: &Card) -> Verdict
+    ensures { result ≡ followed (terminate_the_df card.now.image.now card.now.pool.now card.now.d card.now.state.sets) }
 {
-    if !target::allowed(image, pool, n, d, d, Right::Terminate, sets) {
-        return Verdict::Refuse(words::SECURITY_NOT_SATISFIED);
-    }
-    if d == 0 {
-        return Verdict::Refuse(words::CONDITIONS_NOT_SATISFIED);
-    }
-    if climb::terminated_up(image, n, d) {
-        return Verdict::Refuse(words::CONDITIONS_NOT_SATISFIED);
-    }
-    Verdict::SetLife {
-        slot: d,
+    let granted = card.allowed(card.d, Right::Terminate);
+    require(granted, words::SECURITY_NOT_SATISFIED)?;
+    require(card.d != 0, words::CONDITIONS_NOT_SATISFIED)?;
+    let alive = !climb::terminated_up(card.image, card.n, card.d);
+    require(alive, words::CONDITIONS_NOT_SATISFIED)?;
+    Ok(Effect::SetLife {
+        slot: card.d,
         life: life_cycle::TERMINATED_BYTE,
-    }
+    })
 }
 
 // TERMINATE CARD USAGE.
-pub fn terminate_card<'a>(
-    image: &'a [u8],
-    pool: &'a [u8],
-    n: usize,
-    d: usize,
-    sets: Sets,
-) -> Verdict
-    requires { Judgeable image.now n d }
-    ensures { result ≡ followed (terminate_the_card image.now pool.now sets) }
+pub fn terminate_card(card: &Card) -> Verdict
+    ensures { result ≡ followed (terminate_the_card card.now.image.now card.now.pool.now card.now.state.sets) }
 {
-    if !target::allowed(image, pool, n, d, 0, Right::Terminate, sets) {
-        return Verdict::Refuse(words::SECURITY_NOT_SATISFIED);
-    }
-    Verdict::SetLife {
+    let granted = card.allowed(0, Right::Terminate);
+    require(granted, words::SECURITY_NOT_SATISFIED)?;
+    Ok(Effect::SetLife {
         slot: 0,
         life: life_cycle::TERMINATED_BYTE,
-    }
+    })
 }

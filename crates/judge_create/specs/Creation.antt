@@ -8,6 +8,7 @@ use Rattle.image.specs.Layout.{version_of}
 use Rattle.sound.specs.Table.{view_at}
 use Rattle.sound.specs.Kinship.{free_slot, terminated_up, identifier_free, name_free, fits_room}
 use Rattle.create_data.specs.declared.Data.{Data}
+use Rattle.std.specs.Prelude.{Option}
 use Rattle.create_data.specs.Data.{data_of}
 use Rattle.verdict.specs.Words.{security_not_satisfied, conditions_not_satisfied, wrong_data, not_enough_memory, identifier_exists}
 use Rattle.verdict.specs.Words.{name_exists}
@@ -31,7 +32,7 @@ admission img pool n d right identifier name size x =
 -- CREATE; s is its data. The new file takes the lowest free slot
 abbrev pub create : List ℕ → List ℕ → ℕ → ℕ → List ℕ → Sets → Plan
 create img pool n d s x =
-    let new : Data = data_of (version_of img) s in
+    let new : Option Data = data_of (version_of img) s in
     plan
     (step (describes new) wrong_data  -- H
     ∷ admission img pool n d (right_for new) (new_identifier new) (new_name s new) (new_size new) x)  -- J to L

@@ -3,7 +3,7 @@ use mathlib.Core.Path.{◌≡◌}
 use mathlib.Core.List.{List}
 use Prim.Native.Nat.{ℕ}
 use Rattle.rules.specs.declared.Sets.{Sets}
-use Rattle.verdict.specs.declared.Verdict.{Verdict}
+use Rattle.verdict.specs.Applied.{Verdict}
 use Rattle.judge_target.specs.Target.{rule_at}
 use Rattle.judge_target.proofs.Ruling.{decided_alike}
 use Rattle.judge_security.specs.Security.{ef_decision, deletion, life_decision, decision_for, step_j, denial_of}

@@ -1,4 +1,5 @@
 -- The verdict on a command is gated by what step J decides, whatever the command; and what has passed where it denies.
+use Rattle.std.specs.Prelude.{is_some}
 use mathlib.Core.Path.{◌≡◌, refl, ap, ◌∙◌}
 use mathlib.Core.Bool.{Bool, true, false, cond, not, ◌||◌}
 use mathlib.Core.List.{List, ◌∷◌, ◌++◌}
@@ -19,16 +20,16 @@ use Rattle.access.proofs.Decided.{granted_stays, either-says}
 use Rattle.sound.specs.Table.{view_at}
 use Rattle.sound.specs.Kinship.{child_named}
 use Rattle.create_data.specs.declared.Data.{Data}
-use Rattle.create_data.specs.declared.Data.TheVariants.{Df, Ef, Bad}
+use Rattle.std.specs.Prelude.{Option, Some, None}
+use Rattle.create_data.specs.declared.Data.TheVariants.{Df, Ef}
 use Rattle.create_data.specs.Data.{data_of}
 use Rattle.verdict.specs.declared.State.{State}
-use Rattle.verdict.specs.declared.Verdict.{Verdict}
-use Rattle.verdict.specs.Applied.{sent_data}
+use Rattle.verdict.specs.Applied.{Verdict, sent_data}
 use Rattle.verdict.specs.Words.{security_not_satisfied, conditions_not_satisfied, not_allowed, not_found, wrong_class, wrong_data, wrong_instruction, wrong_length, wrong_parameters}
 use Rattle.apdu.specs.Apdu.{instruction, sent_identifier, select_file, create_file, delete_file, activate_file, deactivate_file, terminate_ef}
 use Rattle.apdu.specs.Apdu.{terminate_df, is_body, is_binary, is_read, crowded, other_channel, fit_length}
 use Rattle.judge_target.specs.Steps.{Step, step, plan, followed}
-use Rattle.judge_target.specs.Target.{allowed_at, decision_at, slot_in, is_found, right_for, describes, creating, current_file}
+use Rattle.judge_target.specs.Target.{allowed_at, decision_at, slot_in, right_for, describes, creating, current_file}
 use Rattle.judge_create.specs.Creation.{create}
 use Rattle.judge_commands.specs.Commands.{selecting, select, may_delete, delete}
 use Rattle.judge_bodies.specs.Bodies.{right_to, touching, binary, recordwise}
@@ -44,10 +45,10 @@ unfolding decision_at allowed_at
 allowed_granted img pool s right x = granted_stays _ _ right x
 
 -- effects are no refusals of step J
-creates : (img : List ℕ) (d s : ℕ) (new : Data) → is_denied (creating img d s new) ≡ false
-creates img d s Bad = refl
-creates img d s (Df x) = refl
-creates img d s (Ef x) = refl
+creates : (img : List ℕ) (d s : ℕ) (new : Option Data) → is_denied (creating img d s new) ≡ false
+creates img d s None = refl
+creates img d s (Some (Df x)) = refl
+creates img d s (Some (Ef x)) = refl
 
 either_way : (t : Bool) (v u : Verdict) → is_denied v ≡ false → is_denied u ≡ false → is_denied (cond t v u) ≡ false
 either_way true v u e f = e
@@ -74,7 +75,7 @@ module _ (img pool : List ℕ) (n d : ℕ) where
   unfolding deletion may_delete
   delete_gated i =
       gate_before _ _ _ (gate_step (may_delete img pool d (slot_in (child_named n (view_at img) d i))) _ _ _ same refl refl)
-      (λ x. is_found (child_named n (view_at img) d i)) not_found (λ x y. refl) refl
+      (λ x. is_some (child_named n (view_at img) d i)) not_found (λ x y. refl) refl
     where
       own : Sets → Decision
       own = decision_at img pool (slot_in (child_named n (view_at img) d i)) DeleteSelf

@@ -5,13 +5,13 @@ use mathlib.Core.List.{List, [], ◌∷◌}
 use Prim.Native.Nat.{ℕ}
 use lib.Dec.{eqb}
 use borrow.Author.Tests.{not-true}
+use Rattle.std.specs.Prelude.{Err}
 use Rattle.laws.proofs.Says.{and-says}
 use Rattle.rules.specs.declared.Sets.{Sets}
 use Rattle.access.specs.declared.Decision.{Decision}
 use Rattle.access.specs.declared.Decision.TheVariants.{Granted}
 use Rattle.access.specs.Decision.{is_granted}
-use Rattle.verdict.specs.declared.Verdict.{Verdict}
-use Rattle.verdict.specs.declared.Verdict.TheVariants.{Refuse}
+use Rattle.verdict.specs.Applied.{Verdict}
 use Rattle.verdict.specs.Words.{security_not_satisfied}
 use Rattle.judge_target.specs.Steps.{Step, step, judged, all_hold, Plan, plan, followed}
 use Rattle.judge_security.specs.Security.{is_denied, holds_j}
@@ -35,7 +35,7 @@ never (s ∷ rest) e k h =
     go s.holds (not-true _ w.0) (never rest e w.1 h)
   where
     go : (b : Bool) → eqb s.word security_not_satisfied ≡ false → is_denied (judged rest e) ≡ false
-        → is_denied (cond b (judged rest e) (Refuse s.word)) ≡ false
+        → is_denied (cond b (judged rest e) (Err s.word)) ≡ false
     go true p q = q
     go false p q = p
 
@@ -68,7 +68,7 @@ gate_step test after e g same k h = record {
     alone false = refl
 
     go : (y : Sets) (b : Bool) → is_granted (g y) ≡ b → is_denied (judged after e) ≡ false
-        → is_denied (cond b (judged after e) (Refuse security_not_satisfied)) ≡ not (is_granted (g y))
+        → is_denied (cond b (judged after e) (Err security_not_satisfied)) ≡ not (is_granted (g y))
     go y true p q = q ∙ sym (ap not p)
     go y false p q = sym (ap not p)
 
@@ -82,12 +82,12 @@ module _ (steps : Sets → List Step) (e : Sets → Verdict) (g : Sets → Decis
     tells = λ x y d. ap (λ (b : Bool). cond b (test y) true && holds_j (steps y)) k ∙ h.tells x y (inner x (test x) d);
   }
     where
-      inner : (x : Sets) (a : Bool) → is_denied (cond a (judged (steps x) (e x)) (Refuse w)) ≡ true → is_denied (judged (steps x) (e x)) ≡ true
+      inner : (x : Sets) (a : Bool) → is_denied (cond a (judged (steps x) (e x)) (Err w)) ≡ true → is_denied (judged (steps x) (e x)) ≡ true
       inner x true d = d
       inner x false d = absurd (false≢true (sym k ∙ d))
 
-      go : (x y : Sets) (a b : Bool) → a ≡ b → is_denied (cond a (judged (steps x) (e x)) (Refuse w)) ≡ true
-          → is_denied (cond b (judged (steps y) (e y)) (Refuse w)) ≡ not (is_granted (g y))
+      go : (x y : Sets) (a b : Bool) → a ≡ b → is_denied (cond a (judged (steps x) (e x)) (Err w)) ≡ true
+          → is_denied (cond b (judged (steps y) (e y)) (Err w)) ≡ not (is_granted (g y))
       go x y true true f d = h.again x y d
       go x y true false f d = absurd (false≢true (sym f))
       go x y false b f d = absurd (false≢true (sym k ∙ d))
@@ -120,6 +120,6 @@ passed (s ∷ rest) v k d =
     go s.holds (not-true _ w.0) (passed rest v w.1) d
   where
     go : (b : Bool) → eqb s.word security_not_satisfied ≡ false → (is_denied (judged rest v) ≡ true → all_hold rest ≡ true)
-        → is_denied (cond b (judged rest v) (Refuse s.word)) ≡ true → (b && all_hold rest) ≡ true
+        → is_denied (cond b (judged rest v) (Err s.word)) ≡ true → (b && all_hold rest) ≡ true
     go true p f e = f e
     go false p f e = absurd (false≢true (sym p ∙ e))

@@ -1,5 +1,5 @@
 -- What step J of a command decides, of three, and what a verdict says of security (02 Ticket 6). n is the slot count, d the current DF.
-use Rattle.std.specs.Prelude.{ℕ, Bool, true, false, cond, ◌&&◌, List, [], ◌∷◌, eqb}
+use Rattle.std.specs.Prelude.{ℕ, Bool, true, false, cond, ◌&&◌, List, [], ◌∷◌, eqb, Ok, Err}
 use Rattle.rules.specs.declared.Right.{Right}
 use Rattle.rules.specs.declared.Right.TheVariants.{DeleteSelf, Terminate, Activate, Deactivate, DeleteChild}
 use Rattle.rules.specs.declared.Sets.{Sets}
@@ -11,9 +11,7 @@ use Rattle.sound.specs.Table.{view_at}
 use Rattle.sound.specs.Kinship.{child_named}
 use Rattle.create_data.specs.Data.{data_of}
 use Rattle.verdict.specs.declared.State.{State}
-use Rattle.verdict.specs.declared.Verdict.{Verdict}
-use Rattle.verdict.specs.declared.Verdict.TheVariants.{Refuse, Select, Create, Delete, SetLife, Read, Update}
-use Rattle.verdict.specs.Applied.{sent_data}
+use Rattle.verdict.specs.Applied.{Verdict, sent_data}
 use Rattle.verdict.specs.Words.{security_not_satisfied}
 use Rattle.apdu.specs.Apdu.{instruction, sent_identifier, select_file, create_file, delete_file, activate_file, deactivate_file}
 use Rattle.apdu.specs.Apdu.{terminate_ef}
@@ -54,13 +52,8 @@ step_j img pool c x = decision_for img pool (count_of img) (current_df_of img) c
 
 -- a verdict is the refusal of step J
 abbrev pub is_denied : Verdict → Bool
-is_denied (Refuse word) = eqb word security_not_satisfied
-is_denied (Select d e word) = false
-is_denied (Create x) = false
-is_denied (Delete s) = false
-is_denied (SetLife s life) = false
-is_denied (Read at n) = false
-is_denied (Update at) = false
+is_denied (Err word) = eqb word security_not_satisfied
+is_denied (Ok effect) = false
 
 -- what a verdict says of security: granted, unless it is that refusal
 unfoldable pub denial_of : List ℕ → List ℕ → List ℕ → Sets → Verdict → Decision

@@ -9,7 +9,6 @@ ghost use Rattle.sound.specs.Table.{view_at};
 ghost use Rattle.sound.specs.Kinship.{child_named};
 ghost use Rattle.kinship.specs.Climb.{Stands};
 ghost use Rattle.create_data.specs.Data.{data_of};
-ghost use Rattle.judge_target.specs.Judgeable.{Judgeable};
 ghost use Rattle.judge_target.specs.Target.{slot_in, right_for};
 ghost use Rattle.apdu.specs.Apdu.{fit_length};
 ghost use Rattle.judge.specs.Judge.{judge_of};
@@ -19,25 +18,16 @@ use access::Decision;
 use apdu::bodies;
 use create_data::Data;
 use image::fields;
-use judge_target::target;
+use judge_target::{Card, target};
 use kinship::search;
-use laws::Found;
-use rules::{Right, Sets};
+use rules::Right;
 use verdict::{State, Verdict, words};
 
 // Whether a verdict is the refusal of step J.
 fn is_denied(due: Verdict) -> bool
     ensures { result ≡ is_denied due }
 {
-    match due {
-        Verdict::Refuse(word) => word == words::SECURITY_NOT_SATISFIED,
-        Verdict::Select { df, ef, word } => false,
-        Verdict::Create(new) => false,
-        Verdict::Delete(slot) => false,
-        Verdict::SetLife { slot, life } => false,
-        Verdict::Read { at, count } => false,
-        Verdict::Update(at) => false,
-    }
+    matches!(due, Err(words::SECURITY_NOT_SATISFIED))
 }
 
 // The right to create what CREATE's data describe, for a card of version v.
@@ -45,150 +35,84 @@ fn new_right(sent: &[u8], v: u32) -> Right
     ensures { result ≡ right_for (data_of v sent.now) }
 {
     match create_data::read(sent, v) {
-        Data::Df(new) => Right::CreateDf,
-        Data::Ef(new) => Right::CreateEf,
-        Data::Bad => Right::CreateEf,
+        Some(Data::Df(_)) => Right::CreateDf,
+        Some(Data::Ef(_)) | None => Right::CreateEf,
     }
 }
 
 // The slot of the child of d with identifier x, 0 where there is none.
-fn child(image: &[u8], n: usize, d: usize, x: u16) -> usize
-    requires { Judgeable image.now n d }
-    ensures { (result ≡ slot_in (child_named n (view_at image.now) d x)) × Stands image.now n result }
+fn child(card: &Card, x: u16) -> usize
+    ensures { (result ≡ slot_in (child_named card.now.n (view_at card.now.image.now) card.now.d x))
+        × Stands card.now.image.now card.now.n result }
 {
-    match search::child_named(image, n, d, x) {
-        Found::At(s) => s,
-        Found::Nothing => 0,
-    }
+    search::child_named(card.image, card.n, card.d, x).unwrap_or(0)
 }
 
 // DELETE: the child's own rule or that of the directory d.
-fn on_deletion<'a>(
-    image: &'a [u8],
-    pool: &'a [u8],
-    n: usize,
-    d: usize,
-    x: u16,
-    sets: Sets,
-) -> Decision
-    requires { Judgeable image.now n d }
-    ensures { result ≡ deletion image.now pool.now n d x sets }
+#[tactic(auto, unfolding(crate::specs::Security::deletion))]
+fn on_deletion(card: &Card, x: u16) -> Decision
+    ensures { result ≡ deletion card.now.image.now card.now.pool.now card.now.n card.now.d x card.now.state.sets }
 {
-    let s = child(image, n, d, x);
-    let own = target::decided(image, pool, n, d, s, Right::DeleteSelf, sets);
-    let above = target::decided(image, pool, n, d, d, Right::DeleteChild, sets);
+    let s = child(card, x);
+    let own = card.decided(s, Right::DeleteSelf);
+    let above = card.decided(card.d, Right::DeleteChild);
     access::either(own, above)
 }
 
 // A command on the current EF.
-fn on_ef<'a>(
-    image: &'a [u8],
-    pool: &'a [u8],
-    n: usize,
-    d: usize,
-    right: Right,
-    sets: Sets,
-) -> Decision
-    requires { Judgeable image.now n d }
-    ensures { result ≡ ef_decision image.now pool.now right sets }
+#[tactic(auto, unfolding(crate::specs::Security::ef_decision))]
+fn on_ef(card: &Card, right: Right) -> Decision
+    ensures { result ≡ ef_decision card.now.image.now card.now.pool.now right card.now.state.sets }
 {
-    let t = fields::current_ef(image);
+    let t = fields::current_ef(card.image);
     if t == image::NO_SLOT {
         return Decision::Granted;
     }
-    target::decided(image, pool, n, d, t, right, sets)
+    card.decided(t, right)
 }
 
 // The life-cycle commands, which are about what is current.
-fn on_current<'a>(
-    image: &'a [u8],
-    pool: &'a [u8],
-    n: usize,
-    d: usize,
-    i: u8,
-    sets: Sets,
-) -> Decision
-    requires judgeable { Judgeable image.now n d }
-    requires d_value { d ≡ current_df_of image.now }
-    ensures { result ≡ life_decision image.now pool.now d i sets }
+#[tactic(auto, unfolding(crate::specs::Security::life_decision, judge_target::specs::Target::current_file))]
+fn on_current(card: &Card, i: u8) -> Decision
+    requires d_value { card.now.d ≡ current_df_of card.now.image.now }
+    ensures { result ≡ life_decision card.now.image.now card.now.pool.now card.now.d i card.now.state.sets }
 {
-    if i == apdu::ACTIVATE_FILE {
-        return target::decided(
-            image,
-            pool,
-            n,
-            d,
-            target::current_file(image),
-            Right::Activate,
-            sets,
-        );
+    let t = target::current_file(card.image);
+    match i {
+        apdu::ACTIVATE_FILE => card.decided(t, Right::Activate),
+        apdu::DEACTIVATE_FILE => card.decided(t, Right::Deactivate),
+        apdu::TERMINATE_EF => on_ef(card, Right::Terminate),
+        apdu::TERMINATE_DF => card.decided(card.d, Right::Terminate),
+        _ => card.decided(0, Right::Terminate),
     }
-    if i == apdu::DEACTIVATE_FILE {
-        return target::decided(
-            image,
-            pool,
-            n,
-            d,
-            target::current_file(image),
-            Right::Deactivate,
-            sets,
-        );
-    }
-    if i == apdu::TERMINATE_EF {
-        return on_ef(image, pool, n, d, Right::Terminate, sets);
-    }
-    if i == apdu::TERMINATE_DF {
-        return target::decided(image, pool, n, d, d, Right::Terminate, sets);
-    }
-    target::decided(image, pool, n, d, 0, Right::Terminate, sets)
 }
 
 // What step J decides, by the instruction; the shared steps have passed.
-fn decided<'a>(
-    image: &'a [u8],
-    pool: &'a [u8],
-    n: usize,
-    d: usize,
-    command: &[u8],
-    sets: Sets,
-) -> Decision
-    requires judgeable { Judgeable image.now n d }
-    requires d_value { d ≡ current_df_of image.now }
+#[tactic(auto, unfolding(crate::specs::Security::decision_for))]
+fn decided(card: &Card, command: &[u8]) -> Decision
+    requires d_value { card.now.d ≡ current_df_of card.now.image.now }
     requires in_bounds { (4 ≤ length command.now) × (fit_length command.now ≡ true) }
-    ensures { result ≡ decision_for image.now pool.now n d command.now sets }
+    ensures { result ≡ decision_for card.now.image.now card.now.pool.now card.now.n card.now.d command.now card.now.state.sets }
 {
     let i = command[1];
-    if i == apdu::SELECT_FILE {
-        return Decision::Granted;
+    match i {
+        apdu::SELECT_FILE => Decision::Granted,
+        apdu::CREATE_FILE => {
+            let right = new_right(apdu::sent_data(command), fields::version(card.image));
+            card.decided(card.d, right)
+        }
+        apdu::DELETE_FILE => on_deletion(card, apdu::sent_identifier(command)),
+        _ if bodies::is_body(i) => {
+            let right = judge_bodies::right_to(bodies::is_read(i));
+            on_ef(card, right)
+        }
+        _ => on_current(card, i),
     }
-    if i == apdu::CREATE_FILE {
-        let right = new_right(apdu::sent_data(command), fields::version(image));
-        return target::decided(image, pool, n, d, d, right, sets);
-    }
-    if i == apdu::DELETE_FILE {
-        return on_deletion(image, pool, n, d, apdu::sent_identifier(command), sets);
-    }
-    if bodies::is_body(i) {
-        return on_ef(
-            image,
-            pool,
-            n,
-            d,
-            judge_bodies::right_to(bodies::is_read(i)),
-            sets,
-        );
-    }
-    on_current(image, pool, n, d, i, sets)
 }
 
 // What a verdict that judging gave says of security: granted, unless it is the refusal of step J.
-pub fn denial<'a>(
-    image: &'a [u8],
-    pool: &'a [u8],
-    command: &[u8],
-    state: State,
-    due: Verdict,
-) -> Decision
+#[tactic(auto, unfolding(crate::specs::Security::denial_of, crate::specs::Security::step_j))]
+pub fn denial(image: &[u8], pool: &[u8], command: &[u8], state: State, due: Verdict) -> Decision
     requires sound { Sound image.now }
     requires due_value { due ≡ judge_of image.now pool.now command.now state }
     ensures { result ≡ denial_of image.now pool.now command.now state.sets due }
@@ -196,8 +120,5 @@ pub fn denial<'a>(
     if !is_denied(due) {
         return Decision::Granted;
     }
-    let n = fields::count(image);
-    let d = fields::current_df(image);
-    let sets = state.sets;
-    decided(image, pool, n, d, command, sets)
+    decided(&Card::new(image, pool, state), command)
 }

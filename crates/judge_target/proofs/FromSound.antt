@@ -7,9 +7,8 @@ use Prim.Native.Nat.{ℕ, ◌<◌, ◌≤◌}
 use native.Mathlib.Omega.{arith}
 use lib.Dec.{eqb}
 use lib.ListN.{get_or}
-use Rattle.laws.specs.declared.Found.{Found}
-use Rattle.laws.specs.declared.Found.TheVariants.{At, Nothing}
-use Rattle.laws.specs.Walks.{or_else}
+use Rattle.std.specs.Prelude.{Option, Some, None}
+use Rattle.std.specs.Option.{option_or}
 use Rattle.laws.proofs.Says.{and-says, same_or}
 use Rattle.laws.proofs.Firsts.{first_is}
 use Rattle.rules.specs.Descriptor.{df, ef}
@@ -57,13 +56,13 @@ module _ (img : List ℕ) (sound : Sound img) where
           (λ z. omega (arith, (o.used z).rule.short, longest_within v)) (same_or (kind_of r) 0)
 
 -- a child that a search finds is a file
-pub child_stands : (img : List ℕ) (n d x s : ℕ) → child_named n (view_at img) d x ≡ At s → Stands img n s
+pub child_stands : (img : List ℕ) (n d x s : ℕ) → child_named n (view_at img) d x ≡ Some s → Stands img n s
 unfolding child_named
 child_stands img n d x s e =
     let f = first_is n (is_child_named (view_at img) d x) s e in
     record { low = f.low; used = ((child-says (view_at img) d x s).0 f.here).0.0.0 }
 
-df_stands : (img : List ℕ) (n d x s : ℕ) → df_named n (view_at img) d x ≡ At s → Stands img n s
+df_stands : (img : List ℕ) (n d x s : ℕ) → df_named n (view_at img) d x ≡ Some s → Stands img n s
 unfolding df_named is_df_named
 df_stands img n d x s e =
     let f = first_is n (is_df_named (view_at img) d x) s e in
@@ -71,23 +70,23 @@ df_stands img n d x s e =
     record { low = f.low; used = ((child-says (view_at img) d x s).0 h.1).0.0.0 }
 
 -- what holds of the slot that either of two tries finds
-either-found : (Q : ℕ → Type 0) (s : ℕ) (f g : Found) → ((t : ℕ) → f ≡ At t → Q t) → ((t : ℕ) → g ≡ At t → Q t) → or_else f g ≡ At s → Q s
-either-found Q s (At t) g p q e = p s e
-either-found Q s Nothing g p q e = q s e
+either-found : (Q : ℕ → Type 0) (s : ℕ) (f g : Option ℕ) → ((t : ℕ) → f ≡ Some t → Q t) → ((t : ℕ) → g ≡ Some t → Q t) → option_or f g ≡ Some s → Q s
+either-found Q s (Some t) g p q e = p s e
+either-found Q s None g p q e = q s e
 
-itself-found : (Q : ℕ → Type 0) (v : ℕ → View) (x t : ℕ) → Q t → (s : ℕ) → itself v x t ≡ At s → Q s
+itself-found : (Q : ℕ → Type 0) (v : ℕ → View) (x t : ℕ) → Q t → (s : ℕ) → itself v x t ≡ Some s → Q s
 unfolding itself
 itself-found Q v x t h s e = go (eqb (v t).identifier x) e
   where
-    go : (b : Bool) → cond b (At t) Nothing ≡ At s → Q s
+    go : (b : Bool) → cond b (Some t) None ≡ Some s → Q s
     go true q = let i : t ≡ s = cc in subst Q i h
     go false q = let z : ◌≡◌ {A = ℕ} 0 1 = cc in absurd (omega arith)
 
 -- what holds of the root, of the current DF d and its parent, of d's children and of the DFs beside d holds of the
 -- file that SELECT finds
 pub selected_by : (Q : ℕ → Type 0) (img : List ℕ) (n d x s : ℕ) → Q 0 → Q d → Q (view_at img d).parent
-    → ((t : ℕ) → child_named n (view_at img) d x ≡ At t → Q t) → ((t : ℕ) → df_named n (view_at img) (view_at img d).parent x ≡ At t → Q t)
-    → selected img n d x ≡ At s → Q s
+    → ((t : ℕ) → child_named n (view_at img) d x ≡ Some t → Q t) → ((t : ℕ) → df_named n (view_at img) (view_at img d).parent x ≡ Some t → Q t)
+    → selected img n d x ≡ Some s → Q s
 unfolding selected
 selected_by Q img n d x s root here above child beside e =
     let v : ℕ → View = view_at img in
@@ -97,7 +96,7 @@ selected_by Q img n d x s root here above child beside e =
     (λ w. either-found Q w (child_named n v d x) _ child beside))) e
 
 -- it is a file
-pub selected_stands : (img : List ℕ) (n d x s : ℕ) → Judgeable img n d → selected img n d x ≡ At s → Stands img n s
+pub selected_stands : (img : List ℕ) (n d x s : ℕ) → Judgeable img n d → selected img n d x ≡ Some s → Stands img n s
 selected_stands img n d x s r e =
     selected_by (Stands img n) img n d x s r.root r.df (r.rooted.parent d r.df) (child_stands img n d x)
     (df_stands img n (view_at img d).parent x) e

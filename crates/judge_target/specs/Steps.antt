@@ -1,8 +1,7 @@
 -- A command is judged by steps: each is a condition and the word of its failure. The first that fails gives
 -- its word; where all hold, the command has its effect (demand 2).
-use Rattle.std.specs.Prelude.{ℕ, Bool, true, cond, ◌&&◌, List, [], ◌∷◌}
-use Rattle.verdict.specs.declared.Verdict.{Verdict}
-use Rattle.verdict.specs.declared.Verdict.TheVariants.{Refuse}
+use Rattle.std.specs.Prelude.{ℕ, Bool, true, cond, ◌&&◌, List, [], ◌∷◌, Result, Err}
+use Rattle.verdict.specs.Applied.{Verdict}
 
 pub record Step : Type 0 where
   pub holds : Bool
@@ -11,10 +10,10 @@ pub record Step : Type 0 where
 abbrev pub step : Bool → ℕ → Step
 step test word = record { holds = test; word = word }
 
--- the word of the first step that fails; else the effect
-abbrev pub judged : List Step → Verdict → Verdict
-judged [] effect = effect
-judged (s ∷ rest) effect = cond s.holds (judged rest effect) (Refuse s.word)
+-- the word of the first step that fails; else what is due: the verdict where a plan ends, nothing where steps are only tested
+abbrev pub judged : {A : Type 0} → List Step → Result A ℕ → Result A ℕ
+judged [] due = due
+judged (s ∷ rest) due = cond s.holds (judged rest due) (Err s.word)
 
 -- every step holds
 abbrev pub all_hold : List Step → Bool

@@ -1,8 +1,6 @@
 -- What a command is about: the current files, the file that SELECT finds, the new file of CREATE's data.
-use Rattle.std.specs.Prelude.{ℕ, ◌+◌, ◌≤◌, ◌≡◌, get_or, Bool, true, false, cond, List, [], eqb}
-use Rattle.laws.specs.declared.Found.{Found}
-use Rattle.laws.specs.declared.Found.TheVariants.{At, Nothing}
-use Rattle.laws.specs.Walks.{or_else}
+use Rattle.std.specs.Prelude.{ℕ, ◌+◌, ◌≤◌, ◌≡◌, get_or, Bool, true, false, cond, List, [], eqb, Option, Some, None, unwrap_or, Ok, Err}
+use Rattle.std.specs.Option.{option_or}
 use Rattle.rules.specs.declared.Right.{Right}
 use Rattle.rules.specs.declared.Right.TheVariants.{CreateDf, CreateEf}
 use Rattle.rules.specs.declared.Sets.{Sets}
@@ -19,10 +17,10 @@ use Rattle.referred.specs.Deciding.{deciding_rule}
 use Rattle.template.specs.Objects.{bytes_at}
 use Rattle.create_data.specs.declared.NewFile.{NewFile}
 use Rattle.create_data.specs.declared.Data.{Data}
-use Rattle.create_data.specs.declared.Data.TheVariants.{Df, Ef, Bad}
+use Rattle.create_data.specs.declared.Data.TheVariants.{Df, Ef}
 use Rattle.verdict.specs.declared.NewRecord.{NewRecord}
-use Rattle.verdict.specs.declared.Verdict.{Verdict}
-use Rattle.verdict.specs.declared.Verdict.TheVariants.{Refuse, Create}
+use Rattle.verdict.specs.Applied.{Verdict}
+use Rattle.verdict.specs.declared.Effect.TheVariants.{Create}
 use Rattle.verdict.specs.Words.{wrong_data}
 
 -- the current EF, else the current DF
@@ -55,55 +53,50 @@ OwnRuleAsked = (img pool : List ℕ) (s : ℕ) → Within img s → get_or (rec_
     → (allowed_at img pool s right x ≡ granted_of (form_of (rec_at img s)) (rule_of (rec_at img s)) right x)
     × (decision_at img pool s right x ≡ decision_of (form_of (rec_at img s)) (rule_of (rec_at img s)) right x)
 
--- what a search found
-abbrev pub is_found : Found → Bool
-is_found Nothing = false
-is_found (At s) = true
-
-abbrev pub slot_in : Found → ℕ
-slot_in Nothing = 0
-slot_in (At s) = s
+-- the slot that a search found, 0 where it found none
+abbrev pub slot_in : Option ℕ → ℕ
+slot_in f = unwrap_or f 0
 
 -- slot s, if its file has identifier x
-unfoldable pub itself : (ℕ → View) → ℕ → ℕ → Found
-itself v x s = cond (eqb (v s).identifier x) (At s) Nothing
+unfoldable pub itself : (ℕ → View) → ℕ → ℕ → Option ℕ
+itself v x s = cond (eqb (v s).identifier x) (Some s) None
 
 -- SELECT tries, with d the current DF: root, current DF, the current DF's parent, the current DF's children, DFs
 -- that are children of the current DF's parent; first match wins
-unfoldable pub selected : List ℕ → ℕ → ℕ → ℕ → Found
+unfoldable pub selected : List ℕ → ℕ → ℕ → ℕ → Option ℕ
 selected img n d x =
     let v : ℕ → View = view_at img in
-    or_else (itself v x 0)
-    (or_else (itself v x d)
-    (or_else (itself v x (v d).parent)
-    (or_else (child_named n v d x)
+    option_or (itself v x 0)
+    (option_or (itself v x d)
+    (option_or (itself v x (v d).parent)
+    (option_or (child_named n v d x)
     (df_named n v (v d).parent x))))
 
 -- the new file that CREATE's data s describe: whether they do, the right to create it, its identifier, size and name
-abbrev pub describes : Data → Bool
-describes Bad = false
-describes (Df x) = true
-describes (Ef x) = true
+abbrev pub describes : Option Data → Bool
+describes None = false
+describes (Some (Df x)) = true
+describes (Some (Ef x)) = true
 
-abbrev pub right_for : Data → Right
-right_for Bad = CreateEf
-right_for (Df x) = CreateDf
-right_for (Ef x) = CreateEf
+abbrev pub right_for : Option Data → Right
+right_for None = CreateEf
+right_for (Some (Df x)) = CreateDf
+right_for (Some (Ef x)) = CreateEf
 
-abbrev pub new_identifier : Data → ℕ
-new_identifier Bad = 0
-new_identifier (Df x) = x.identifier
-new_identifier (Ef x) = x.identifier
+abbrev pub new_identifier : Option Data → ℕ
+new_identifier None = 0
+new_identifier (Some (Df x)) = x.identifier
+new_identifier (Some (Ef x)) = x.identifier
 
-abbrev pub new_size : Data → ℕ
-new_size Bad = 0
-new_size (Df x) = x.size
-new_size (Ef x) = x.size
+abbrev pub new_size : Option Data → ℕ
+new_size None = 0
+new_size (Some (Df x)) = x.size
+new_size (Some (Ef x)) = x.size
 
-abbrev pub new_name : List ℕ → Data → List ℕ
-new_name s Bad = []
-new_name s (Df x) = bytes_at s x.name
-new_name s (Ef x) = bytes_at s x.name
+abbrev pub new_name : List ℕ → Option Data → List ℕ
+new_name s None = []
+new_name s (Some (Df x)) = bytes_at s x.name
+new_name s (Some (Ef x)) = bytes_at s x.name
 
 -- the new record's numbers: in directory d, one level down
 abbrev pub new_head : List ℕ → ℕ → ℕ → NewFile → Head
@@ -123,7 +116,7 @@ new_head img d kind x = record {
 abbrev pub new_record : List ℕ → ℕ → ℕ → ℕ → NewFile → NewRecord
 new_record img d s kind x = record { slot = s; head = new_head img d kind x; name = x.name; rule = x.rule }
 
-abbrev pub creating : List ℕ → ℕ → ℕ → Data → Verdict
-creating img d s Bad = Refuse wrong_data
-creating img d s (Df x) = Create (new_record img d s df x)
-creating img d s (Ef x) = Create (new_record img d s ef x)
+abbrev pub creating : List ℕ → ℕ → ℕ → Option Data → Verdict
+creating img d s None = Err wrong_data
+creating img d s (Some (Df x)) = Ok (Create (new_record img d s df x))
+creating img d s (Some (Ef x)) = Ok (Create (new_record img d s ef x))

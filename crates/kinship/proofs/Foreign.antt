@@ -8,17 +8,17 @@ use Prim.Native.Nat.{ℕ, ◌+◌, ◌<◌, ◌≤◌}
 use native.Mathlib.Omega.{arith}
 use lib.Dec.{eqb}
 use borrow.Author.Tests.{eq-eqb, ne_eqb, eqb-false, not-true, not-false}
-use Rattle.laws.specs.declared.Found.TheVariants.{Nothing}
+use Rattle.std.specs.Prelude.{Option, Some, None}
 use Rattle.laws.specs.Walks.{first_below}
-use Rattle.laws.proofs.Firsts.{first_turn, no-first, nothing-below}
-use Rattle.laws.proofs.Says.{same_or, lt-or}
+use Rattle.laws.proofs.Firsts.{first-at, nothing-below}
+use Rattle.laws.proofs.Says.{same_or, lt-or, untrue, and-says}
 use Rattle.rules.specs.Descriptor.{df}
 use Rattle.image.specs.Layout.{rec_at, identifier_of, parent_of}
 use Rattle.image.specs.Kin.{kin_word, KinAt}
 use Rattle.image.proofs.SameWords.{same-kin}
 use Rattle.sound.specs.Table.{View, view_at, is_file}
 use Rattle.sound.specs.Kinship.{is_child, is_child_named}
-use Rattle.kinship.specs.Search.{Foreign, PassedOver, is_df_named}
+use Rattle.kinship.specs.Search.{Foreign, PassedOver, NoneAsked, FirstKin, is_df_named}
 
 -- r is whether the parent of s is d
 module _ (v : ℕ → View) (d s : ℕ) (r : Bool) (e : r ≡ eqb (v s).parent d) where
@@ -104,31 +104,25 @@ module _ (img : List ℕ) (n d x a : ℕ) where
         new : (k : ℕ) → k < s + 4 → s ≤ k → is_child_named (view_at img) d x k ≡ false
         new k i j = sym (unnamed (view_at img) d k x (λ q y. f.none (not-false r t) k j i (rw (q, y) (sym key))))
 
--- a search behind which nothing was found: it starts behind the root, which is nobody's child; where s is not it, it goes on at b
-module _ (p : ℕ → Bool) where
-  behind : (a b : ℕ) → first_below a p ≡ Nothing → ((k : ℕ) → a ≤ k → k < b → p k ≡ false) → first_below b p ≡ Nothing
-  behind a b h f = nothing-below p b (λ k l. ⊎_elim ((no-first a p h).none k) (λ i. f k i l) (lt-or k a))
-
-module _ (img : List ℕ) (n d x : ℕ) where
+-- a search that asks only where such a child may stand: it starts behind the root, which is nobody's child
+module _ (img : List ℕ) (n d x : ℕ) (Asked : ℕ → Bool → Type 0) where
   root_unnamed : (k : ℕ) → k < 1 → is_child_named (view_at img) d x k ≡ false
   unfolding is_child_named is_child
   root_unnamed k l = rw (eq-eqb k 0 (omega arith), and-false (not (eqb (view_at img k).kind 0)))
 
-  df_unnamed : (k : ℕ) → is_child_named (view_at img) d x k ≡ false → is_df_named (view_at img) d x k ≡ false
-  unfolding is_df_named
-  df_unnamed k e = ap (λ (b : Bool). eqb (view_at img k).kind df && b) e ∙ and-false (eqb (view_at img k).kind df)
+  pub kin_start : NoneAsked (view_at img) d x Asked 1
+  kin_start = record { none = λ k l e. absurd (false≢true (sym (root_unnamed k l) ∙ e)) }
 
-  pub child-start : first_below 1 (is_child_named (view_at img) d x) ≡ Nothing
-  child-start = nothing-below (is_child_named (view_at img) d x) 1 root_unnamed
+  -- where only such a child has p, and each slot that is asked answers if it has, the first that is taken is the first that has
+  module _ (p : ℕ → Bool) (kin : (k : ℕ) → p k ≡ true → is_child_named (view_at img) d x k ≡ true)
+      (told : (k : ℕ) (r : Bool) → k < n → Asked k r → r ≡ p k) where
+    none-has : (b : ℕ) → b ≤ n → NoneAsked (view_at img) d x Asked b → first_below b p ≡ None
+    none-has b l h = nothing-below p b (λ k i. untrue (p k) (λ e. false≢true (told k false (omega arith) (h.none k i (kin k e)) ∙ e)))
 
-  pub df-start : first_below 1 (is_df_named (view_at img) d x) ≡ Nothing
-  df-start = nothing-below (is_df_named (view_at img) d x) 1 (λ k l. df_unnamed k (root_unnamed k l))
+    pub first_kin : (o : Option ℕ) → FirstKin (view_at img) n d x Asked o → o ≡ first_below n p
+    first_kin None h = sym (none-has n (omega arith) h)
+    first_kin (Some s) h = sym (first-at p n s h.low (none-has s (omega (arith, h.low)) h.before) (sym (told s true h.low h.here)))
 
-  module _ (s b : ℕ) (r : Bool) (t : r ≡ false) (h : PassedOver (view_at img) n d x (s + 1) b) where
-    pub child_turn : first_below s (is_child_named (view_at img) d x) ≡ Nothing → r ≡ is_child_named (view_at img) d x s
-        → first_below b (is_child_named (view_at img) d x) ≡ Nothing
-    child_turn e f = behind (is_child_named (view_at img) d x) (s + 1) b (first_turn _ s r e f t) h.none
-
-    pub df_turn : first_below s (is_df_named (view_at img) d x) ≡ Nothing → r ≡ is_df_named (view_at img) d x s
-        → first_below b (is_df_named (view_at img) d x) ≡ Nothing
-    df_turn e f = behind (is_df_named (view_at img) d x) (s + 1) b (first_turn _ s r e f t) (λ k i j. df_unnamed k (h.none k i j))
+pub df-kin : (v : ℕ → View) (d x k : ℕ) → is_df_named v d x k ≡ true → is_child_named v d x k ≡ true
+unfolding is_df_named
+df-kin v d x k e = ((and-says (eqb (v k).kind df) (is_child_named v d x k)).0 e).1

@@ -1,59 +1,52 @@
 -- Bytes that are the same, and names and identifiers that are free: each way out of the functions that ask,
 -- over plain lists.
 use mathlib.Core.Path.{◌≡◌, refl, sym, ◌∙◌, ap}
-use mathlib.Core.Bool.{Bool, true, false, not}
+use mathlib.Core.Bool.{Bool, true, false, not, false≢true}
 use mathlib.Core.List.{List, [], ◌∷◌}
 use Prim.Native.Nat.{ℕ, ◌+◌, ◌<◌, ◌≤◌, ◌-◌}
 use native.Mathlib.Omega.{arith}
+use denote.Ref.{Bor}
 use lib.Dec.{eqb}
-use lib.ListN.{length, get_or}
-use borrow.Author.Tests.{eq-eqb, ne_eqb}
+use lib.ListN.{length}
+use borrow.Author.Tests.{eq-eqb, eqb-true, eqb-false}
+use Rattle.std.specs.Prelude.{Option, Some, None, is_some, slice_get}
+use Rattle.std.specs.Bool.{Decides}
+use Rattle.std.specs.Option.{option_copied, option_eq}
+use Rattle.std.specs.Cmp.Lexicographic.{pointwise}
+use Rattle.std.proofs.lemmas.Bool.Decides.{Decides-eqb}
+use Rattle.std.proofs.lemmas.Option.{none-some, same_Some}
+use Rattle.std.proofs.lemmas.Slice.Eq.{slice_eq-Decides}
 use Rattle.laws.specs.Walks.{all_below}
 use Rattle.laws.specs.Lists.{same_list}
 use Rattle.laws.proofs.Walks.{all-zero, all_more, all_fails, all_end}
-use Rattle.laws.proofs.Chains.{eq-and, ne-and, and-on, and_off, implies-no, implies-yes}
-use Rattle.laws.proofs.Says.{same-says, not-says}
+use Rattle.laws.proofs.Chains.{and-on, and_off, implies-no, implies-yes}
+use Rattle.laws.proofs.Says.{same-says, not-says, same_test, untrue}
 use Rattle.sound.specs.Table.{View}
-use Rattle.laws.specs.declared.Found.{Found}
-use Rattle.laws.specs.declared.Found.TheVariants.{At, Nothing}
 use Rattle.laws.proofs.Firsts.{first_is, no-first}
 use Rattle.laws.proofs.Walks.{each_all}
 use Rattle.sound.specs.Kinship.{is_child_named, child_named, named_up, identifier_free, name_free}
 
-module _ (a b : List ℕ) where
-  -- the first k bytes are the same
-  unfoldable pub same_up_to : ℕ → Bool
-  same_up_to k = all_below k (λ i. eqb (get_or a i 0) (get_or b i 0))
+-- two references to one number, or none twice
+same-copies : (p q : Option (Bor ℕ)) → option_copied p ≡ option_copied q → option_eq (λ x y. eqb x.now y.now) p q ≡ true
+same-copies None None e = refl
+same-copies None (Some y) e = absurd (none-some y.now e)
+same-copies (Some x) None e = absurd (none-some x.now (sym e))
+same-copies (Some x) (Some y) e = eq-eqb x.now y.now (same_Some x.now y.now e)
 
-  pub same_start : same_up_to 0 ≡ true
-  unfolding same_up_to
-  same_start = all-zero _
+module _ (a b : List ℕ) {r : Bool} where
+  -- r is what `==` answered
+  pub same-eq : r ≡ pointwise eqb a b → r ≡ same_list a b
+  same-eq e =
+      let d : Decides r (a ≡ b) = slice_eq-Decides Decides-eqb a b r e in
+      same_test r (same_list a b) (λ s. d.1 ((same-says a b).0 s)) (λ s. untrue r (λ t. false≢true (sym s ∙ (same-says a b).1 (d.0 t))))
 
-  pub same_turn : (k : ℕ) → same_up_to k ≡ true → get_or a k 0 ≡ get_or b k 0 → same_up_to (k + 1) ≡ true
-  unfolding same_up_to
-  same_turn k h e = all_more _ k h (eq-eqb (get_or a k 0) (get_or b k 0) e)
-
-  pub same-other : (length a ≡ length b → ⊥) → false ≡ same_list a b
-  unfolding same_list
-  same-other h = ne-and (length a) (length b) _ h refl
-
-  pub same_none : length a ≡ length b → length a ≡ 0 → true ≡ same_list a b
-  unfolding same_list
-  same_none e z = eq-and (length a) (length b) _ e (all_end _ (length a) 0 (omega arith) (omega arith) (all-zero _))
-
-  pub same_stop : (k : ℕ) → length a ≡ length b → k < length a → (get_or a k 0 ≡ get_or b k 0 → ⊥) → false ≡ same_list a b
-  unfolding same_list
-  same_stop k e l h = eq-and (length a) (length b) _ e (sym (all_fails _ (length a) k l (ne_eqb (get_or a k 0) (get_or b k 0) h)))
-
-  pub same-last :
-      (k : ℕ) → length a ≡ length b → (length a ≡ 0 → ⊥) → k ≡ length a - 1 → (get_or a k 0 ≡ get_or b k 0 → ⊥) → false ≡ same_list a b
-  same-last k e z q h = same_stop k e (omega arith) h
-
-  pub same_end : (k : ℕ) → length a ≡ length b → k ≤ length a → length a ≤ k → same_up_to k ≡ true → true ≡ same_list a b
-  unfolding same_list same_up_to
-  same_end k e l m h = eq-and (length a) (length b) _ e (all_end _ (length a) k l m h)
-
-pub ruleset sameness = (same_start, same_turn, same-other, same_stop, same_end)
+  -- p and q are their last bytes, and r is that these differ
+  pub same-last : (p q : Option (Bor ℕ)) → option_copied p ≡ slice_get a (length a - 1) → option_copied q ≡ slice_get b (length b - 1)
+      → r ≡ option_eq (λ x y. eqb x.now y.now) p q → r ≡ false → r ≡ same_list a b
+  same-last p q e f g h = h ∙ sym (untrue (same_list a b) (λ s. false≢true (sym h ∙ g ∙ same-copies p q (copies s))))
+    where
+      copies : same_list a b ≡ true → option_copied p ≡ option_copied q
+      copies s = e ∙ ap (λ (l : List ℕ). slice_get l (length l - 1)) ((same-says a b).0 s) ∙ sym f
 
 -- a name of no bytes is none; any other is one
 pub no_name : (name : List ℕ) → length name ≡ 0 → same_list name [] ≡ true
@@ -77,29 +70,35 @@ module _ (v : ℕ → View) (name : List ℕ) where
   unfolding free_up_to
   free_turn s l r h f e t = all_more _ s h (rw (← f, ← e) (ap not t))
 
-  pub free-empty : (n : ℕ) → length name ≡ 0 → true ≡ name_free n v name
+  -- q is whether it has no bytes
+  pub free-empty : (n : ℕ) (q : Bool) → q ≡ eqb (length name) 0 → q ≡ true → true ≡ name_free n v name
   unfolding name_free
-  free-empty n e = implies-no _ _ (ap not (no_name name e))
+  free-empty n q e t = implies-no _ _ (ap not (no_name name (eqb-true (length name) 0 (sym e ∙ t))))
 
-  module _ (n : ℕ) (some : length name ≡ 0 → ⊥) where
+  module _ (n : ℕ) (q : Bool) (bytes : q ≡ eqb (length name) 0) (t : q ≡ false) where
+    some : length name ≡ 0 → ⊥
+    some = eqb-false (length name) 0 (sym bytes ∙ t)
+
     pub free_stop : (s : ℕ) (l : List ℕ) (r : Bool) → s < n → l ≡ (v s).name → r ≡ same_list l name → r ≡ true → false ≡ name_free n v name
     unfolding name_free
-    free_stop s l r h f e t = implies-yes _ _ _ (some-name name some) (sym (all_fails _ n s h (rw (← f, ← e) (ap not t))))
+    free_stop s l r h f e u = implies-yes _ _ _ (some-name name some) (sym (all_fails _ n s h (rw (← f, ← e) (ap not u))))
 
     pub free-end : (s : ℕ) → s ≤ n → n ≤ s → free_up_to s ≡ true → true ≡ name_free n v name
     unfolding name_free free_up_to
     free-end s l m h = implies-yes _ _ _ (some-name name some) (all_end _ n s l m h)
 
--- a child has the identifier; none has, and b says whether a directory above does
+-- f is the child with the identifier, r whether there is none; then b is whether a directory above has it
 module _ (n : ℕ) (v : ℕ → View) (d x : ℕ) where
-  pub identifier_taken : {r : Found} {s : ℕ} → r ≡ At s → r ≡ child_named n v d x → false ≡ identifier_free n v d x
+  pub identifier_taken : (f : Option ℕ) {r : Bool} → f ≡ child_named n v d x → is_some f ≡ not r → r ≡ false → r ≡ identifier_free n v d x
   unfolding identifier_free child_named
-  identifier_taken {r} {s} q e =
-      let f = first_is n (is_child_named v d x) s (sym e ∙ q) in
-      and_off _ _ (all_fails (λ t. not (is_child_named v d x t)) n s f.low (ap not f.here)) refl
+  identifier_taken None e o q = absurd (false≢true (o ∙ ap not q))
+  identifier_taken (Some s) e o q =
+      let f = first_is n (is_child_named v d x) s (sym e) in
+      q ∙ and_off _ _ (all_fails (λ t. not (is_child_named v d x t)) n s f.low (ap not f.here)) refl
 
-  pub identifier-above : {r : Found} {b : Bool} → r ≡ Nothing → r ≡ child_named n v d x → b ≡ named_up v x d → not b ≡ identifier_free n v d x
+  pub identifier-above : (f : Option ℕ) {r b : Bool} → f ≡ child_named n v d x → is_some f ≡ not r → r ≡ true → b ≡ named_up v x d
+      → not b ≡ identifier_free n v d x
   unfolding identifier_free child_named
-  identifier-above q e f =
-      and-on _ _ (each_all (λ t. not (is_child_named v d x t)) n (λ t l. ap not ((no-first n (is_child_named v d x) (sym e ∙ q)).none t l)))
-      (ap not f)
+  identifier-above None e o q h =
+      and-on _ _ (each_all (λ t. not (is_child_named v d x t)) n (λ t l. ap not ((no-first n (is_child_named v d x) (sym e)).none t l))) (ap not h)
+  identifier-above (Some s) e o q h = absurd (false≢true (sym (o ∙ ap not q)))

@@ -8,7 +8,6 @@ ghost use Rattle.kinship.specs.Search.{NamesFit};
 
 use crate::{climb, search};
 use image::fields;
-use laws::Found;
 
 // Whether no child of directory d has identifier x, nor d itself, nor a directory above it.
 pub fn identifier_free(image: &[u8], n: usize, d: usize, x: u16) -> bool
@@ -16,27 +15,7 @@ pub fn identifier_free(image: &[u8], n: usize, d: usize, x: u16) -> bool
     requires stands { Stands image.now n d }
     ensures { result ≡ identifier_free n (view_at image.now) d x }
 {
-    match search::child_named(image, n, d, x) {
-        Found::At(_) => false,
-        Found::Nothing => !climb::named_up(image, n, x, d),
-    }
-}
-
-// Whether two stretches of bytes are the same, byte by byte.
-fn alike(a: &[u8], b: &[u8]) -> bool
-    ensures { result ≡ same_list a.now b.now }
-{
-    if a.len() != b.len() {
-        return false;
-    }
-    let mut k = 0;
-    while k < a.len() {
-        if a[k] != b[k] {
-            return false;
-        }
-        k += 1;
-    }
-    true
+    search::child_named(image, n, d, x).is_none() && !climb::named_up(image, n, x, d)
 }
 
 // Whether two stretches of bytes are the same. Names of one maker begin alike and end in a number, so the last byte is
@@ -44,17 +23,7 @@ fn alike(a: &[u8], b: &[u8]) -> bool
 pub fn same(a: &[u8], b: &[u8]) -> bool
     ensures { result ≡ same_list a.now b.now }
 {
-    if a.len() != b.len() {
-        return false;
-    }
-    if a.len() == 0 {
-        return true;
-    }
-    let last = a.len() - 1;
-    if a[last] != b[last] {
-        return false;
-    }
-    alike(a, b)
+    a.last() == b.last() && a == b
 }
 
 // Whether no record has that name, if it is one.
@@ -62,15 +31,13 @@ pub fn name_free(image: &[u8], n: usize, name: &[u8]) -> bool
     requires { NamesFit image.now n }
     ensures { result ≡ name_free n (view_at image.now) name.now }
 {
-    if name.len() == 0 {
+    if name.is_empty() {
         return true;
     }
-    let mut s = 0;
-    while s < n {
+    for s in 0..n {
         if same(fields::name(image, s), name) {
             return false;
         }
-        s += 1;
     }
     true
 }

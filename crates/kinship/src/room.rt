@@ -25,11 +25,9 @@ pub fn charge(image: &[u8], n: usize, d: usize) -> u64
     requires { Sized image.now n }
     ensures { (result ≡ charged n (view_at image.now) d) × (result ≤ 4393751608257) }
 {
-    let mut sum: u64 = 0;
-    let mut s = 0;
-    while s < n {
-        sum = sum + charge_of(image, d, s);
-        s += 1;
+    let mut sum = 0;
+    for s in 0..n {
+        sum += charge_of(image, d, s);
     }
     sum
 }

@@ -1,14 +1,13 @@
 // Searches over all records: a child by its identifier, a DF by its identifier, the lowest free slot (01
 // "SELECT", "CREATE", "DELETE"). Most records that a search by identifier meets are foreign: it asks first what tells them, in one
 // word (02 Ticket 5).
-ghost use Rattle.std.specs.Prelude.{◌≡◌, ◌+◌, ◌≤◌};
+ghost use Rattle.std.specs.Prelude.{◌≡◌, ℕ, ◌+◌, ◌<◌, ◌≤◌};
 ghost use Rattle.image.specs.Layout.{Sized, Within};
 ghost use Rattle.sound.specs.Table.{is_file, view_at};
 ghost use Rattle.sound.specs.Kinship.{is_child, is_child_named, child_named, free_slot};
-ghost use Rattle.kinship.specs.Search.{Foreign, PassedOver, is_df_named, df_named};
+ghost use Rattle.kinship.specs.Search.{Foreign, PassedOver, FirstKin, is_df_named, df_named};
 
 use image::{fields, kin};
-use laws::Found;
 use rules::descriptor;
 
 // A used record other than the root.
@@ -82,6 +81,7 @@ fn next_kin(image: &[u8], n: usize, d: usize, x: u16, from: usize) -> usize
         return from;
     }
     let word = kin::word(x, d as u16);
+    // No `step_by`: where the walk stops is the answer, and that is past the last four where it stops nowhere before.
     let mut s = from;
     while s + 4 <= n {
         if !four_foreign(image, word, s) {
@@ -92,19 +92,36 @@ fn next_kin(image: &[u8], n: usize, d: usize, x: u16, from: usize) -> usize
     s
 }
 
-// The child of directory d with identifier x; the root is nobody's.
-pub fn child_named(image: &[u8], n: usize, d: usize, x: u16) -> Found
-    requires { Sized image.now n }
-    ensures { result ≡ child_named n (view_at image.now) d x }
+// The lowest slot that is taken when it is asked. Only a child of directory d with identifier x may be: so neither the root is asked, which
+// is nobody's child, nor what `next_kin` passes over.
+fn first_kin<F: Fn(usize) -> bool>(
+    image: &[u8],
+    n: usize,
+    d: usize,
+    x: u16,
+    asked: F,
+) -> Option<usize>
+    requires sized { Sized image.now n }
+    requires asked { (s : ℕ) → s < n → F.pre asked s }
+    ensures { FirstKin (view_at image.now) n d x (F.post asked) result }
 {
+    // No range: `next_kin` says where the walk goes on.
     let mut s = 1;
     while s < n {
-        if is_child_named(image, d, x, s) {
-            return Found::At(s);
+        if asked(s) {
+            return Some(s);
         }
         s = next_kin(image, n, d, x, s + 1);
     }
-    Found::Nothing
+    None
+}
+
+// The child of directory d with identifier x; the root is nobody's.
+pub fn child_named(image: &[u8], n: usize, d: usize, x: u16) -> Option<usize>
+    requires { Sized image.now n }
+    ensures { result ≡ child_named n (view_at image.now) d x }
+{
+    first_kin(image, n, d, x, |s| is_child_named(image, d, x, s))
 }
 
 fn is_df_named(image: &[u8], d: usize, x: u16, s: usize) -> bool
@@ -118,32 +135,25 @@ fn is_df_named(image: &[u8], d: usize, x: u16, s: usize) -> bool
 }
 
 // The DF among the children of directory d with identifier x.
-pub fn df_named(image: &[u8], n: usize, d: usize, x: u16) -> Found
+pub fn df_named(image: &[u8], n: usize, d: usize, x: u16) -> Option<usize>
     requires { Sized image.now n }
     ensures { result ≡ df_named n (view_at image.now) d x }
 {
-    let mut s = 1;
-    while s < n {
-        if is_df_named(image, d, x, s) {
-            return Found::At(s);
-        }
-        s = next_kin(image, n, d, x, s + 1);
-    }
-    Found::Nothing
+    first_kin(image, n, d, x, |s| is_df_named(image, d, x, s))
 }
 
-// The lowest slot whose record is free: the loop breaks with it.
-pub fn free_slot(image: &[u8], n: usize) -> Found
+// The lowest slot whose record is free. The loop breaks with it: 01 names that form ("Where each form belongs").
+pub fn free_slot(image: &[u8], n: usize) -> Option<usize>
     requires { Sized image.now n }
     ensures { result ≡ free_slot n (view_at image.now) }
 {
     let mut s = 0;
     loop {
         if n <= s {
-            break Found::Nothing;
+            break None;
         }
         if fields::kind(image, s) == image::FREE {
-            break Found::At(s);
+            break Some(s);
         }
         s += 1;
     }

@@ -63,14 +63,6 @@ module _ (p : ℕ → Bool) where
   pub all_end : (n k : ℕ) → k ≤ n → n ≤ k → all_below k p ≡ true → true ≡ all_below n p
   all_end n k a b h = let e : k ≡ n = omega arith in sym (rw e at h)
 
-  pub any_zero : any_below 0 p ≡ false
-  unfolding any_below
-  any_zero = refl
-
-  pub any_more : (i : ℕ) → any_below i p ≡ false → p i ≡ false → any_below (i + 1) p ≡ false
-  unfolding any_below
-  any_more i h e = rw (add-one, h, e)
-
   pub any_at : (n i : ℕ) → i < n → p i ≡ true → any_below n p ≡ true
   unfolding any_below
   any_at zero i l e = absurd (not-suc-le-zero l)
@@ -84,16 +76,6 @@ module _ (p : ℕ → Bool) where
   unfolding any_below
   none_any zero h = refl
   none_any (suc n) h = rw (none_any n (λ i l. h i (omega arith)), h n (omega arith))
-
-  -- a loop that asks a function of each index
-  pub any_turn : (k : ℕ) (r : Bool) → any_below k p ≡ false → r ≡ p k → r ≡ false → any_below (k + 1) p ≡ false
-  any_turn k r h e t = any_more k h (sym e ∙ t)
-
-  pub any_stop : (n k : ℕ) (r : Bool) → k < n → r ≡ p k → r ≡ true → true ≡ any_below n p
-  any_stop n k r l e t = sym (any_at n k l (sym e ∙ t))
-
-  pub any_end : (n k : ℕ) → k ≤ n → n ≤ k → any_below k p ≡ false → false ≡ any_below n p
-  any_end n k a b h = let e : k ≡ n = omega arith in sym (rw e at h)
 
 -- where two tests agree below n, the walks do
 pub all_cong : (n : ℕ) (p q : ℕ → Bool) → ((i : ℕ) → i < n → p i ≡ q i) → all_below n p ≡ all_below n q

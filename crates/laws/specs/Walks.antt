@@ -1,8 +1,7 @@
 -- Walks over the indices below a number: all, any, the first, the sum, the count.
 -- Each test or sum that 01 makes over records, slots or bytes is one of these five.
-use Rattle.std.specs.Prelude.{◌≡◌, Bool, true, false, cond, ◌&&◌, ◌||◌, ◌⊎◌, ℕ, zero, suc, ◌+◌, ◌<◌}
-use Rattle.laws.specs.declared.Found.{Found}
-use Rattle.laws.specs.declared.Found.TheVariants.{At, Nothing}
+use Rattle.std.specs.Prelude.{◌≡◌, Bool, true, false, cond, ◌&&◌, ◌||◌, ◌⊎◌, ℕ, zero, suc, ◌+◌, ◌<◌, Option, Some, None}
+use Rattle.std.specs.Option.{option_or}
 
 -- p holds of each index below n
 unfoldable pub all_below : ℕ → (ℕ → Bool) → Bool
@@ -14,15 +13,10 @@ unfoldable pub any_below : ℕ → (ℕ → Bool) → Bool
 any_below zero p = false
 any_below (suc n) p = any_below n p || p n
 
--- the first answer, or the second where the first is Nothing
-abbrev pub or_else : Found → Found → Found
-or_else (At i) b = At i
-or_else Nothing b = b
-
 -- the lowest index below n of which p holds
-unfoldable pub first_below : ℕ → (ℕ → Bool) → Found
-first_below zero p = Nothing
-first_below (suc n) p = or_else (first_below n p) (cond (p n) (At n) Nothing)
+unfoldable pub first_below : ℕ → (ℕ → Bool) → Option ℕ
+first_below zero p = None
+first_below (suc n) p = option_or (first_below n p) (cond (p n) (Some n) None)
 
 -- the sum of f over the indices below n
 unfoldable pub sum_below : ℕ → (ℕ → ℕ) → ℕ

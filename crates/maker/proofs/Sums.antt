@@ -7,6 +7,7 @@ use Prim.Native.Nat.{ℕ, ◌<◌, ◌≤◌}
 use native.Mathlib.Omega.{arith}
 use lib.ListN.{length}
 use borrow.Author.Tests.{not-true, not-false}
+use Rattle.std.specs.Prelude.{Some, None}
 use Rattle.image.specs.Layout.{Sized, rec_at, size_of, count_of, current_df_of}
 use Rattle.laws.proofs.Says.{says}
 use Rattle.laws.proofs.Settling.{settled}
@@ -20,7 +21,6 @@ use Rattle.kinship.specs.Climb.{Rooted, Paid}
 use Rattle.kinship.proofs.Sound.{sized, rooted, paid}
 use Rattle.sound_test.proofs.Passed.{sound_passed}
 use Rattle.maker.specs.declared.Figures.{Figures}
-use Rattle.maker.specs.declared.Reported.TheVariants.{Numbers, Unsound}
 use Rattle.maker.specs.Reporting.{figures_of, reported_of, ReportPromises, ReportedOnce, ReportAddsUp, ReportAnswers}
 
 -- the current DF of a sound image, whose slot d was read
@@ -41,7 +41,7 @@ module _ (img : List ℕ) (n d : ℕ) (sound : Sound img) (e : n ≡ count_of im
   figures_are a b c g p q r s = rw (p, q, r, s, e, f)
 
 module _ (img : List ℕ) (r : Bool) (e : r ≡ soundb img) where
-  pub reported_unsound : not r ≡ true → ReportPromises img Unsound
+  pub reported_unsound : not r ≡ true → ReportPromises img None
   unfolding reported_of
   reported_unsound t = rw (sym e ∙ not-true r t) (refl, refl, refl)
 
@@ -55,7 +55,7 @@ module _ (img : List ℕ) (r : Bool) (e : r ≡ soundb img) where
     pub is_sized : (n : ℕ) → n ≡ count_of img → Sized img n
     is_sized n q = rw q (sized img is_sound)
 
-    pub reported_numbers : (x : Figures) → x ≡ figures_of img → ReportPromises img (Numbers x)
+    pub reported_numbers : (x : Figures) → x ≡ figures_of img → ReportPromises img (Some x)
     unfolding reported_of
     reported_numbers x h = rw (sym e ∙ not-false r t, h) (refl, refl, refl)
 

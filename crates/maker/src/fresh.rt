@@ -1,13 +1,14 @@
 // The maker: a fresh image in a lent buffer of any length, or the buffer as it came (01 "Making and
 // reporting", 02 Ticket 3).
-ghost use Rattle.std.specs.Prelude.{◌≡◌, ◌<◌, ◌≤◌, length};
+ghost use Rattle.std.specs.Prelude.{◌≡◌, true, false, ◌<◌, ◌≤◌, length, MatchResult};
 ghost use Rattle.laws.specs.Lists.{splice};
 ghost use Rattle.image.specs.Layout.{Sized, longest_rule};
 ghost use Rattle.access.specs.Access.{fits_record};
 ghost use Rattle.sound.specs.Effects.{fresh_header, fresh};
-ghost use Rattle.maker.specs.Making.{slots_in, fits_length, fits_buffer, fits_total, MakerPromises};
+ghost use Rattle.maker.specs.declared.MakeError.TheVariants.{BadLength, BadTotal, BadRule};
+ghost use Rattle.maker.specs.Making.{slots_in, fits_buffer, fits_total, MakerPromises};
 
-use crate::{Edition, Made};
+use crate::{Edition, MakeError};
 use image::Head;
 use rules::{descriptor, life_cycle};
 
@@ -15,36 +16,45 @@ use rules::{descriptor, life_cycle};
 fn slots_in(long: usize) -> usize
     ensures { result ≡ slots_in long }
 {
-    if long < 16 {
-        return 0;
-    }
-    (long - 16) / 64
+    long.saturating_sub(16) / 64
 }
 
-// Whether so many bytes are a header and 2 to 1,023 records.
-fn fits_length(long: usize) -> bool
-    ensures { result ≡ fits_length long }
+// The number of slots of a card of that edition in so many bytes: a header and 2 to 1,023 records.
+fn slots_of(long: usize, e: Edition) -> Result<usize, MakeError>
+    ensures { MatchResult result (λ n. (fits_buffer long e ≡ true) × (n ≡ slots_in long))
+        (λ d. (fits_buffer long e ≡ false) × (d ≡ BadLength)) }
 {
     let n = slots_in(long);
-    if n < 2 {
-        return false;
+    if n < 2 || 1023 < n || long != 16 + 64 * n || !image::version::is_known(e.version) {
+        return Err(MakeError::BadLength);
     }
-    if n > 1023 {
-        return false;
-    }
-    long == 16 + 64 * n
+    Ok(n)
 }
 
 // Whether n slots can hold that total.
-fn fits_total(n: usize, total: u32) -> bool
+fn check_total(n: usize, total: u32) -> Result<(), MakeError>
     requires { (2 ≤ n) × (n ≤ 1023) }
-    ensures { result ≡ fits_total n total }
+    ensures { MatchResult result (λ _. fits_total n total ≡ true)
+        (λ d. (fits_total n total ≡ false) × (d ≡ BadTotal)) }
 {
-    if total < 1 {
-        return false;
+    if total < 1 || 64 * (n - 1) < total as usize {
+        return Err(MakeError::BadTotal);
     }
-    let most = 64 * (n - 1);
-    total as usize <= most
+    Ok(())
+}
+
+// The form of a rule that fits a record, as its byte. A form stays a number: `hull_make` takes any, and one that no byte holds is none.
+fn form_of(v: u32, form: u32, rule: &[u8]) -> Result<u8, MakeError>
+    ensures { MatchResult result (λ b. (fits_record v form rule.now ≡ true) × (b ≡ form))
+        (λ d. (fits_record v form rule.now ≡ false) × (d ≡ BadRule)) }
+{
+    let Ok(byte) = u8::try_from(form) else {
+        return Err(MakeError::BadRule);
+    };
+    if !access::fits_record(v, byte, rule) {
+        return Err(MakeError::BadRule);
+    }
+    Ok(byte)
 }
 
 // The header of a fresh card of a version and n slots.
@@ -72,7 +82,7 @@ fn put_fresh(image: &mut [u8], v: u32, n: usize, total: u32, form: u8, rule: &[u
         kind: descriptor::DF,
         descriptor: 0x38,
         life: life_cycle::ACTIVATED_BYTE,
-        form: form,
+        form,
         identifier: 0x3F00,
         parent: 0,
         level: 0,
@@ -84,41 +94,19 @@ fn put_fresh(image: &mut [u8], v: u32, n: usize, total: u32, form: u8, rule: &[u
     numbers::zero_out(image, 80, 64 * (n - 1));
 }
 
-// Whether so many bytes can be a card of that edition.
-fn fits_buffer(long: usize, e: Edition) -> bool
-    ensures { result ≡ fits_buffer long e }
-{
-    if !fits_length(long) {
-        return false;
-    }
-    image::version::is_known(e.version)
-}
-
-// Whether a rule fits a record. A form that no byte holds is none.
-fn fits_rule(v: u32, form: u32, rule: &[u8]) -> bool
-    ensures { result ≡ fits_record v form rule.now }
-{
-    if form > 255 {
-        return false;
-    }
-    access::fits_record(v, form as u8, rule)
-}
-
 // Makes a fresh image of a buffer: a card of that edition, with a root of that total and rule.
-pub fn make(image: &mut [u8], edition: Edition, total: u32, form: u32, rule: &[u8]) -> Made
+pub fn make(
+    image: &mut [u8],
+    edition: Edition,
+    total: u32,
+    form: u32,
+    rule: &[u8],
+) -> Result<(), MakeError>
     ensures { MakerPromises image.old edition total form rule.now result image.new }
 {
-    let long = image.len();
-    if !fits_buffer(long, edition) {
-        return Made::BadLength;
-    }
-    let n = slots_in(long);
-    if !fits_total(n, total) {
-        return Made::BadTotal;
-    }
-    if !fits_rule(edition.version, form, rule) {
-        return Made::BadRule;
-    }
-    put_fresh(image, edition.version, n, total, form as u8, rule);
-    Made::Done
+    let n = slots_of(image.len(), edition)?;
+    check_total(n, total)?;
+    let form = form_of(edition.version, form, rule)?;
+    put_fresh(image, edition.version, n, total, form, rule);
+    Ok(())
 }

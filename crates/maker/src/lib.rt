@@ -1,6 +1,6 @@
 // The maker of fresh images and the report (01 "Making and reporting").
 //
-// Both calls take any bytes. An answer is an enum; specs/ gives 01's number and values for each of its cases.
+// Both calls take any bytes. An answer is a Result or an Option; specs/ gives 01's number and values for each of its cases.
 #![tactic(auto)]
 
 pub mod fresh;
@@ -12,13 +12,12 @@ pub struct Edition {
     pub version: u32,
 }
 
-// What the maker answers; a version that is not known is answered like a length that no image has.
-#[derive(Clone, Copy)]
-pub enum Made {
-    Done,
-    BadLength,
-    BadTotal,
-    BadRule,
+// Why the maker refuses, with 01's number of that answer; a version that is not known is answered like a length that no image has.
+#[derive(Clone, Copy, Debug, PartialEq, Eq)]
+pub enum MakeError {
+    BadLength = 2,
+    BadTotal = 3,
+    BadRule = 4,
 }
 
 // The numbers of the report: the current DF's total, its room, its direct children, all files beneath it.
@@ -28,11 +27,4 @@ pub struct Figures {
     pub room: u32,
     pub children: u32,
     pub beneath: u32,
-}
-
-// What the report answers.
-#[derive(Clone, Copy)]
-pub enum Reported {
-    Numbers(Figures),
-    Unsound,
 }

@@ -4,7 +4,7 @@ ghost use Rattle.image.specs.Layout.{Sized, count_of};
 ghost use Rattle.sound.specs.Sound.{Sound};
 ghost use Rattle.maker.specs.Reporting.{figures_of, ReportPromises};
 
-use crate::{Figures, Reported};
+use crate::Figures;
 
 // The numbers of a sound image of n slots.
 fn figures(image: &[u8], n: usize) -> Figures
@@ -18,20 +18,20 @@ fn figures(image: &[u8], n: usize) -> Figures
     let children = kinship::count::children(image, n, d);
     let beneath = subtree::beneath(image, n, d);
     Figures {
-        total: total,
-        room: room,
-        children: children,
-        beneath: beneath,
+        total,
+        room,
+        children,
+        beneath,
     }
 }
 
-// Reports on any bytes: the numbers of a sound image, or that it is not one.
-pub fn report(image: &[u8]) -> Reported
+// Reports on any bytes: the numbers of a sound image, None for any other.
+pub fn report(image: &[u8]) -> Option<Figures>
     ensures { ReportPromises image.now result }
 {
     if !sound_test::sound(image) {
-        return Reported::Unsound;
+        return None;
     }
     let n = image::fields::count(image);
-    Reported::Numbers(figures(image, n))
+    Some(figures(image, n))
 }

@@ -6,17 +6,26 @@
 // and the program ends with status 1.
 #![tactic(auto)]
 
+ghost use Rattle.objects_text.specs.Listing.{list_of};
+
+use std::io;
 use std::process::ExitCode;
+use streams::Program;
+
+struct Objects;
+
+impl Program<2312> for Objects {
+    const UNREAD: &'static str = "objects: standard input cannot be read";
+
+    const UNWRITTEN: &'static str = "objects: standard output cannot be written";
+
+    ghost text_of = { list_of };
+
+    fn text(input: &[u8], out: &mut [u8; 2312]) -> usize {
+        objects_text::list(input, out)
+    }
+}
 
 fn main(rt: HostRuntime) -> ExitCode {
-    let mut data = [0u8; 256];
-    let Ok(n) = streams::fill(&mut rt.stdin(), &mut data) else {
-        return streams::failure(&rt, "objects: standard input cannot be read");
-    };
-    let mut out = [0u8; 2312];
-    let long = objects_text::list(&data[..n], &mut out);
-    if rt.write_all(&out[..long]).is_err() {
-        return streams::failure(&rt, "objects: standard output cannot be written");
-    }
-    ExitCode::SUCCESS
+    streams::run::<Objects, 256, 2312, _, _>(&rt, &mut rt.stdin(), &mut io::writer(&rt))
 }

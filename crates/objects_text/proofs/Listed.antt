@@ -1,6 +1,6 @@
 -- How CREATE reads the data, as a line, and the whole text.
 use native.Mathlib.Omega.{arith}
-use mathlib.Core.Path.{◌≡◌, sym, ◌∙◌, ap, subst}
+use mathlib.Core.Path.{◌≡◌, sym, subst}
 use mathlib.Core.Bool.{Bool, true, false, cond}
 use mathlib.Core.List.{List, ◌++◌}
 use Prim.Native.Nat.{ℕ, zero, suc, ◌<◌, ◌≤◌}
@@ -8,24 +8,21 @@ use lib.Dec.{eqb}
 use lib.ListN.{length, get_or}
 use borrow.Author.Tests.{lt-ltb, le-ltb}
 use Rattle.template.specs.declared.Object.{Object}
-use Rattle.template.specs.declared.Object.TheVariants.{Whole, Broken}
 use Rattle.template.specs.declared.Objects.{Objects}
-use Rattle.create_data.specs.declared.Data.{Data}
+use Rattle.std.specs.Prelude.{Option, Some, None}
 use Rattle.template.specs.Objects.{object_at, order, noted, on_tag, taken_at, taken_below, objects_of}
-use Rattle.create_data.specs.Data.{data_of}
 use Rattle.template.proofs.Holding.{Inside, inside}
 use Rattle.text.specs.Written.{WroteAt, Wrote, big}
-use Rattle.text.proofs.Written.{same_text, written_on}
-use Rattle.objects_text.specs.Lines.{mark_line}
-use Rattle.objects_text.specs.Listing.{lines_from, head_of, third_word_of, later_word_of, word_of, reading_of, list_of}
+use Rattle.text.proofs.Written.{written_on}
+use Rattle.objects_text.specs.Listing.{lines_from, head_of, reading_of, list_of}
 
 -- the place up to which CREATE takes the objects fits two digits
 module _ (s : List ℕ) (h : length s < 256) where
-  next-on : (o : Objects) (k at : ℕ) (r : Object) → Inside s at r → o.next < 256 → (on_tag o k r).next < 256
-  next-on o k at Broken i p = p
-  next-on o k at (Whole tag start end) i p = go (eqb tag (get_or order k 0))
+  next-on : (o : Objects) (k at : ℕ) (r : Option Object) → Inside s at r → o.next < 256 → (on_tag o k r).next < 256
+  next-on o k at None i p = p
+  next-on o k at (Some x) i p = go (eqb x.tag (get_or order k 0))
     where
-      go : (b : Bool) → (cond b (noted o k start end) o).next < 256
+      go : (b : Bool) → (cond b (noted o k x.value) o).next < 256
       go true = omega (arith, i.3)
       go false = p
 
@@ -39,33 +36,6 @@ module _ (s : List ℕ) (h : length s < 256) where
   pub next_small : (o : Objects) → o ≡ objects_of s → o.next < 256
   unfolding objects_of
   next_small o e = subst (λ (x : Objects). x.next < 256) (sym e) (next-below 12)
-
--- the word of what CREATE reads, e, where r was read and is d
-said : {put m : ℕ} {x y : List ℕ} (word : Data → List ℕ) (at : ℕ) (r d e : Data) → r ≡ e → r ≡ d
-    → WroteAt put m x y (mark_line at (word d)) → WroteAt put m x y (mark_line at (word e))
-said word at r d e er ed w =
-    same_text (mark_line at (word d)) (mark_line at (word e)) w (ap (λ (z : Data). mark_line at (word z)) (sym ed ∙ er))
-
--- r is what CREATE reads on a card of version 3
-pub third_put : {put m : ℕ} {x y : List ℕ} (s : List ℕ) (at : ℕ) (r d : Data) → r ≡ data_of 3 s → r ≡ d
-    → WroteAt put m x y (mark_line at (third_word_of d)) → WroteAt put m x y (mark_line at (third_word_of (data_of 3 s)))
-third_put s at r d = said third_word_of at r d (data_of 3 s)
-
--- r is what CREATE reads on a card of version 2
-pub later_put : {put m : ℕ} {x y : List ℕ} (s : List ℕ) (at : ℕ) (r d : Data) → r ≡ data_of 2 s → r ≡ d
-    → WroteAt put m x y (mark_line at (later_word_of d (data_of 3 s)))
-    → WroteAt put m x y (mark_line at (later_word_of (data_of 2 s) (data_of 3 s)))
-later_put s at r d = said (λ (z : Data). later_word_of z (data_of 3 s)) at r d (data_of 2 s)
-
--- r is what CREATE reads on a card of version 1
-pub reading_put : {put m : ℕ} {x y : List ℕ} (s : List ℕ) (o : Objects) (r d : Data) → o ≡ objects_of s → r ≡ data_of 1 s → r ≡ d
-    → WroteAt put m x y (mark_line o.next (word_of d (data_of 2 s) (data_of 3 s))) → WroteAt put m x y (reading_of s)
-unfolding reading_of
-reading_put s o r d eo er ed w =
-    let word : Data → List ℕ = λ (z : Data). word_of z (data_of 2 s) (data_of 3 s) in
-    said word (objects_of s).next r d (data_of 1 s) er ed
-    (same_text (mark_line o.next (word d)) (mark_line (objects_of s).next (word d)) w
-    (ap (λ (z : Objects). mark_line z.next (word d)) eo))
 
 -- the two ways of `write`
 pub too_big : {m : ℕ} {x y : List ℕ} (s : List ℕ) → 255 < length s → Wrote m x y big → Wrote m x y (list_of s)

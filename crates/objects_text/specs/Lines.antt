@@ -1,7 +1,9 @@
 -- The lines of a listing. Each begins with a place in the data, in two hex digits.
-use Rattle.std.specs.Prelude.{ℕ, ◌/◌, ◌%◌, cond, List, [], ◌∷◌, ◌++◌, eqb}
+use Rattle.std.specs.Prelude.{ℕ, ◌/◌, ◌%◌, List, [], ◌∷◌, ◌++◌, Option, Some, None}
+use Rattle.rules.specs.declared.life_cycle.Life.{Life}
+use Rattle.rules.specs.declared.life_cycle.Life.TheVariants.{Creation, Initialisation, Activated, Deactivated, Terminated}
 use Rattle.text.specs.Digits.{digit_of}
-use Rattle.rules.specs.Life.{life_of, creation, initialisation, activated, deactivated, terminated}
+use Rattle.rules.specs.Life.{life_of}
 
 -- a byte in two digits
 abbrev pub hex : ℕ → List ℕ
@@ -47,14 +49,13 @@ abbrev pub bad : List ℕ
 bad = 54 ∷ 65 ∷ 56 ∷ 48 ∷ 10 ∷ []
 
 -- the life cycles by their class: `creation`, `initialisation`, `activated`, `deactivated`, `terminated`, else `unknown`
-unfoldable pub life_word : ℕ → List ℕ
-life_word class =
-    cond (eqb class creation) (99 ∷ 114 ∷ 101 ∷ 97 ∷ 116 ∷ 105 ∷ 111 ∷ 110 ∷ 10 ∷ [])
-    (cond (eqb class initialisation) (105 ∷ 110 ∷ 105 ∷ 116 ∷ 105 ∷ 97 ∷ 108 ∷ 105 ∷ 115 ∷ 97 ∷ 116 ∷ 105 ∷ 111 ∷ 110 ∷ 10 ∷ [])
-    (cond (eqb class activated) (97 ∷ 99 ∷ 116 ∷ 105 ∷ 118 ∷ 97 ∷ 116 ∷ 101 ∷ 100 ∷ 10 ∷ [])
-    (cond (eqb class deactivated) (100 ∷ 101 ∷ 97 ∷ 99 ∷ 116 ∷ 105 ∷ 118 ∷ 97 ∷ 116 ∷ 101 ∷ 100 ∷ 10 ∷ [])
-    (cond (eqb class terminated) (116 ∷ 101 ∷ 114 ∷ 109 ∷ 105 ∷ 110 ∷ 97 ∷ 116 ∷ 101 ∷ 100 ∷ 10 ∷ [])
-    (117 ∷ 110 ∷ 107 ∷ 110 ∷ 111 ∷ 119 ∷ 110 ∷ 10 ∷ [])))))
+unfoldable pub life_word : Option Life → List ℕ
+life_word (Some Creation) = 99 ∷ 114 ∷ 101 ∷ 97 ∷ 116 ∷ 105 ∷ 111 ∷ 110 ∷ 10 ∷ []
+life_word (Some Initialisation) = 105 ∷ 110 ∷ 105 ∷ 116 ∷ 105 ∷ 97 ∷ 108 ∷ 105 ∷ 115 ∷ 97 ∷ 116 ∷ 105 ∷ 111 ∷ 110 ∷ 10 ∷ []
+life_word (Some Activated) = 97 ∷ 99 ∷ 116 ∷ 105 ∷ 118 ∷ 97 ∷ 116 ∷ 101 ∷ 100 ∷ 10 ∷ []
+life_word (Some Deactivated) = 100 ∷ 101 ∷ 97 ∷ 99 ∷ 116 ∷ 105 ∷ 118 ∷ 97 ∷ 116 ∷ 101 ∷ 100 ∷ 10 ∷ []
+life_word (Some Terminated) = 116 ∷ 101 ∷ 114 ∷ 109 ∷ 105 ∷ 110 ∷ 97 ∷ 116 ∷ 101 ∷ 100 ∷ 10 ∷ []
+life_word None = 117 ∷ 110 ∷ 107 ∷ 110 ∷ 111 ∷ 119 ∷ 110 ∷ 10 ∷ []
 
 -- a life-cycle byte, and its life cycle in words
 unfoldable pub life_line : ℕ → List ℕ

@@ -1,9 +1,9 @@
 -- The listing of CREATE's data (01 "CREATE", data): its objects in turn, where they stop, and how CREATE reads them.
-use Rattle.std.specs.Prelude.{ℕ, zero, suc, ◌-◌, Bool, true, false, cond, ◌&&◌, List, [], ◌∷◌, ◌++◌, eqb, ltb, length, get_or}
+use Rattle.std.specs.Prelude.{ℕ, zero, suc, ◌-◌, Bool, cond, ◌&&◌, List, [], ◌∷◌, ◌++◌, eqb, ltb, length, get_or}
+use Rattle.std.specs.Prelude.{Option, Some, None, is_some}
 use Rattle.template.specs.declared.Object.{Object}
-use Rattle.template.specs.declared.Object.TheVariants.{Whole, Broken}
 use Rattle.create_data.specs.declared.Data.{Data}
-use Rattle.create_data.specs.declared.Data.TheVariants.{Df, Ef, Bad}
+use Rattle.create_data.specs.declared.Data.TheVariants.{Df, Ef}
 use Rattle.template.specs.Objects.{object_at, objects_of}
 use Rattle.create_data.specs.Data.{is_template, data_of}
 use Rattle.reader.specs.Places.{place_after}
@@ -11,21 +11,18 @@ use Rattle.text.specs.Written.{big}
 use Rattle.objects_text.specs.Lines.{mark_line, tag_and_length, life_line, end, break, head, df, ef}
 use Rattle.objects_text.specs.Lines.{later_df, later_ef, third_df, third_ef, bad}
 
--- whether an object is whole, and its line
-abbrev pub is_whole : Object → Bool
-is_whole Broken = false
-is_whole (Whole tag start end) = true
-
 -- what stands behind tag and length: of 8A its life cycle, if it is one byte; else the line ends
-unfoldable pub rest_of : List ℕ → ℕ → ℕ → ℕ → List ℕ
-rest_of s tag start end = cond (eqb tag 0x8A && eqb (end - start) 1) ((32 ∷ []) ++ life_line (get_or s start 0)) (10 ∷ [])
+unfoldable pub rest_of : List ℕ → Object → List ℕ
+rest_of s x =
+    cond (eqb x.tag 0x8A && eqb (x.value.end - x.value.start) 1) ((32 ∷ []) ++ life_line (get_or s x.value.start 0)) (10 ∷ [])
 
-abbrev pub line_of : List ℕ → ℕ → Object → List ℕ
-line_of s at Broken = []
-line_of s at (Whole tag start end) = mark_line at (tag_and_length tag (end - start)) ++ rest_of s tag start end
+-- the line of the object at a place, if one is whole there
+abbrev pub line_of : List ℕ → ℕ → Option Object → List ℕ
+line_of s at None = []
+line_of s at (Some x) = mark_line at (tag_and_length x.tag (x.value.end - x.value.start)) ++ rest_of s x
 
 unfoldable pub whole_at : List ℕ → ℕ → Bool
-whole_at s at = is_whole (object_at s at)
+whole_at s at = is_some (object_at s at)
 
 unfoldable pub line_at : List ℕ → ℕ → List ℕ
 line_at s at = line_of s at (object_at s at)
@@ -43,23 +40,19 @@ lines_from (suc turns) s at = cond (whole_at s at) (line_at s at ++ lines_from t
 unfoldable pub head_of : List ℕ → List ℕ
 head_of s = cond (is_template s) [] (mark_line 0 head)
 
+-- the word for data that are taken: that for a DF, or that for an EF
+abbrev pub told : List ℕ → List ℕ → Data → List ℕ
+told df_word ef_word (Df x) = df_word
+told df_word ef_word (Ef x) = ef_word
+
 -- what CREATE makes of data on a card of version 1, and so of any (`DataAlike` in create_data/specs/Grammar), as a word; of data that it
 -- refuses there, what on a card of version 2, which takes longer rules than version 3; of data that it refuses there too, what on a card
 -- of version 3, which has one more form
-abbrev pub third_word_of : Data → List ℕ
-third_word_of (Df x) = third_df
-third_word_of (Ef x) = third_ef
-third_word_of Bad = bad
-
-abbrev pub later_word_of : Data → Data → List ℕ
-later_word_of (Df x) third = later_df
-later_word_of (Ef x) third = later_ef
-later_word_of Bad third = third_word_of third
-
-abbrev pub word_of : Data → Data → Data → List ℕ
-word_of (Df x) later third = df
-word_of (Ef x) later third = ef
-word_of Bad later third = later_word_of later third
+abbrev pub word_of : Option Data → Option Data → Option Data → List ℕ
+word_of (Some x) later third = told df ef x
+word_of None (Some x) third = told later_df later_ef x
+word_of None None (Some x) = told third_df third_ef x
+word_of None None None = bad
 
 -- .. behind the place up to which it takes the objects in 01's order
 unfoldable pub reading_of : List ℕ → List ℕ

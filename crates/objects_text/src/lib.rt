@@ -8,107 +8,92 @@
 // a card of version 2 takes and one of version 1 does not, for its rule (02 Ticket 3; up to 28 bytes of rule, one of version 3 takes it
 // too), `DF 3` and `EF 3` what only one of version 3 takes, for its rule stands in 8B (02 Ticket 7): the data do not say which card they
 // are for.
+//
+// The buffer and the place in it go as two parameters: a struct of both would only be opened again by each contract, as by `WroteAt`.
 #![tactic(auto)]
 
-ghost use Rattle.std.specs.Prelude.{◌≡◌, ◌+◌, ◌<◌, ◌≤◌, length};
-ghost use Rattle.create_data.specs.Data.{data_of};
+ghost use Rattle.std.specs.Prelude.{◌≡◌, ◌+◌, ◌<◌, ◌≤◌, length, take, Some};
+ghost use Rattle.rules.specs.Life.{life_of};
+ghost use Rattle.template.specs.Objects.{object_at};
 ghost use Rattle.text.specs.Written.{WroteAt, Wrote, Counted};
-ghost use Rattle.objects_text.specs.Lines.{mark_line, life_line};
-ghost use Rattle.objects_text.specs.Listing.{whole_at, rest_of, line_at, stop_at, lines_from, head_of};
-ghost use Rattle.objects_text.specs.Listing.{third_word_of, later_word_of, reading_of, list_of};
+ghost use Rattle.objects_text.specs.Lines.{hex, mark_line, life_word};
+ghost use Rattle.create_data.specs.Data.{data_of};
+ghost use Rattle.objects_text.specs.Listing.{rest_of, line_of, stop_at, lines_from, head_of, told, word_of, reading_of, list_of};
 
 use create_data::{Data, judge};
-use rules::life_cycle;
-use template::{Object, gather};
+use rules::life_cycle::{self, Life};
+use template::{Object, Span, gather};
+
+// A byte in two hex digits.
+fn hex(byte: u16) -> [u8; 2]
+    requires { byte < 256 }
+    ensures { result ≡ hex byte }
+{
+    [text::digit(byte / 16), text::digit(byte % 16)]
+}
 
 // Writes a place or a byte in two hex digits, and a word behind it.
+#[tactic(auto, unfolding(crate::specs::Lines::mark_line))]
 fn put_mark(out: &mut [u8], put: usize, at: u16, word: &[u8]) -> usize
     requires { (at < 256) × (put + 3 + length word.now ≤ length out.old) }
     ensures { WroteAt put result out.old out.new (mark_line at word.now) }
 {
-    let a = text::digit(at / 16);
-    let b = text::digit(at % 16);
+    let [a, b] = hex(at);
     let next = text::put(out, put, &[a, b, b' ']);
     text::put(out, next, word)
 }
 
-// Whether a whole object stands at a place.
-fn is_whole(s: &[u8], at: usize) -> bool
-    ensures { result ≡ whole_at s.now at }
+// The life cycle of a byte in words, to the end of the line.
+#[tactic(auto, unfolding(crate::specs::Lines::life_word))]
+fn life_word(x: u8) -> &'static [u8]
+    ensures word { result.now ≡ life_word (life_of x) }
+    ensures short { length result.now ≤ 15 }
 {
-    match reader::object(s, at) {
-        Object::Whole { .. } => true,
-        Object::Broken => false,
+    match life_cycle::class(x) {
+        Some(Life::Creation) => b"creation\n",
+        Some(Life::Initialisation) => b"initialisation\n",
+        Some(Life::Activated) => b"activated\n",
+        Some(Life::Deactivated) => b"deactivated\n",
+        Some(Life::Terminated) => b"terminated\n",
+        None => b"unknown\n",
     }
-}
-
-// Writes a life-cycle byte, and its life cycle in words.
-fn put_life(out: &mut [u8], put: usize, x: u8) -> usize
-    requires { put + 18 ≤ length out.old }
-    ensures { WroteAt put result out.old out.new (life_line x) }
-{
-    let byte = numbers::wide(x);
-    let class = life_cycle::class(x);
-    if class == life_cycle::CREATION {
-        return put_mark(out, put, byte, b"creation\n");
-    }
-    if class == life_cycle::INITIALISATION {
-        return put_mark(out, put, byte, b"initialisation\n");
-    }
-    if class == life_cycle::ACTIVATED {
-        return put_mark(out, put, byte, b"activated\n");
-    }
-    if class == life_cycle::DEACTIVATED {
-        return put_mark(out, put, byte, b"deactivated\n");
-    }
-    if class == life_cycle::TERMINATED {
-        return put_mark(out, put, byte, b"terminated\n");
-    }
-    put_mark(out, put, byte, b"unknown\n")
 }
 
 // Writes what stands behind an object's tag and length: of 8A its life cycle, if it is one byte; else the line ends.
-fn put_rest(s: &[u8], tag: u8, start: usize, end: usize, out: &mut [u8], put: usize) -> usize
-    requires { (start ≤ end) × (end ≤ length s.now) × (put + 19 ≤ length out.old) }
-    ensures { WroteAt put result out.old out.new (rest_of s.now tag start end) }
+#[tactic(auto, unfolding(crate::specs::Listing::rest_of, crate::specs::Lines::life_line))]
+fn put_rest(s: &[u8], object: Object, out: &mut [u8], put: usize) -> usize
+    requires { (object.value.start ≤ object.value.end) × (object.value.end ≤ length s.now) × (put + 19 ≤ length out.old) }
+    ensures { WroteAt put result out.old out.new (rest_of s.now object) }
 {
-    if tag != 0x8A {
-        return text::put(out, put, b"\n");
-    }
-    if end - start != 1 {
+    let Span { start, end } = object.value;
+    if object.tag != 0x8A || end - start != 1 {
         return text::put(out, put, b"\n");
     }
     let next = text::put(out, put, b" ");
-    put_life(out, next, s[start])
+    let life = s[start];
+    put_mark(out, next, u16::from(life), life_word(life))
 }
 
-// Writes the line of the object at a place: place, tag, length, and what stands behind. Nothing where none is whole.
-fn put_object(s: &[u8], at: usize, out: &mut [u8], put: usize) -> usize
-    requires { (at < 256) × (put + 27 ≤ length out.old) }
-    ensures { WroteAt put result out.old out.new (line_at s.now at) }
+// Writes the line of the object that stands at a place: place, tag, length, and what stands behind.
+fn put_object(s: &[u8], at: usize, object: Object, out: &mut [u8], put: usize) -> usize
+    requires { (Some object ≡ object_at s.now at) × (at < 256) × (put + 27 ≤ length out.old) }
+    ensures { WroteAt put result out.old out.new (line_of s.now at (Some object)) }
 {
-    let Object::Whole { tag, start, end } = reader::object(s, at) else {
-        return put;
-    };
-    let kind = numbers::wide(tag);
-    let long = (end - start) as u16;
-    let a = text::digit(kind / 16);
-    let b = text::digit(kind % 16);
-    let c = text::digit(long / 16);
-    let d = text::digit(long % 16);
+    let Span { start, end } = object.value;
+    let [a, b] = hex(u16::from(object.tag));
+    let [c, d] = hex((end - start) as u16);
     let next = put_mark(out, put, at as u16, &[a, b, b' ', c, d]);
-    put_rest(s, tag, start, end, out, next)
+    put_rest(s, object, out, next)
 }
 
 // Writes the line where the objects stop: `END` at the end of the data, else `BREAK`.
+#[tactic(auto, unfolding(crate::specs::Listing::stop_at))]
 fn put_stop(s: &[u8], at: usize, out: &mut [u8], put: usize) -> usize
     requires { (at < 256) × (put + 9 ≤ length out.old) }
     ensures { WroteAt put result out.old out.new (stop_at s.now at) }
 {
-    if at == s.len() {
-        return put_mark(out, put, at as u16, b"END\n");
-    }
-    put_mark(out, put, at as u16, b"BREAK\n")
+    let word: &[u8] = if at == s.len() { b"END\n" } else { b"BREAK\n" };
+    put_mark(out, put, at as u16, word)
 }
 
 // Writes the lines of the objects behind 62 LL, from `from` on, and the line where they stop.
@@ -119,14 +104,16 @@ fn walk(s: &[u8], out: &mut [u8], from: usize) -> usize
 {
     let mut at = 2;
     let mut put = from;
-    while is_whole(s, at) {
-        put = put_object(s, at, out, put);
-        at = reader::after(s, at);
+    // No `for`: a line begins with the place of its object, which an iterator over the objects would hand out beside each.
+    while let Some(object) = reader::object(s, at) {
+        put = put_object(s, at, object, out, put);
+        at = object.value.end;
     }
     put_stop(s, at, out, put)
 }
 
 // Writes `HEAD` behind place 00 where the data is no template; else nothing.
+#[tactic(auto, unfolding(crate::specs::Listing::head_of))]
 fn put_head(s: &[u8], out: &mut [u8]) -> usize
     requires { 8 ≤ length out.old }
     ensures { Wrote result out.old out.new (head_of s.now) }
@@ -137,43 +124,40 @@ fn put_head(s: &[u8], out: &mut [u8]) -> usize
     put_mark(out, 0, 0, b"HEAD\n")
 }
 
-// Writes how a card of version 3 reads data that one of version 1 or 2 refuses.
-fn put_third(s: &[u8], at: u16, out: &mut [u8], put: usize) -> usize
-    requires { (at < 256) × (put + 8 ≤ length out.old) }
-    ensures { WroteAt put result out.old out.new (mark_line at (third_word_of (data_of 3 s.now))) }
+// The word for data that are taken: that for a DF, or that for an EF.
+fn told<'a>(new: Data, df: &'a [u8], ef: &'a [u8]) -> &'a [u8]
+    ensures { result.now ≡ told df.now ef.now new }
 {
-    match create_data::read(s, 3) {
-        Data::Df(_) => put_mark(out, put, at, b"DF 3\n"),
-        Data::Ef(_) => put_mark(out, put, at, b"EF 3\n"),
-        Data::Bad => put_mark(out, put, at, b"6A80\n"),
+    match new {
+        Data::Df(_) => df,
+        Data::Ef(_) => ef,
     }
 }
 
-// Writes how a card of version 2 reads data that one of version 1 refuses, and where it refuses them too, how one of version 3.
-fn put_later(s: &[u8], at: u16, out: &mut [u8], put: usize) -> usize
-    requires { (at < 256) × (put + 8 ≤ length out.old) }
-    ensures { WroteAt put result out.old out.new
-        (mark_line at (later_word_of (data_of 2 s.now) (data_of 3 s.now))) }
+// The word of what CREATE makes of data: on a card of version 1, else on one of version 2, else on one of version 3.
+fn word(s: &[u8]) -> &'static [u8]
+    ensures word { result.now ≡ word_of (data_of 1 s.now) (data_of 2 s.now) (data_of 3 s.now) }
+    ensures short { length result.now ≤ 5 }
 {
-    match create_data::read(s, 2) {
-        Data::Df(_) => put_mark(out, put, at, b"DF 2\n"),
-        Data::Ef(_) => put_mark(out, put, at, b"EF 2\n"),
-        Data::Bad => put_third(s, at, out, put),
+    if let Some(new) = create_data::read(s, 1) {
+        told(new, b"DF\n", b"EF\n")
+    } else if let Some(new) = create_data::read(s, 2) {
+        told(new, b"DF 2\n", b"EF 2\n")
+    } else if let Some(new) = create_data::read(s, 3) {
+        told(new, b"DF 3\n", b"EF 3\n")
+    } else {
+        b"6A80\n"
     }
 }
 
 // Writes how CREATE reads the data: up to which place it takes the objects, and `DF`, `EF` or `6A80`.
+#[tactic(auto, unfolding(crate::specs::Listing::reading_of))]
 fn put_reading(s: &[u8], out: &mut [u8], put: usize) -> usize
     requires { (length s.now < 256) × (put + 8 ≤ length out.old) }
     ensures { WroteAt put result out.old out.new (reading_of s.now) }
 {
     let o = gather::all(s);
-    let at = o.next as u16;
-    match create_data::read(s, 1) {
-        Data::Df(_) => put_mark(out, put, at, b"DF\n"),
-        Data::Ef(_) => put_mark(out, put, at, b"EF\n"),
-        Data::Bad => put_later(s, at, out, put),
-    }
+    put_mark(out, put, o.next as u16, word(s))
 }
 
 // The text of data, at the start of out; gives its length.
@@ -195,6 +179,7 @@ fn write(s: &[u8], out: &mut [u8]) -> usize
 pub fn list(s: &[u8], out: &mut [u8; 2312]) -> usize
     ensures wrote { Wrote result out.old out.new (list_of s.now) }
     ensures counted { Counted result out.new }
+    ensures taken { take result out.new ≡ list_of s.now }
 {
     write(s, out)
 }

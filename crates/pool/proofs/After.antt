@@ -10,8 +10,7 @@ use lib.Dec.{eqb, leb}
 use lib.ListN.{length, get_or}
 use lib.Seq.{ext_get_or}
 use borrow.Author.Tests.{eq-eqb}
-use Rattle.laws.specs.declared.Found.{Found}
-use Rattle.laws.specs.declared.Found.TheVariants.{At, Nothing}
+use Rattle.std.specs.Prelude.{Option, Some, None}
 use Rattle.laws.specs.Lists.{part}
 use Rattle.laws.specs.Walks.{sum_below}
 use Rattle.laws.proofs.Splices.{length_part, get_or-part}
@@ -81,20 +80,20 @@ module _ (n : ℕ) (a z b y : ℕ → ℕ) (i : Alike n a z b y) where
 
 -- where no body's start would differ, the pool stays
 module _ (n : ℕ) (a z : ℕ → ℕ) (pool : List ℕ) (still : (t : ℕ) → t < n → 0 < z t → packed_start n a z t ≡ a t) where
-  at : (q : ℕ) → (f : Found) → owner_of n (packed_start n a z) z q ≡ f → (g : Found) → owner_of n a z q ≡ g
+  at : (q : ℕ) → (f : Option ℕ) → owner_of n (packed_start n a z) z q ≡ f → (g : Option ℕ) → owner_of n a z q ≡ g
       → get_or pool q 0 ≡ moved_byte a (packed_start n a z) pool q f g
-  at q (At t) e g o =
+  at q (Some t) e g o =
       let h = owner_is n (packed_start n a z) z q t e in
       let w : packed_start n a z t ≡ a t = still t h.slot (omega (arith, h.from, h.upto)) in
       let j : q ≡ a t + (q - packed_start n a z t) = omega (arith, h.from) in
       ap (λ (u : ℕ). get_or pool u 0) j
-  at q Nothing e (At t) o = absurd (clash (owner_is n a z q t o))
+  at q None e (Some t) o = absurd (clash (owner_is n a z q t o))
     where
       clash : Holds n a z q t → ⊥
       clash h =
           let w : packed_start n a z t ≡ a t = still t h.slot (omega (arith, h.from, h.upto)) in
           owner_none n (packed_start n a z) z q e t h.slot (omega (arith, h.from)) (omega (arith, h.upto))
-  at q Nothing e Nothing o = refl
+  at q None e None o = refl
 
   pub pool_stays : packed_pool n a z pool ≡ pool
   unfolding packed_pool packed_byte
@@ -109,9 +108,9 @@ module _ (n : ℕ) (a z : ℕ → ℕ) (pool : List ℕ) (laid : Laid n a z (len
   unfolding packed_pool
   length-pool = length_list (length pool) (packed_byte n a z pool)
 
-  moved-byte : (t : ℕ) → t < n → (k : ℕ) → k < z t → (f : Found) → owner_of n (packed_start n a z) z (packed_start n a z t + k) ≡ f
+  moved-byte : (t : ℕ) → t < n → (k : ℕ) → k < z t → (f : Option ℕ) → owner_of n (packed_start n a z) z (packed_start n a z t + k) ≡ f
       → moved_byte a (packed_start n a z) pool (packed_start n a z t + k) f (owner_of n a z (packed_start n a z t + k)) ≡ get_or pool (a t + k) 0
-  moved-byte t l k h (At s) e =
+  moved-byte t l k h (Some s) e =
       let o = owner_is n (packed_start n a z) z (packed_start n a z t + k) s e in
       let same : s ≡ t =
       ⊎_elim (λ j. same_body n (packed_start n a z) z (length pool) (packed-laid n a z (length pool) laid) s t o.slot l
@@ -124,7 +123,7 @@ module _ (n : ℕ) (a z : ℕ → ℕ) (pool : List ℕ) (laid : Laid n a z (len
     where
       le-or : (x y : ℕ) → (x ≤ y) ⊎ (y < x)
       le-or x y = ⊎_elim (λ j. inr j) (λ j. inl j) (lt-or y x)
-  moved-byte t l k h Nothing e = absurd (owner_none n (packed_start n a z) z (packed_start n a z t + k) e t l (omega arith) (omega arith))
+  moved-byte t l k h None e = absurd (owner_none n (packed_start n a z) z (packed_start n a z t + k) e t l (omega arith) (omega arith))
 
   pub body_reads : (t : ℕ) → t < n → 0 < z t → part (packed_pool n a z pool) (packed_start n a z t) (z t) ≡ part pool (a t) (z t)
   unfolding packed_pool packed_byte
@@ -197,7 +196,7 @@ module _ (n : ℕ) (img pool : List ℕ) (sized : Sized img n) (laid : Laid n (s
   -- a new body of m bytes finds a gap exactly where the sum of all sizes leaves the room
   pub after_gap : (m : ℕ) → 0 < m
       → lowest_gap n (start_at (packed_image n img)) (body_at (packed_image n img)) (length pool) m
-      ≡ cond (leb (sum_below n (body_at img) + m) (length pool)) (At (sum_below n (body_at img))) Nothing
+      ≡ cond (leb (sum_below n (body_at img) + m) (length pool)) (Some (sum_below n (body_at img))) None
   after_gap m x = alike_gap n _ _ _ _ alike (length pool) m ∙ gap_after n (start_at img) (body_at img) (length pool) laid m x
 
   -- each body reads the same

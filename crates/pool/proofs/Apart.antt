@@ -7,8 +7,7 @@ use native.Mathlib.Nat.{add-zero, zero-add}
 use native.Mathlib.Omega.{arith}
 use lib.Dec.{eqb, ltb}
 use borrow.Author.Tests.{eq-eqb, eqb-true, lt-ltb, ltb-true}
-use Rattle.laws.specs.declared.Found.{Found}
-use Rattle.laws.specs.declared.Found.TheVariants.{At, Nothing}
+use Rattle.std.specs.Prelude.{Option, Some, None}
 use Rattle.laws.specs.Walks.{sum_below, first_below}
 use Rattle.laws.proofs.Firsts.{first_is, no-first}
 use Rattle.laws.proofs.Says.{same_or, and-says, lt-or}
@@ -38,12 +37,12 @@ module _ (n : ℕ) (a z : ℕ → ℕ) where
   pub start-or : (p : ℕ) → Start n a z p
   start-or p = go (first_below n (starts_here a z p)) refl
     where
-      go : (f : Found) → first_below n (starts_here a z p) ≡ f → Start n a z p
-      go (At s) e =
+      go : (f : Option ℕ) → first_below n (starts_here a z p) ≡ f → Start n a z p
+      go (Some s) e =
           let f = first_is n (starts_here a z p) s e in
           let h = (and-says (ltb 0 (z s)) (eqb (a s) p)).0 f.here in
           body s (record { low = f.low; some = ltb-true 0 (z s) h.0; here = eqb-true (a s) p h.1 })
-      go Nothing e = none (record { none = λ t l h j k. never t l h (omega arith) })
+      go None e = none (record { none = λ t l h j k. never t l h (omega arith) })
         where
           never : (t : ℕ) → t < n → 0 < z t → a t ≡ p → ⊥
           never t l h k =

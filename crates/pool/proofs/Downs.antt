@@ -1,14 +1,15 @@
--- One body moved down: each byte afterwards; a turn of the loop that moves byte by byte; a body that stays.
+-- One body moved down: each byte afterwards; a body that stays; a copy, and zeros over what it left.
 use mathlib.Core.Path.{◌≡◌, sym, ap, ◌∙◌}
 use mathlib.Core.List.{List}
-use mathlib.Core.Logic.{◌⊎◌, inl, inr, ⊎_elim}
-use Prim.Native.Nat.{ℕ, ◌+◌, ◌-◌, ◌<◌, ◌≤◌}
+use mathlib.Core.Logic.{◌⊎◌, inl, inr}
+use Prim.Native.Nat.{ℕ, ◌+◌, ◌-◌, ◌<◌, ◌≤◌, max}
 use native.Mathlib.Omega.{arith}
-use lib.ListN.{length, get_or, set, replicate, length-replicate, get_or-replicate, length-set}
-use lib.Seq.{ext_get_or, get_or-set_same, get_or-set_other}
+use lib.ListN.{length, get_or, replicate, length-replicate, get_or-replicate}
+use lib.Seq.{ext_get_or}
+use Rattle.std.specs.List.{CopiedTo, SameBelow, SameFrom}
 use Rattle.laws.specs.Lists.{part, splice}
 use Rattle.laws.proofs.Splices.{length-splice, get_or-splice_in, get_or-splice_below, get_or-splice_above, length_part, get_or-part}
-use Rattle.laws.proofs.Says.{same_or, lt-or}
+use Rattle.laws.proofs.Says.{lt-or}
 use Rattle.pool.specs.Packed.{move_down}
 
 module _ (l : List ℕ) (from to m : ℕ) (down : to ≤ from) (fits : from + m ≤ length l) where
@@ -69,83 +70,47 @@ down_stays l from m fits =
         let e : from + (q - from) ≡ q = omega arith in
         rw e at (down_body l from from m (omega arith) fits (q - from) (omega arith))
 
-pub down-none : (l : List ℕ) (from to : ℕ) → to ≤ from → from ≤ length l → move_down l from to 0 ≡ l
-down-none l from to down fits =
-    ext_get_or 0 (move_down l from to 0) l (length_down l from to 0 down (omega arith)) (λ q h. at q (lt-or q to) (lt-or q from))
-  where
-    at : (q : ℕ) → (q < to) ⊎ (to ≤ q) → (q < from) ⊎ (from ≤ q) → get_or (move_down l from to 0) q 0 ≡ get_or l q 0
-    at q (inl h) k = down_low l from to 0 down (omega arith) q h
-    at q (inr h) (inl k) = down_between l from to 0 down (omega arith) q (omega arith) k
-    at q (inr h) (inr k) = down_high l from to 0 down (omega arith) q (omega arith)
-
--- a turn of the loop: the byte at from + j is taken, zeroed there, and put at to + j
-module _ (l : List ℕ) (from to j : ℕ) (down : to < from) (fits : from + (j + 1) ≤ length l) where
-  pub down_turn : set (set (move_down l from to j) (from + j) 0) (to + j) (get_or (move_down l from to j) (from + j) 0)
-      ≡ move_down l from to (j + 1)
-  down_turn =
-      ext_get_or 0 left (move_down l from to (j + 1)) (len ∙ sym (length_down l from to (j + 1) (omega arith) fits))
-      (λ q h. at q h (same_or q (to + j)) (same_or q (from + j)))
-    where
-      taken : get_or (move_down l from to j) (from + j) 0 ≡ get_or l (from + j) 0
-      taken = down_high l from to j (omega arith) (omega arith) (from + j) (omega arith)
-
-      left : List ℕ
-      left = set (set (move_down l from to j) (from + j) 0) (to + j) (get_or (move_down l from to j) (from + j) 0)
-
-      inner : length (set (move_down l from to j) (from + j) 0) ≡ length l
-      inner = length-set (move_down l from to j) (from + j) 0 ∙ length_down l from to j (omega arith) (omega arith)
-
-      len : length left ≡ length l
-      len = length-set (set (move_down l from to j) (from + j) 0) (to + j) (get_or (move_down l from to j) (from + j) 0) ∙ inner
-
-      rest : (q : ℕ) → (q ≡ to + j → ⊥) → (q ≡ from + j → ⊥) → get_or left q 0 ≡ get_or (move_down l from to j) q 0
-      rest q x y =
-          get_or-set_other (set (move_down l from to j) (from + j) 0) (to + j) q (get_or (move_down l from to j) (from + j) 0) 0 x
-          ∙ get_or-set_other (move_down l from to j) (from + j) q 0 0 y
-
-      other : (q : ℕ) → (q ≡ to + j → ⊥) → (q ≡ from + j → ⊥) → (q < to) ⊎ (to ≤ q) → (q < to + j) ⊎ (to + j ≤ q) → (q < from) ⊎ (from ≤ q)
-          → (q < from + j) ⊎ (from + j ≤ q)
-          → get_or (move_down l from to j) q 0 ≡ get_or (move_down l from to (j + 1)) q 0
-      other q x y (inl a) b c d =
-          down_low l from to j (omega arith) (omega arith) q a ∙ sym (down_low l from to (j + 1) (omega arith) fits q a)
-      other q x y (inr a) (inl b) c d =
-          let e : to + (q - to) ≡ q = omega arith in
-          rw e at (down_body l from to j (omega arith) (omega arith) (q - to) (omega arith)
-          ∙ sym (down_body l from to (j + 1) (omega arith) fits (q - to) (omega arith)))
-      other q x y (inr a) (inr b) (inl c) d =
-          down_between l from to j (omega arith) (omega arith) q b c
-          ∙ sym (down_between l from to (j + 1) (omega arith) fits q (omega arith) c)
-      other q x y (inr a) (inr b) (inr c) (inl d) =
-          down_gone l from to j (omega arith) (omega arith) q b c d
-          ∙ sym (down_gone l from to (j + 1) (omega arith) fits q (omega arith) c (omega arith))
-      other q x y (inr a) (inr b) (inr c) (inr d) =
-          down_high l from to j (omega arith) (omega arith) q d ∙ sym (down_high l from to (j + 1) (omega arith) fits q (omega arith))
-
-      at : (q : ℕ) → q < length left → (q ≡ to + j) ⊎ (q ≡ to + j → ⊥) → (q ≡ from + j) ⊎ (q ≡ from + j → ⊥)
-          → get_or left q 0 ≡ get_or (move_down l from to (j + 1)) q 0
-      at q h (inl e) f =
-          rw e (get_or-set_same (set (move_down l from to j) (from + j) 0) (to + j) (get_or (move_down l from to j) (from + j) 0) 0
-          (omega (arith, inner))
-          ∙ taken ∙ sym (down_body l from to (j + 1) (omega arith) fits j (omega arith)))
-      at q h (inr e) (inl f) =
-          get_or-set_other (set (move_down l from to j) (from + j) 0) (to + j) q (get_or (move_down l from to j) (from + j) 0) 0 e
-          ∙ ap (λ (i : ℕ). get_or (set (move_down l from to j) (from + j) 0) i 0) f
-          ∙ get_or-set_same (move_down l from to j) (from + j) 0 0 (omega (arith, length_down l from to j (omega arith) (omega arith)))
-          ∙ sym (down_gone l from to (j + 1) (omega arith) fits q (omega arith) (omega arith) (omega arith))
-      at q h (inr e) (inr f) = rest q e f ∙ other q e f (lt-or q to) (lt-or q (to + j)) (lt-or q from) (lt-or q (from + j))
-
 -- .. as the code asks
 pub down_stayed : (l : List ℕ) (from to m : ℕ) → from + m ≤ length l → from ≡ to → l ≡ move_down l from to m
 down_stayed l from to m fits e = rw (← e) (sym (down_stays l from m fits))
 
-pub down-begin : (l : List ℕ) (from to m : ℕ) → to ≤ from → from + m ≤ length l → l ≡ move_down l from to 0
-down-begin l from to m down fits = sym (down-none l from to down (omega arith))
+-- x is the list with the body copied, `left` where what it left begins, and y has that zeroed
+module _ (l : List ℕ) (from to m : ℕ) (down : to ≤ from) (fits : from + m ≤ length l) (x : List ℕ) (long : length x ≡ length l)
+    (body : CopiedTo l x from to m) (low : SameBelow l x to) (high : SameFrom l x (to + m)) (left : ℕ) (e : left ≡ max from (to + m)) where
+  pub down_is : splice x left (replicate (from + m - left) 0) ≡ move_down l from to m
+  down_is =
+      ext_get_or 0 y (move_down l from to m) (length-splice x left zeros room ∙ long ∙ sym (length_down l from to m down fits))
+      (λ q h. at q (lt-or q to) (lt-or q (to + m)) (lt-or q from) (lt-or q (from + m)))
+    where
+      zeros : List ℕ
+      zeros = replicate (from + m - left) 0
 
-pub down-more : (l : List ℕ) (from to j m : ℕ) (x : List ℕ) → to ≤ from → (from ≡ to → ⊥) → from + m ≤ length l → j < m
-    → x ≡ move_down l from to j → set (set x (from + j) 0) (to + j) (get_or x (from + j) 0) ≡ move_down l from to (j + 1)
-down-more l from to j m x down e fits h f =
-    ap (λ (y : List ℕ). set (set y (from + j) 0) (to + j) (get_or y (from + j) 0)) f
-    ∙ down_turn l from to j (⊎_elim (λ k. k) (λ k. absurd (e (omega arith))) (lt-or to from)) (omega arith)
+      y : List ℕ
+      y = splice x left zeros
 
-pub down-end : (l : List ℕ) (from to j m : ℕ) (x : List ℕ) → j ≤ m → m ≤ j → x ≡ move_down l from to j → x ≡ move_down l from to m
-down-end l from to j m x h k f = let e : j ≡ m = omega arith in rw e at f
+      size : length zeros ≡ from + m - left
+      size = length-replicate (from + m - left) 0
+
+      room : left + length zeros ≤ length x
+      room = omega (arith, size, long, e)
+
+      -- below what is left, and above it
+      before : (q : ℕ) → q < left → get_or y q 0 ≡ get_or x q 0
+      before q h = get_or-splice_below x left zeros room q h
+
+      at : (q : ℕ) → (q < to) ⊎ (to ≤ q) → (q < to + m) ⊎ (to + m ≤ q) → (q < from) ⊎ (from ≤ q) → (q < from + m) ⊎ (from + m ≤ q)
+          → get_or y q 0 ≡ get_or (move_down l from to m) q 0
+      at q (inl a) b c d = before q (omega (arith, e)) ∙ low q 0 a ∙ sym (down_low l from to m down fits q a)
+      at q (inr a) (inl b) c d =
+          let f : to + (q - to) ≡ q = omega arith in
+          before q (omega (arith, e)) ∙ body q 0 a b
+          ∙ sym (ap (λ (i : ℕ). get_or (move_down l from to m) i 0) (sym f) ∙ down_body l from to m down fits (q - to) (omega arith))
+      at q (inr a) (inr b) (inl c) d = before q (omega (arith, e)) ∙ high q 0 b ∙ sym (down_between l from to m down fits q b c)
+      at q (inr a) (inr b) (inr c) (inl d) =
+          let f : left + (q - left) ≡ q = omega (arith, e) in
+          ap (λ (i : ℕ). get_or y i 0) (sym f)
+          ∙ get_or-splice_in x left zeros room (q - left) (omega (arith, size, e))
+          ∙ get_or-replicate (from + m - left) (q - left) 0 0 (omega (arith, e))
+          ∙ sym (down_gone l from to m down fits q b c d)
+      at q (inr a) (inr b) (inr c) (inr d) =
+          get_or-splice_above x left zeros room q (omega (arith, size, e)) ∙ high q 0 b ∙ sym (down_high l from to m down fits q d)

@@ -3,7 +3,7 @@ use mathlib.Core.Path.{◌≡◌, sym, ap, ◌∙◌}
 use mathlib.Core.List.{List}
 use mathlib.Core.Bool.{Bool, true, false, not, false≢true}
 use mathlib.Core.Logic.{◌⊎◌, inl, inr, ⊎_elim}
-use Prim.Native.Nat.{ℕ, ◌+◌, ◌-◌, ◌/◌, ◌%◌, ◌^◌, ◌<◌, ◌≤◌}
+use Prim.Native.Nat.{ℕ, ◌+◌, ◌-◌, ◌/◌, ◌%◌, ◌^◌, ◌<◌, ◌≤◌, min}
 use native.Mathlib.Nat.{not-suc-le-zero, zero-div}
 use native.Mathlib.Omega.{arith}
 use lib.Dec.{eqb}
@@ -32,9 +32,9 @@ module _ (seen : List ℕ) (from to : ℕ) where
 
   -- x is the word, shifted to p, and m the number of its bits that are looked at
   module _ (p x m : ℕ) (i : Passed seen from to p) (low : p < to) (shifted : x ≡ get_or seen (p / 64) 0 / 2 ^ (p % 64)) (c : Bool)
-      (asked : c ≡ eqb (x % 2 ^ m) 0) where
-    pub passed_more : not c ≡ false → ((k : ℕ) → k < to - p → k < 64 - p % 64 → k < m) → Passed seen from to (p + (64 - p % 64))
-    passed_more e f =
+      (asked : c ≡ eqb (x % 2 ^ m) 0) (few : m ≡ min (to - p) (64 - p % 64)) where
+    pub passed_more : not c ≡ false → Passed seen from to (p + (64 - p % 64))
+    passed_more e =
         record { up = omega (arith, i.up); none = λ k h l n. ⊎_elim (λ j. i.none k h j n) (λ j. new k l n j) (lt-or k p) }
       where
         off : x % 2 ^ m ≡ 0
@@ -43,13 +43,13 @@ module _ (seen : List ℕ) (from to : ℕ) where
         new : (k : ℕ) → k < p + (64 - p % 64) → k < to → p ≤ k → marked seen k ≡ false
         new k l n j =
             let q : p + (k - p) ≡ k = omega arith in
-            rw q at (key_off seen p (k - p) x shifted (omega arith) (low_off x m off (k - p) (f (k - p) (omega arith) (omega arith))))
+            rw q at (key_off seen p (k - p) x shifted (omega arith) (low_off x m off (k - p) (omega (arith, few))))
 
-    pub passed_fails : not c ≡ true → m ≤ to - p → m ≤ 64 - p % 64 → OneMarked seen from to
-    passed_fails e f g = go (low-some x m (eqb-false (x % 2 ^ m) 0 (sym asked ∙ not-true c e)))
+    pub passed_fails : not c ≡ true → OneMarked seen from to
+    passed_fails e = go (low-some x m (eqb-false (x % 2 ^ m) 0 (sym asked ∙ not-true c e)))
       where
         go : LowOn x m → OneMarked seen from to
-        go (low-on k l h) = one (p + k) (omega (arith, i.up)) (omega arith) (key_on seen p k x shifted (omega arith) h)
+        go (low-on k l h) = one (p + k) (omega (arith, i.up)) (omega (arith, few)) (key_on seen p k x shifted (omega (arith, few)) h)
 
 -- What an answer says
 pub when_yes : {A B : Type 0} (r : Bool) → When r A B → not r ≡ false → A

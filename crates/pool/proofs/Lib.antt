@@ -19,3 +19,4 @@ pub mod Totals
 pub mod Wiping
 pub mod Updates
 pub mod Numbered
+pub mod Fills

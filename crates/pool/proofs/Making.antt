@@ -6,8 +6,7 @@ use mathlib.Core.Logic.{◌⊎◌, inl, inr, ⊎_elim}
 use Prim.Native.Nat.{ℕ, ◌+◌, ◌-◌, ◌<◌, ◌≤◌}
 use native.Mathlib.Omega.{arith}
 use lib.ListN.{length, replicate}
-use Rattle.laws.specs.declared.Found.{Found}
-use Rattle.laws.specs.declared.Found.TheVariants.{At, Nothing}
+use Rattle.std.specs.Prelude.{Option, Some, None}
 use Rattle.laws.specs.Lists.{splice}
 use Rattle.laws.specs.Walks.{sum_below}
 use Rattle.laws.proofs.Firsts.{first_is}
@@ -32,24 +31,24 @@ total-end z n s sum e h k = let q : s ≡ n = omega arith in rw q at e
 
 module _ (n : ℕ) (a z : ℕ → ℕ) (len m p : ℕ) where
   -- a gap that was found lies in the pool, and in no body
-  pub gap_room : (g : Found) → g ≡ lowest_gap n a z len m → g ≡ At p → p + m ≤ len
+  pub gap_room : (g : Option ℕ) → g ≡ lowest_gap n a z len m → g ≡ Some p → p + m ≤ len
   unfolding lowest_gap
   gap_room g e f = let h = first_is (len + 1 - m) (fits n a z m) p (sym e ∙ f) in omega (arith, h.low)
 
-  pub gap_fits : (g : Found) → g ≡ lowest_gap n a z len m → g ≡ At p → fits n a z m p ≡ true
+  pub gap_fits : (g : Option ℕ) → g ≡ lowest_gap n a z len m → g ≡ Some p → fits n a z m p ≡ true
   unfolding lowest_gap
   gap_fits g e f = (first_is (len + 1 - m) (fits n a z m) p (sym e ∙ f)).here
 
-module _ (n m : ℕ) (img pool : List ℕ) (g : Found) (found : g ≡ lowest_gap n (start_at img) (body_at img) (length pool) m) where
+module _ (n m : ℕ) (img pool : List ℕ) (g : Option ℕ) (found : g ≡ lowest_gap n (start_at img) (body_at img) (length pool) m) where
   is : gap_for n img (length pool) m ≡ g
   unfolding gap_for
   is = sym found
 
-  pub make_gap : (p : ℕ) → g ≡ At p → (new : List ℕ) → new ≡ splice pool p (replicate m 255)
+  pub make_gap : (p : ℕ) → g ≡ Some p → (new : List ℕ) → new ≡ splice pool p (replicate m 255)
       → Placed (gap_for n img (length pool) m) n m img pool (record { start = p; moved = 0 }) img new
   make_gap p e new f = rw (is, e) (record { start = refl; moved = refl; image = refl; bytes = f })
 
-  pub make-packed : g ≡ Nothing → (end moved : ℕ) (new_image middle new : List ℕ) → end ≡ sum_below n (body_at img)
+  pub make-packed : g ≡ None → (end moved : ℕ) (new_image middle new : List ℕ) → end ≡ sum_below n (body_at img)
       → moved ≡ moved_bytes n (start_at img) (body_at img)
       → new_image ≡ packed_image n img → middle ≡ packed_pool n (start_at img) (body_at img) pool → new ≡ splice middle end (replicate m 255)
       → Placed (gap_for n img (length pool) m) n m img pool (record { start = end; moved = moved }) new_image new
@@ -86,20 +85,20 @@ module _ (n : ℕ) (a z : ℕ → ℕ) (len : ℕ) (laid : Laid n a z len) where
       base : below n a z (p + m) + m ≤ p + m
       base = omega (arith, below-same a z n p (p + m) (omega arith) none, climb_all n a z len laid p p (omega arith) before)
 
-  pub gap_sum : (m p : ℕ) → lowest_gap n a z len m ≡ At p → sum_below n z + m ≤ len
-  gap_sum m p e = fits_sum m p (gap_fits n a z len m p (At p) (sym e) refl) (gap_room n a z len m p (At p) (sym e) refl)
+  pub gap_sum : (m p : ℕ) → lowest_gap n a z len m ≡ Some p → sum_below n z + m ≤ len
+  gap_sum m p e = fits_sum m p (gap_fits n a z len m p (Some p) (sym e) refl) (gap_room n a z len m p (Some p) (sym e) refl)
 
 -- The place lies in the pool and in no body of the image afterwards
 module _ (n m : ℕ) (img pool : List ℕ) (sized : Sized img n) (laid : Laid n (start_at img) (body_at img) (length pool))
     (room : sum_below n (body_at img) + m ≤ length pool) where
-  pub place-room : (g : Found) → g ≡ lowest_gap n (start_at img) (body_at img) (length pool) m → place_at g n img + m ≤ length pool
-  place-room (At p) e = gap_room n (start_at img) (body_at img) (length pool) m p (At p) e refl
-  place-room Nothing e = room
+  pub place-room : (g : Option ℕ) → g ≡ lowest_gap n (start_at img) (body_at img) (length pool) m → place_at g n img + m ≤ length pool
+  place-room (Some p) e = gap_room n (start_at img) (body_at img) (length pool) m p (Some p) e refl
+  place-room None e = room
 
-  pub place-free : (g : Found) → g ≡ lowest_gap n (start_at img) (body_at img) (length pool) m
+  pub place-free : (g : Option ℕ) → g ≡ lowest_gap n (start_at img) (body_at img) (length pool) m
       → fits n (start_at (place_image g n img)) (body_at (place_image g n img)) m (place_at g n img) ≡ true
-  place-free (At p) e = gap_fits n (start_at img) (body_at img) (length pool) m p (At p) e refl
-  place-free Nothing e =
+  place-free (Some p) e = gap_fits n (start_at img) (body_at img) (length pool) m p (Some p) e refl
+  place-free None e =
       fits_is n (start_at (packed_image n img)) (body_at (packed_image n img)) m (sum_below n (body_at img))
       (λ t l x. inl (low t l (omega (arith, after-size n img pool sized laid t l))))
     where
@@ -113,9 +112,9 @@ module _ (n m : ℕ) (img pool : List ℕ) (sized : Sized img n) (laid : Laid n 
                 (body_at img) (length pool) laid t l x,
           )
 
-  pub place-laid : (g : Found) → Laid n (start_at (place_image g n img)) (body_at (place_image g n img)) (length pool)
-  place-laid (At p) = laid
-  place-laid Nothing = after-laid n img pool sized laid
+  pub place-laid : (g : Option ℕ) → Laid n (start_at (place_image g n img)) (body_at (place_image g n img)) (length pool)
+  place-laid (Some p) = laid
+  place-laid None = after-laid n img pool sized laid
 
 -- Bodies come and go: where each body that is left is as it was, all still lie in the pool, apart; and with a new
 -- one in a place that was free (a free slot f gets a body of m bytes from p on)

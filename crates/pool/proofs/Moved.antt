@@ -7,8 +7,7 @@ use Prim.Native.Nat.{ℕ, zero, suc, ◌+◌, ◌-◌, ◌<◌, ◌≤◌}
 use native.Mathlib.Omega.{arith}
 use lib.Dec.{eqb, leb}
 use borrow.Author.Tests.{eq-eqb, ne_eqb, le-leb, lt-leb}
-use Rattle.laws.specs.declared.Found.{Found}
-use Rattle.laws.specs.declared.Found.TheVariants.{At, Nothing}
+use Rattle.std.specs.Prelude.{Option, Some, None}
 use Rattle.laws.specs.Walks.{sum_below, first_below, any_below, if_so}
 use Rattle.laws.proofs.Firsts.{first-at, first_is, no-first, nothing-below}
 use Rattle.laws.proofs.Walks.{any_at, none_any}
@@ -35,7 +34,7 @@ weightless a w p t e = ⊎_elim (λ h. counts a w p t h ∙ e) (λ h. counts-not
 module _ (n : ℕ) (a z : ℕ → ℕ) (len : ℕ) (laid : Laid n a z len) where
   -- The lowest gap afterwards starts where the bodies end, and there is one exactly where the sum of all sizes
   -- leaves the room: fragmentation never decides (Ticket 4)
-  pub gap_after : (m : ℕ) → 0 < m → lowest_gap n (packed_start n a z) z len m ≡ cond (leb (sum_below n z + m) len) (At (sum_below n z)) Nothing
+  pub gap_after : (m : ℕ) → 0 < m → lowest_gap n (packed_start n a z) z len m ≡ cond (leb (sum_below n z + m) len) (Some (sum_below n z)) None
   unfolding lowest_gap
   gap_after m x = ⊎_elim room full (lt-or len (sum_below n z + m))
     where
@@ -47,12 +46,12 @@ module _ (n : ℕ) (a z : ℕ → ℕ) (len : ℕ) (laid : Laid n a z len) where
           go (covering t l j k) = fits_not n (packed_start n a z) z m q t l (omega arith) k (omega arith)
 
       room : len < sum_below n z + m
-          → first_below (len + 1 - m) (fits n (packed_start n a z) z m) ≡ cond (leb (sum_below n z + m) len) (At (sum_below n z)) Nothing
+          → first_below (len + 1 - m) (fits n (packed_start n a z) z m) ≡ cond (leb (sum_below n z + m) len) (Some (sum_below n z)) None
       room h =
           rw (lt-leb (sum_below n z + m) len h) (nothing-below (fits n (packed_start n a z) z m) (len + 1 - m) (λ q l. never q (omega arith)))
 
       full : sum_below n z + m ≤ len
-          → first_below (len + 1 - m) (fits n (packed_start n a z) z m) ≡ cond (leb (sum_below n z + m) len) (At (sum_below n z)) Nothing
+          → first_below (len + 1 - m) (fits n (packed_start n a z) z m) ≡ cond (leb (sum_below n z + m) len) (Some (sum_below n z)) None
       full h =
           rw (le-leb (sum_below n z + m) len h)
           (first-at (fits n (packed_start n a z) z m) (len + 1 - m) (sum_below n z) (omega arith)
@@ -90,10 +89,10 @@ module _ (n : ℕ) (a z : ℕ → ℕ) (len : ℕ) (laid : Laid n a z len) where
           )
 
   -- a byte that is not free is in a body
-  free_or : (q : ℕ) → is_free n a z q ≡ false → (f : Found) → owner_of n a z q ≡ f → Held n a z q
+  free_or : (q : ℕ) → is_free n a z q ≡ false → (f : Option ℕ) → owner_of n a z q ≡ f → Held n a z q
   unfolding is_free
-  free_or q e (At t) o = let h = owner_is n a z q t o in held t h.slot h.from h.upto
-  free_or q e Nothing o = absurd (differ (fits_is n a z 1 q (λ t l x. side t l (lt-or q (a t)))))
+  free_or q e (Some t) o = let h = owner_is n a z q t o in held t h.slot h.from h.upto
+  free_or q e None o = absurd (differ (fits_is n a z 1 q (λ t l x. side t l (lt-or q (a t)))))
     where
       side : (t : ℕ) → t < n → (q < a t) ⊎ (a t ≤ q) → (a t + z t ≤ q) ⊎ (q + 1 ≤ a t)
       side t l (inl h) = inr (omega arith)
@@ -124,12 +123,12 @@ module _ (n : ℕ) (a z : ℕ → ℕ) (len : ℕ) (laid : Laid n a z len) where
   unfolding above_gap
   gap_tells s l x = go (first_below (a s) (is_free n a z)) refl
     where
-      go : (f : Found) → first_below (a s) (is_free n a z) ≡ f → any_below (a s) (is_free n a z) ≡ not (eqb (a s) (packed_start n a z s))
-      go (At q) e =
+      go : (f : Option ℕ) → first_below (a s) (is_free n a z) ≡ f → any_below (a s) (is_free n a z) ≡ not (eqb (a s) (packed_start n a z s))
+      go (Some q) e =
           let f = first_is (a s) (is_free n a z) q e in
           let m = gap_moves s q l x f.low f.here in
           any_at (is_free n a z) (a s) q f.low f.here ∙ sym (ap not (ne_eqb (a s) (packed_start n a z s) (λ g. omega arith)))
-      go Nothing e =
+      go None e =
           let f = (no-first (a s) (is_free n a z) e).none in
           none_any (is_free n a z) (a s) f ∙ sym (ap not (eq-eqb (a s) (packed_start n a z s) (gap_none s l x f)))
 

@@ -11,8 +11,7 @@ use lib.Dec.{leb, ltb}
 use lib.ListN.{length, get_or, length-append, get_or-append}
 use lib.Seq.{ext_get_or, get_or-append_seam}
 use borrow.Author.Tests.{le-leb, leb-true, lt-ltb, ltb-true}
-use Rattle.laws.specs.declared.Found.{Found}
-use Rattle.laws.specs.declared.Found.TheVariants.{At, Nothing}
+use Rattle.std.specs.Prelude.{Option, Some, None}
 use Rattle.laws.specs.Walks.{sum_below}
 use Rattle.laws.proofs.Walks.{split_lt}
 use Rattle.laws.proofs.Firsts.{first_is, no-first}
@@ -141,14 +140,14 @@ module _ (n : ℕ) (a z : ℕ → ℕ) (q : ℕ) where
     pub from : a t ≤ q
     pub upto : q < a t + z t
 
-  pub owner_is : (t : ℕ) → owner_of n a z q ≡ At t → Holds t
+  pub owner_is : (t : ℕ) → owner_of n a z q ≡ Some t → Holds t
   unfolding owner_of holds
   owner_is t e =
       let f = first_is n (holds a z q) t e in
       let h = (and-says (leb (a t) q) (ltb q (a t + z t))).0 f.here in
       record { slot = f.low; from = leb-true (a t) q h.0; upto = ltb-true q (a t + z t) h.1 }
 
-  pub owner_none : owner_of n a z q ≡ Nothing → (t : ℕ) → t < n → a t ≤ q → q < a t + z t → ⊥
+  pub owner_none : owner_of n a z q ≡ None → (t : ℕ) → t < n → a t ≤ q → q < a t + z t → ⊥
   unfolding owner_of holds
   owner_none e t l h k =
       let f = (no-first n (holds a z q) e).none t l in
@@ -163,21 +162,21 @@ module _ (n : ℕ) (a z : ℕ → ℕ) (old new : List ℕ) (laid : Laid n a z (
   starts : (t : ℕ) → t < n → 0 < z t → a t < length old
   starts t l x = omega (arith, laid.inside t l x)
 
-  left : (q : ℕ) → to ≤ q → (f : Found) → owner_of n a z q ≡ f → get_or new q 0 ≡ left_byte f (get_or old q 0)
-  left q h (At t) e =
+  left : (q : ℕ) → to ≤ q → (f : Option ℕ) → owner_of n a z q ≡ f → get_or new q 0 ≡ left_byte f (get_or old q 0)
+  left q h (Some t) e =
       let o = owner_is n a z q t e in
       i.gone q t h o.slot (starts t o.slot (omega (arith, o.from, o.upto))) o.from o.upto
-  left q h Nothing e = i.kept q h (λ t l x k j. ⊎_elim (λ y. absurd (owner_none n a z q e t l j y)) (λ y. y) (lt-or q (a t + z t)))
+  left q h None e = i.kept q h (λ t l x k j. ⊎_elim (λ y. absurd (owner_none n a z q e t l j y)) (λ y. y) (lt-or q (a t + z t)))
 
-  at : (q : ℕ) → (f : Found) → owner_of n (packed_start n a z) z q ≡ f
+  at : (q : ℕ) → (f : Option ℕ) → owner_of n (packed_start n a z) z q ≡ f
       → get_or new q 0 ≡ moved_byte a (packed_start n a z) old q f (owner_of n a z q)
-  at q (At t) e =
+  at q (Some t) e =
       let o = owner_is n (packed_start n a z) z q t e in
       let j : packed_start n a z t + (q - packed_start n a z t) ≡ q = omega (arith, o.from) in
       ap (λ (u : ℕ). get_or new u 0) (sym j)
       ∙ i.body t o.slot (starts t o.slot (omega (arith, o.from, o.upto))) (q - packed_start n a z t)
       (omega (arith, o.from, o.upto))
-  at q Nothing e =
+  at q None e =
       left q (⊎_elim (λ h. absurd (held
       (covered n a z (length old) laid (length old) q (omega (arith, below_len n a z (length old) laid z (λ t l. omega arith)))))) (λ h. h)
       (lt-or q to)) (owner_of n a z q) refl

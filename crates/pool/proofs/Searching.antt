@@ -4,7 +4,7 @@ use mathlib.Core.Bool.{false}
 use mathlib.Core.Logic.{◌⊎◌, inl, inr, ⊎_elim}
 use Prim.Native.Nat.{ℕ, ◌+◌, ◌-◌, ◌<◌, ◌≤◌}
 use native.Mathlib.Omega.{arith}
-use Rattle.laws.specs.declared.Found.TheVariants.{At, Nothing}
+use Rattle.std.specs.Prelude.{Some, None}
 use Rattle.laws.proofs.Firsts.{first-at, nothing-below}
 use Rattle.laws.proofs.Says.{lt-or}
 use Rattle.pool.specs.Laid.{Laid}
@@ -67,7 +67,7 @@ module _ (n : ℕ) (a z : ℕ → ℕ) (len m : ℕ) where
 
   -- no body starts from p to e, and the gap is long enough
   pub searched_found : (p e low : ℕ) → Searched n a z len m p low → e ≤ len → NoneFrom n a z p e → low + m ≤ e
-      → At low ≡ lowest_gap n a z len m
+      → Some low ≡ lowest_gap n a z len m
   unfolding lowest_gap
   searched_found p e low i h b j =
       sym (first-at (fits n a z m) (len + 1 - m) low (omega (arith, i.short)) (nothing-below (fits n a z m) low i.lower)
@@ -78,7 +78,7 @@ module _ (n : ℕ) (a z : ℕ → ℕ) (len m : ℕ) where
       side t l x (inr y) = inr (⊎_elim (λ k. absurd (b.none t l x y k)) (λ k. omega arith) (lt-or (a t) e))
 
   -- the pool is at its end
-  pub searched_none : (p low : ℕ) → Searched n a z len m p low → len ≤ p → Nothing ≡ lowest_gap n a z len m
+  pub searched_none : (p low : ℕ) → Searched n a z len m p low → len ≤ p → None ≡ lowest_gap n a z len m
   unfolding lowest_gap
   searched_none p low i h =
       sym (nothing-below (fits n a z m) (len + 1 - m) (λ k l. i.lower k (omega (arith, i.short, i.in-pool))))

@@ -1,7 +1,6 @@
 -- Gaps: bytes of the pool in no body; the lowest place for a new body (02 Ticket 4: "the lowest gap that fits"); what lies above a gap
 -- (Ticket 8).
-use Rattle.std.specs.Prelude.{Bool, ℕ, ◌+◌, ◌-◌}
-use Rattle.laws.specs.declared.Found.{Found}
+use Rattle.std.specs.Prelude.{Bool, ℕ, ◌+◌, ◌-◌, Option}
 use Rattle.laws.specs.Walks.{all_below, any_below, first_below}
 use Rattle.pool.specs.Laid.{clear}
 
@@ -14,7 +13,7 @@ unfoldable pub is_free : ℕ → (ℕ → ℕ) → (ℕ → ℕ) → ℕ → Boo
 is_free n a z q = fits n a z 1 q
 
 -- the lowest byte from which on m bytes of the pool are in no body
-unfoldable pub lowest_gap : ℕ → (ℕ → ℕ) → (ℕ → ℕ) → ℕ → ℕ → Found
+unfoldable pub lowest_gap : ℕ → (ℕ → ℕ) → (ℕ → ℕ) → ℕ → ℕ → Option ℕ
 lowest_gap n a z len m = first_below (len + 1 - m) (fits n a z m)
 
 -- the body of s lies above a gap

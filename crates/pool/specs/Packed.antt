@@ -1,9 +1,8 @@
 -- All bodies moved down (02 Ticket 4: "bodies are moved down first, in order"): each starts afterwards where those that started below it
 -- end. "Vacated bytes become 00" (those in a body before and in none after), all others stay. The count of bytes moved, and the sum that
 -- Ticket 8 says it is.
-use Rattle.std.specs.Prelude.{List, [], ◌∷◌, ◌++◌, Bool, cond, not, ◌&&◌, ℕ, zero, suc, ◌+◌, ◌-◌, eqb, leb, ltb, length, get_or, replicate}
-use Rattle.laws.specs.declared.Found.{Found}
-use Rattle.laws.specs.declared.Found.TheVariants.{At, Nothing}
+use Rattle.std.specs.Prelude.{List, [], ◌∷◌, ◌++◌, Bool, cond, not, ◌&&◌, ℕ, zero, suc, ◌+◌, ◌-◌, eqb}
+use Rattle.std.specs.Prelude.{leb, ltb, length, get_or, replicate, Option, Some, None}
 use Rattle.laws.specs.Lists.{part, splice}
 use Rattle.laws.specs.Walks.{sum_below, first_below, if_so}
 use Rattle.image.specs.Layout.{set_start}
@@ -27,18 +26,18 @@ unfoldable pub holds : (ℕ → ℕ) → (ℕ → ℕ) → ℕ → ℕ → Bool
 holds a z q t = leb (a t) q && ltb q (a t + z t)
 
 -- the slot whose body byte q is in
-unfoldable pub owner_of : ℕ → (ℕ → ℕ) → (ℕ → ℕ) → ℕ → Found
+unfoldable pub owner_of : ℕ → (ℕ → ℕ) → (ℕ → ℕ) → ℕ → Option ℕ
 owner_of n a z q = first_below n (holds a z q)
 
 -- a byte in no body afterwards: 00 where it was in one
-abbrev pub left_byte : Found → ℕ → ℕ
-left_byte (At t) old = 0
-left_byte Nothing old = old
+abbrev pub left_byte : Option ℕ → ℕ → ℕ
+left_byte (Some t) old = 0
+left_byte None old = old
 
 -- a byte afterwards: b starts the bodies then
-abbrev pub moved_byte : (ℕ → ℕ) → (ℕ → ℕ) → List ℕ → ℕ → Found → Found → ℕ
-moved_byte a b pool q (At t) was = get_or pool (a t + (q - b t)) 0
-moved_byte a b pool q Nothing was = left_byte was (get_or pool q 0)
+abbrev pub moved_byte : (ℕ → ℕ) → (ℕ → ℕ) → List ℕ → ℕ → Option ℕ → Option ℕ → ℕ
+moved_byte a b pool q (Some t) was = get_or pool (a t + (q - b t)) 0
+moved_byte a b pool q None was = left_byte was (get_or pool q 0)
 
 unfoldable pub packed_byte : ℕ → (ℕ → ℕ) → (ℕ → ℕ) → List ℕ → ℕ → ℕ
 packed_byte n a z pool q =

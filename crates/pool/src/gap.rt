@@ -6,11 +6,11 @@ ghost use Rattle.pool.specs.Laid.{Laid};
 ghost use Rattle.pool.specs.Gaps.{lowest_gap};
 ghost use Rattle.pool.specs.Index.{Chained};
 
-use crate::{body, index};
-use laws::Found;
+use crate::body;
+use crate::index::Index;
 
 // .. by the index: the bytes from `low` to p are in no body, and too few.
-fn by_index(index: &[u16; 3072], image: &[u8], n: usize, len: usize, size: usize) -> Found
+fn by_index(index: &Index, image: &[u8], n: usize, len: usize, size: usize) -> Option<usize>
     requires sized { Sized image.now n × ((len < 65536) × (0 < size)) }
     requires laid { Laid n (start_at image.now) (body_at image.now) len }
     requires chained { Chained n (start_at image.now) (body_at image.now) index.now }
@@ -18,28 +18,29 @@ fn by_index(index: &[u16; 3072], image: &[u8], n: usize, len: usize, size: usize
 {
     let mut low = 0;
     let mut p = 0;
+    // No `for`: a step takes a body or a cell, and only the index tells how far that is.
     while p < len {
-        let next = index::ahead(index, len, p);
-        if size <= next.end - low {
-            return Found::At(low);
+        let ahead = index.ahead(len, p);
+        if size <= ahead.end - low {
+            return Some(low);
         }
-        p = next.end;
-        if next.mark == 0 {
+        p = ahead.end;
+        let Some(s) = ahead.next else {
             continue;
-        }
-        p += body::size(image, next.mark - 1);
+        };
+        p += body::size(image, s);
         low = p;
     }
-    Found::Nothing
+    None
 }
 
 // The lowest byte from which on `size` bytes of the pool are in no body.
-pub fn lowest_gap(image: &[u8], n: usize, len: usize, size: usize) -> Found
+pub fn lowest_gap(image: &[u8], n: usize, len: usize, size: usize) -> Option<usize>
     requires sized { Sized image.now n × ((len < 65536) × (0 < size)) }
     requires laid { Laid n (start_at image.now) (body_at image.now) len }
     ensures { result ≡ lowest_gap n (start_at image.now) (body_at image.now) len size }
 {
-    let mut index = [0u16; 3072];
-    index::fill(&mut index, image, n);
+    let mut index = Index::new();
+    index.fill(image, n);
     by_index(&index, image, n, len, size)
 }

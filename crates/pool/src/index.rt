@@ -1,89 +1,132 @@
 // The index of the bodies: which one comes next in the pool from a byte on. It answers no sentence of 02: with it a walk over the pool (the
 // lowest gap, moving down) takes each body and each cell of 64 free bytes in one step, and 6 KiB of stack.
-ghost use Rattle.std.specs.Prelude.{◌≡◌, ◌+◌, ◌<◌, get_or};
+ghost use Rattle.std.specs.Prelude.{◌≡◌, ℕ, ◌+◌, ◌<◌};
 ghost use Rattle.image.specs.Layout.{Within, Sized};
 ghost use Rattle.pool.specs.Bodies.{start_at, body_at};
-ghost use Rattle.pool.specs.Index.{Linked, Chained, linking, nearer_of, Seen};
+ghost use Rattle.pool.specs.Index.{mark_of, first_in, next_of, Linked, Chained, linking, nearer_of, Seen};
 
-use crate::{Ahead, body, stretch};
+use crate::{Ahead, body};
 
-// Number i of the index.
-fn number(index: &[u16; 3072], i: usize) -> usize
-    requires { i < 3072 }
-    ensures { result ≡ get_or index.now i 0 }
-{
-    wide(index[i])
+// Of a slot: where its body starts, and the mark of the slot after it in its chain.
+#[derive(Clone, Copy)]
+struct Link {
+    place: u16,
+    next: u16,
 }
 
-fn wide(x: u16) -> usize
-    ensures { result ≡ x }
-{
-    x as usize
+// The first mark of each cell's chain, and the links of all slots. A mark is a slot plus one, or 0 for none: an Option of a slot is twice
+// as long, and the stack of a call is bounded (`HULL_STACK_BYTES`).
+#[derive(Drop)]
+pub struct Index {
+    firsts: [u16; 1024],
+    links: [Link; 1024],
 }
 
-// Puts slot s, whose body starts at p, first into its chain.
-fn link(index: &mut [u16; 3072], s: usize, p: usize)
-    requires { (s < 1023) × (p < 65536) }
-    ensures { index.new ≡ linking index.old s p }
+// The slot of a mark.
+fn slot(mark: u16) -> Option<usize>
+    ensures { mark_of result ≡ mark }
 {
-    let first = index[p / 64];
-    index[2048 + s] = p as u16;
-    index[1024 + s] = first;
-    index[p / 64] = (s + 1) as u16;
+    (mark as usize).checked_sub(1)
 }
 
-// Puts slot s into the index, if it has a body.
-fn put(index: &mut [u16; 3072], image: &[u8], s: usize)
-    requires within { Within image.now s }
-    requires chained { Chained s (start_at image.now) (body_at image.now) index.old }
-    ensures { Chained (s + 1) (start_at image.now) (body_at image.now) index.new }
-{
-    if body::size(image, s) == 0 {
-        return;
+impl Index {
+    // Of no body.
+    #[inline(always)]
+    pub fn new() -> Self
+        ensures { (a z : ℕ → ℕ) → Chained 0 a z result }
+    {
+        Index {
+            firsts: [0; 1024],
+            links: [Link { place: 0, next: 0 }; 1024],
+        }
     }
-    link(index, s, body::start(image, s));
-}
 
-// The index of all n slots, from that of none.
-pub fn fill(index: &mut [u16; 3072], image: &[u8], n: usize)
-    requires sized { Sized image.now n }
-    requires chained { Chained 0 (start_at image.now) (body_at image.now) index.old }
-    ensures { Chained n (start_at image.now) (body_at image.now) index.new }
-{
-    let mut s = 0;
-    while s < n {
-        put(index, image, s);
-        s += 1;
+    // Puts slot s, whose body starts at p, first into its chain.
+    fn link(&mut self, s: usize, p: usize)
+        requires { (s < 1023) × (p < 65536) }
+        ensures { self.new ≡ linking self.old s p }
+    {
+        self.links[s] = Link {
+            place: p as u16,
+            next: self.firsts[p / 64],
+        };
+        self.firsts[p / 64] = (s + 1) as u16;
     }
-}
 
-// The nearer one to p: the body of mark x, where it starts at p or above and before the other.
-fn nearer(index: &[u16; 3072], p: usize, best: Ahead, x: usize) -> Ahead
-    requires { x < 1024 }
-    ensures { result ≡ nearer_of index.now p best x }
-{
-    let at = number(index, 2047 + x);
-    if at < p {
-        return best;
+    // Puts slot s into the index, if it has a body.
+    fn put(&mut self, image: &[u8], s: usize)
+        requires within { Within image.now s }
+        requires chained { Chained s (start_at image.now) (body_at image.now) self.old }
+        ensures { Chained (s + 1) (start_at image.now) (body_at image.now) self.new }
+    {
+        if body::size(image, s) == 0 {
+            return;
+        }
+        self.link(s, body::start(image, s));
     }
-    if best.end <= at {
-        return best;
-    }
-    Ahead { end: at, mark: x }
-}
 
-// What lies ahead of byte p: the next body that starts in its cell, or the cell's end, or the pool's.
-pub fn ahead(index: &[u16; 3072], len: usize, p: usize) -> Ahead
-    requires linked { Linked index.now }
-    requires p_lt_len { (p < len) × (len < 65536) }
-    ensures { Seen index.now len p result }
-{
-    let end = stretch::least(len, (p / 64 + 1) * 64);
-    let mut best = Ahead { end: end, mark: 0 };
-    let mut x = number(index, p / 64);
-    while x != 0 {
-        best = nearer(index, p, best, x);
-        x = number(index, 1023 + x);
+    // The index of all n slots, from that of none.
+    pub fn fill(&mut self, image: &[u8], n: usize)
+        requires sized { Sized image.now n }
+        requires chained { Chained 0 (start_at image.now) (body_at image.now) self.old }
+        ensures { Chained n (start_at image.now) (body_at image.now) self.new }
+    {
+        for s in 0..n {
+            self.put(image, s);
+        }
     }
-    best
+
+    // The first slot of the chain of p's cell.
+    fn first(&self, p: usize) -> Option<usize>
+        requires { p < 65536 }
+        ensures { mark_of result ≡ first_in self.now p }
+    {
+        slot(self.firsts[p / 64])
+    }
+
+    // The slot after s in its chain.
+    fn after(&self, s: usize) -> Option<usize>
+        requires { s < 1024 }
+        ensures { mark_of result ≡ next_of self.now s }
+    {
+        slot(self.links[s].next)
+    }
+
+    // The nearer one to p: the body of slot s, where it starts at p or above and before the other.
+    fn nearer(&self, p: usize, best: Ahead, s: usize) -> Ahead
+        requires { s < 1024 }
+        ensures { result ≡ nearer_of self.now p best s }
+    {
+        let at = self.links[s].place as usize;
+        if at < p {
+            return best;
+        }
+        if best.end <= at {
+            return best;
+        }
+        Ahead {
+            end: at,
+            next: Some(s),
+        }
+    }
+
+    // What lies ahead of byte p: the next body that starts in its cell, or the cell's end, or the pool's.
+    pub fn ahead(&self, len: usize, p: usize) -> Ahead
+        requires linked { Linked self.now }
+        requires p_lt_len { (p < len) × (len < 65536) }
+        ensures { Seen self.now len p result }
+    {
+        let end = len.min((p / 64 + 1) * 64);
+        let mut best = Ahead {
+            end: end,
+            next: None,
+        };
+        let mut on = self.first(p);
+        // No `for`: each slot names the next.
+        while let Some(s) = on {
+            best = self.nearer(p, best, s);
+            on = self.after(s);
+        }
+        best
+    }
 }

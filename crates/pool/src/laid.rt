@@ -7,9 +7,10 @@ ghost use Rattle.pool.specs.Laid.{laid as is_laid, LaidIn};
 ghost use Rattle.pool.specs.Entered.{When, EnteredIn, AloneIn};
 
 use crate::{body, stretch};
+use keys::Keys;
 
 // Puts the start of the body of s into the set; no where it leaves the pool, or another starts there.
-fn enter(seen: &mut [u64; 1024], image: &[u8], n: usize, len: usize, s: usize) -> bool
+fn enter(seen: &mut Keys, image: &[u8], n: usize, len: usize, s: usize) -> bool
     requires sized { Sized image.now n × (s < n) }
     requires entered_in { EnteredIn image.now s len seen.old }
     ensures { When result (EnteredIn image.now (s + 1) len seen.new) (LaidIn image.now n len → ⊥) }
@@ -23,31 +24,29 @@ fn enter(seen: &mut [u64; 1024], image: &[u8], n: usize, len: usize, s: usize) -
         return false;
     }
     let key = start as u16;
-    if keys::has(seen, key) {
+    if seen.has(key) {
         return false;
     }
-    keys::put(seen, key);
+    seen.put(key);
     true
 }
 
 // .. of all slots.
-fn enter_all(seen: &mut [u64; 1024], image: &[u8], n: usize, len: usize) -> bool
+fn enter_all(seen: &mut Keys, image: &[u8], n: usize, len: usize) -> bool
     requires sized { Sized image.now n }
     requires entered_in { EnteredIn image.now 0 len seen.old }
     ensures { When result (EnteredIn image.now n len seen.new) (LaidIn image.now n len → ⊥) }
 {
-    let mut s = 0;
-    while s < n {
+    for s in 0..n {
         if !enter(seen, image, n, len, s) {
             return false;
         }
-        s += 1;
     }
     true
 }
 
 // Whether no body starts within that of s.
-fn alone(seen: &[u64; 1024], image: &[u8], n: usize, len: usize, s: usize) -> bool
+fn alone(seen: &Keys, image: &[u8], n: usize, len: usize, s: usize) -> bool
     requires sized { Sized image.now n × ((s < n) × (len < 65536)) }
     requires entered_in { EnteredIn image.now n len seen.now }
     ensures { When result (AloneIn image.now seen.now s) (LaidIn image.now n len → ⊥) }
@@ -64,17 +63,15 @@ fn alone(seen: &[u64; 1024], image: &[u8], n: usize, len: usize, s: usize) -> bo
 }
 
 // .. within any.
-fn alone_all(seen: &[u64; 1024], image: &[u8], n: usize, len: usize) -> bool
+fn alone_all(seen: &Keys, image: &[u8], n: usize, len: usize) -> bool
     requires sized { Sized image.now n × (len < 65536) }
     requires entered_in { EnteredIn image.now n len seen.now }
     ensures { result ≡ is_laid n (start_at image.now) (body_at image.now) len }
 {
-    let mut s = 0;
-    while s < n {
+    for s in 0..n {
         if !alone(seen, image, n, len, s) {
             return false;
         }
-        s += 1;
     }
     true
 }
@@ -84,7 +81,7 @@ pub fn laid(image: &[u8], n: usize, len: usize) -> bool
     requires { Sized image.now n × (len < 65536) }
     ensures { result ≡ is_laid n (start_at image.now) (body_at image.now) len }
 {
-    let mut seen = [0u64; 1024];
+    let mut seen = Keys::new();
     if !enter_all(&mut seen, image, n, len) {
         return false;
     }

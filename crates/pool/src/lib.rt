@@ -22,10 +22,10 @@ pub struct Room {
     pub moved: usize,
 }
 
-// What lies ahead of a byte of the pool: no body starts before `end`; there starts that of slot `mark` - 1, or, where the mark is 0,
+// What lies ahead of a byte of the pool: no body starts before `end`; there starts that of slot `next`, or, where there is none,
 // the cell or the pool ends.
 #[derive(Clone, Copy)]
 pub struct Ahead {
     pub end: usize,
-    pub mark: usize,
+    pub next: Option<usize>,
 }

@@ -8,10 +8,11 @@ ghost use Rattle.pool.specs.Laid.{Laid};
 ghost use Rattle.pool.specs.Index.{Chained};
 ghost use Rattle.pool.specs.Packed.{move_down, moved_bytes, packed_image, packed_pool};
 
-use crate::{body, index};
+use crate::body;
+use crate::index::Index;
 use image::write;
 
-// Moves `size` bytes down, byte by byte; those that are left become 00.
+// Moves `size` bytes down; those that are left become 00.
 fn move_down(pool: &mut [u8], from: usize, to: usize, size: usize)
     requires { (to ≤ from) × (from + size ≤ length pool.old) }
     ensures { pool.new ≡ move_down pool.old from to size }
@@ -19,13 +20,9 @@ fn move_down(pool: &mut [u8], from: usize, to: usize, size: usize)
     if from == to {
         return;
     }
-    let mut j = 0;
-    while j < size {
-        let byte = pool[from + j];
-        pool[from + j] = 0;
-        pool[to + j] = byte;
-        j += 1;
-    }
+    pool.copy_within(from..from + size, to);
+    let left = from.max(to + size);
+    pool[left..from + size].fill(0);
 }
 
 // How many bytes a body of `size` counts for.
@@ -39,7 +36,7 @@ fn counted(from: usize, to: usize, size: usize) -> usize
 }
 
 // .. by the index. Bodies that start below p lie below `to` already.
-fn by_index(index: &[u16; 3072], image: &mut [u8], n: usize, pool: &mut [u8]) -> usize
+fn by_index(index: &Index, image: &mut [u8], n: usize, pool: &mut [u8]) -> usize
     requires sized { Sized image.old n × (length pool.old < 65536) }
     requires laid { Laid n (start_at image.old) (body_at image.old) (length pool.old) }
     requires chained { Chained n (start_at image.old) (body_at image.old) index.now }
@@ -51,15 +48,16 @@ fn by_index(index: &[u16; 3072], image: &mut [u8], n: usize, pool: &mut [u8]) ->
     let mut moved = 0;
     let mut to = 0;
     let mut p = 0;
+    // No `for`: a step takes a body or a cell, and only the index tells how far that is.
     while p < len {
-        let next = index::ahead(index, len, p);
-        p = next.end;
-        if next.mark == 0 {
+        let ahead = index.ahead(len, p);
+        p = ahead.end;
+        let Some(s) = ahead.next else {
             continue;
-        }
-        let size = body::size(image, next.mark - 1);
+        };
+        let size = body::size(image, s);
         move_down(pool, p, to, size);
-        write::set_start(image, next.mark - 1, to);
+        write::set_start(image, s, to);
         moved += counted(p, to, size);
         to += size;
         p += size;
@@ -75,7 +73,7 @@ pub fn pack(image: &mut [u8], n: usize, pool: &mut [u8]) -> usize
     ensures image_after { image.new ≡ packed_image n image.old }
     ensures pool_after { pool.new ≡ packed_pool n (start_at image.old) (body_at image.old) pool.old }
 {
-    let mut index = [0u16; 3072];
-    index::fill(&mut index, image, n);
+    let mut index = Index::new();
+    index.fill(image, n);
     by_index(&index, image, n, pool)
 }

@@ -9,18 +9,13 @@ ghost use Rattle.pool.specs.Laid.{Laid};
 ghost use Rattle.pool.specs.Places.{Made};
 
 use crate::{Room, body, gap, moving};
-use laws::Found;
 
 // Writes m bytes FF from `at` on.
 fn fill(pool: &mut [u8], at: usize, m: usize)
     requires { at + m ≤ length pool.old }
     ensures { pool.new ≡ splice pool.old at (replicate m 255) }
 {
-    let mut j = 0;
-    while j < m {
-        pool[at + j] = 255;
-        j += 1;
-    }
+    pool[at..at + m].fill(255);
 }
 
 // The sum of the sizes of all bodies.
@@ -29,10 +24,8 @@ pub fn total(image: &[u8], n: usize) -> usize
     ensures { result ≡ sum_below n (body_at image.now) }
 {
     let mut sum = 0;
-    let mut s = 0;
-    while s < n {
+    for s in 0..n {
         sum += body::size(image, s);
-        s += 1;
     }
     sum
 }
@@ -46,7 +39,7 @@ pub fn make(image: &mut [u8], n: usize, pool: &mut [u8], m: usize) -> Room
 {
     let len = pool.len();
     let found = gap::lowest_gap(image, n, len, m);
-    if let Found::At(p) = found {
+    if let Some(p) = found {
         fill(pool, p, m);
         return Room { start: p, moved: 0 };
     }

@@ -30,9 +30,7 @@ pub fn wipe(image: &[u8], n: usize, pool: &mut [u8], marks: &[u8; 1023])
     requires laid { Laid n (start_at image.now) (body_at image.now) (length pool.old) }
     ensures { pool.new ≡ wiped n (λ k. eqb (get_or marks.now k 0) 1) image.now pool.old }
 {
-    let mut s = 0;
-    while s < n {
+    for s in 0..n {
         wipe_if(image, pool, s, marks[s] == 1);
-        s += 1;
     }
 }

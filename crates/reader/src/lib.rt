@@ -1,8 +1,8 @@
 // The object reader as a struct that holds the template and its place (01 "CREATE", data: "After the core stands, the
 // object reader is also wanted as a struct that holds the template and its place").
 //
-// Thin: each function over the struct takes it apart and calls a function on slice and place, or puts one together.
-// Callers use `object` and `after`, whose parameters are plain.
+// Thin: each method takes the struct apart and calls a function on slice and place, or puts one together.
+// `object` and `after` have plain parameters; callers use `object`.
 #![tactic(auto)]
 
 ghost use Rattle.std.specs.Prelude.{◌≡◌};
@@ -24,53 +24,54 @@ pub fn end_at(s: &[u8], at: usize) -> usize
     ensures { result ≡ place_after s.now at }
 {
     match gather::object_at(s, at) {
-        Object::Whole { end, .. } => end,
-        Object::Broken => at,
+        Some(object) => object.value.end,
+        None => at,
     }
 }
 
-// A reader of a template that stands at a place.
-pub fn new<'a>(template: &'a [u8], place: usize) -> Reader<'a>
-    ensures { (result.template ≡ template.entry) × (result.place ≡ place) }
-{
-    Reader { template, place }
-}
+impl<'a> Reader<'a> {
+    // A reader of a template that stands at a place.
+    pub fn new(template: &'a [u8], place: usize) -> Reader<'a>
+        ensures { (result.template ≡ template.entry) × (result.place ≡ place) }
+    {
+        Reader { template, place }
+    }
 
-// Where it stands.
-pub fn place<'a>(r: Reader<'a>) -> usize
-    ensures { result ≡ r.entry.place }
-{
-    r.place
-}
+    // Where it stands.
+    pub fn place(self) -> usize
+        ensures { result ≡ self.entry.place }
+    {
+        self.place
+    }
 
-// The object where it stands.
-pub fn next<'a>(r: Reader<'a>) -> Object
-    ensures { result ≡ object_at r.entry.template.now r.entry.place }
-{
-    gather::object_at(r.template, r.place)
-}
+    // The object where it stands, if one is whole there.
+    pub fn next(self) -> Option<Object>
+        ensures { result ≡ object_at self.entry.template.now self.entry.place }
+    {
+        gather::object_at(self.template, self.place)
+    }
 
-// The reader moved on past that object. It stays where no whole object stands.
-pub fn past<'a>(r: Reader<'a>) -> Reader<'a>
-    ensures { (result.template ≡ r.entry.template) × (result.place ≡ place_after r.entry.template.now r.entry.place) }
-{
-    let end = end_at(r.template, r.place);
-    Reader {
-        template: r.template,
-        place: end,
+    // The reader moved on past that object. It stays where no whole object stands.
+    pub fn past(self) -> Reader<'a>
+        ensures { (result.template ≡ self.entry.template) × (result.place ≡ place_after self.entry.template.now self.entry.place) }
+    {
+        Reader {
+            place: end_at(self.template, self.place),
+            ..self
+        }
     }
 }
 
 // The object at a place of a template, through the reader.
-pub fn object(s: &[u8], at: usize) -> Object
+pub fn object(s: &[u8], at: usize) -> Option<Object>
     ensures { result ≡ object_at s.now at }
 {
-    next(new(s, at))
+    Reader::new(s, at).next()
 }
 
 // The place after the object that stands at `from`, through the reader.
 pub fn after(s: &[u8], from: usize) -> usize
     ensures { result ≡ place_after s.now from }
 {
-    place(past(new(s, from)))
+    Reader::new(s, from).past().place()
 }

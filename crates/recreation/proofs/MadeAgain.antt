@@ -1,7 +1,7 @@
 -- Re-creation (`made_again`): CREATE's conditions hold on a card that welcomes the file, and what it makes of the data is the file's
 -- own record under another parent and level, with the start that its body has there.
-use mathlib.Core.Path.{◌≡◌, refl, ap, subst, ◌∙◌}
-use mathlib.Core.Bool.{Bool, true, false}
+use mathlib.Core.Path.{◌≡◌, refl, sym, ap, subst, ◌∙◌}
+use mathlib.Core.Bool.{Bool, true, false, false≢true}
 use mathlib.Core.List.{List, ◌++◌}
 use mathlib.Core.Logic.{⊎_elim}
 use Prim.Native.Nat.{ℕ, zero, suc, ◌+◌, ◌<◌, ◌≤◌}
@@ -9,12 +9,12 @@ use native.Mathlib.Omega.{arith}
 use lib.Dec.{eqb, ltb}
 use lib.ListN.{length, get_or, get_or-eq_default}
 use borrow.Author.Tests.{ltb-true, ltb-false}
-use Rattle.laws.specs.declared.Found.{Found}
-use Rattle.laws.specs.declared.Found.TheVariants.{At, Nothing}
+use Rattle.std.specs.Prelude.{Option, Some, None}
 use Rattle.laws.specs.Lists.{Bytes, splice}
 use Rattle.laws.proofs.Firsts.{first_is}
 use Rattle.numbers.specs.Numbers.{be16}
-use Rattle.rules.specs.Life.{new_life, life_of, terminated}
+use Rattle.rules.specs.Life.{new_life, life_of, activated, deactivated, terminated}
+use Rattle.rules.proofs.Lives.{same-says}
 use Rattle.image.specs.Layout.{version_of, base, count_of, current_df_of, rec_at, life_cycle_of, identifier_of, size_of, name_of, rule_of}
 use Rattle.image.proofs.Places.{byte_in, length_record}
 use Rattle.access.proofs.Fits.{fits-short}
@@ -26,7 +26,8 @@ use Rattle.sound.specs.Effects.{made}
 use Rattle.sound.proofs.Front.{sound-within}
 use Rattle.sound.proofs.FullTable.{root-above, slot_exists}
 use Rattle.create_data.specs.declared.Data.{Data}
-use Rattle.create_data.specs.declared.Data.TheVariants.{Df, Ef, Bad}
+use Rattle.std.specs.Prelude.{Option, Some, None}
+use Rattle.create_data.specs.declared.Data.TheVariants.{Df, Ef}
 use Rattle.create_data.specs.Data.{data_of}
 use Rattle.fcp.specs.Template.{template_of, with_c6}
 use Rattle.fcp.specs.Again.{Sends, Tells, head_again, started_at}
@@ -42,24 +43,24 @@ use Rattle.recreation.proofs.Told.{found_stands, select_told}
 use Rattle.recreation.specs.Recreation.{create_of, right_of, Welcomes, new_slot, new_start, MadeAgain}
 
 -- what data say that tell of record r
-record Same (s r : List ℕ) (x : Data) : Type 0 where
+record Same (s r : List ℕ) (x : Option Data) : Type 0 where
   right : right_for x ≡ right_of r
   identifier : new_identifier x ≡ identifier_of r
   name : new_name s x ≡ name_of r
   size : new_size x ≡ size_of r
 
-same : (s r : List ℕ) (x : Data) → Tells s r x → Same s r x
-same s r Bad t = absurd t
-same s r (Df x) t = record { right = rw t.kind_is; identifier = t.identifier; name = t.name; size = t.size }
-same s r (Ef x) t = record { right = rw t.kind_is; identifier = t.identifier; name = t.name; size = t.size }
+same : (s r : List ℕ) (x : Option Data) → Tells s r x → Same s r x
+same s r None t = absurd t
+same s r (Some (Df x)) t = record { right = rw t.kind_is; identifier = t.identifier; name = t.name; size = t.size }
+same s r (Some (Ef x)) t = record { right = rw t.kind_is; identifier = t.identifier; name = t.name; size = t.size }
 
 -- .. and what CREATE makes of them
-makes : (other s r : List ℕ) (slot : ℕ) (x : Data) → Tells s r x
+makes : (other s r : List ℕ) (slot : ℕ) (x : Option Data) → Tells s r x
     → creating other s slot x
     ≡ made other slot (head_again r (current_df_of other) ((view_at other (current_df_of other)).level + 1)) (name_of r) (rule_of r)
-makes other s r slot Bad t = absurd t
-makes other s r slot (Df x) t = cc
-makes other s r slot (Ef x) t = cc
+makes other s r slot None t = absurd t
+makes other s r slot (Some (Df x)) t = cc
+makes other s r slot (Some (Ef x)) t = cc
 
 -- what is sent is some data
 sends_some : (r s : List ℕ) → Sends r (template_of r) s → 1 ≤ length s
@@ -83,9 +84,9 @@ module _ (other : List ℕ) (sound : Sound other) where
     unfolding free_slot
     slot-low = go (free_slot (count_of other) (view_at other)) refl
       where
-        go : (f : Found) → free_slot (count_of other) (view_at other) ≡ f → slot_in f < count_of other
-        go (At t) e = (first_is (count_of other) (λ t. eqb (view_at other t).kind 0) t e).low
-        go Nothing e = absurd (slot_exists other (current_df_of other) size sound sound.current.df-low sound.current.df-dir room e)
+        go : (f : Option ℕ) → free_slot (count_of other) (view_at other) ≡ f → slot_in f < count_of other
+        go (Some t) e = (first_is (count_of other) (λ t. eqb (view_at other t).kind 0) t e).low
+        go None e = absurd (slot_exists other (current_df_of other) size sound sound.current.df-low sound.current.df-dir room e)
 
 -- the file in slot s, whose template is sent
 module _ (img : List ℕ) (s : ℕ) (sent other bodies : List ℕ) (st : State) (own : Used (version_of other) (rec_at img s))
@@ -100,7 +101,7 @@ module _ (img : List ℕ) (s : ℕ) (sent other bodies : List ℕ) (st : State) 
   -- neither the current directory nor one above is terminated, so the root isn't
   none-terminated : NoneTerminated other (current_df_of other)
   unfolding up
-  none-terminated zero l e = omega (arith, welcomes.active, e)
+  none-terminated zero l e = false≢true ((same-says activated terminated).1 (sym welcomes.active ∙ e))
   none-terminated (suc k) l e = welcomes.above (suc k) (omega arith) l e
 
   alive : life_of (life_at other 0) ≡ terminated → ⊥
@@ -129,7 +130,7 @@ module _ (img : List ℕ) (s : ℕ) (sent other bodies : List ℕ) (st : State) 
                   (
                     rw said.right welcomes.right,
                     (
-                      ((λ e. omega (arith, e, welcomes.active)), none-terminated),
+                      ((λ e. false≢true ((same-says activated deactivated).1 (sym welcomes.active ∙ e))), none-terminated),
                       (
                         rw said.identifier ((λ t l f p q. welcomes.empty t l f p), welcomes.identifier),
                         (

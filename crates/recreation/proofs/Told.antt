@@ -7,6 +7,7 @@ use Prim.Native.Nat.{ℕ, ◌≤◌}
 use native.Mathlib.Omega.{arith}
 use lib.Dec.{eqb}
 use lib.ListN.{length, get_or, take}
+use Rattle.std.specs.Prelude.{Err}
 use Rattle.laws.specs.Lists.{part, splice}
 use Rattle.laws.proofs.Splices.{part-splice}
 use Rattle.rules.specs.Life.{life_of}
@@ -23,7 +24,8 @@ use Rattle.access.specs.declared.Decision.{Decision}
 use Rattle.access.specs.declared.Decision.TheVariants.{Granted}
 use Rattle.rules.specs.declared.Sets.{Sets}
 use Rattle.judge_security.specs.Security.{step_j}
-use Rattle.card.specs.declared.Reply.TheVariants.{Word, Short}
+use Rattle.card.specs.declared.CommandError.TheVariants.{Short}
+use Rattle.card.specs.Command.{with_word}
 use Rattle.card.specs.Command.{answer_number, answer_told, pool_fits, PoolFits, response_of}
 use Rattle.card.specs.Conditions.{Met, select_asks, found}
 use Rattle.card.specs.Obeyed.{refusal, Obeys, word_for, selecting, telling}
@@ -37,7 +39,7 @@ use Rattle.recreation.specs.Recreation.{Told, told_by, SelectTold}
 refusal_silent : (img pool c : List ℕ) (x : Sets) (w : ℕ) → answer_told (refusal img pool c x w) ≡ 0
 refusal_silent img pool c x w = go (eqb w 0x0000) (cond (eqb w 0x6982) (step_j img pool c x) Granted)
   where
-    go : (b : Bool) (d : Decision) → answer_told (cond b Short (Word w 0 d)) ≡ 0
+    go : (b : Bool) (d : Decision) → answer_told (cond b (Err Short) (with_word w 0 d)) ≡ 0
     go true d = refl
     go false d = refl
 

@@ -22,7 +22,7 @@ use Rattle.judge_target.specs.Target.{life_at, allowed_at, slot_in}
 use Rattle.apdu.specs.Apdu.{instruction}
 use Rattle.access.specs.declared.Decision.{Decision}
 use Rattle.access.specs.declared.Decision.TheVariants.{Granted}
-use Rattle.card.specs.declared.Reply.TheVariants.{Word}
+use Rattle.card.specs.Command.{with_word}
 use Rattle.card.specs.Command.{PoolFits, reply_of, image_of, response_of}
 use Rattle.card.specs.Conditions.{FreeName, found}
 
@@ -39,7 +39,7 @@ pub record Told (img pool c : List ℕ) (st : State) (response : List ℕ) (n : 
   pub select : instruction c ≡ 0xA4
   pub word : ℕ
   pub security : Decision
-  pub reply : reply_of img pool c st (length response) ≡ Word word n security
+  pub reply : reply_of img pool c st (length response) ≡ with_word word n security
   pub some : 1 ≤ n
 
 -- what it told, at the start of the response
@@ -88,7 +88,7 @@ MadeAgain = (img pool c : List ℕ) (st : State) (response : List ℕ) (n : ℕ)
     → Bytes img → Sound img → Told img pool c st response n → new_life (life_cycle_of (rec_at img (found img c))) ≡ true
     → Sends (rec_at img (found img c)) (told_by img pool c st response n) sent
     → Sound other → Welcomes img other bodies (rec_at img (found img c)) state
-    → (reply_of other bodies (create_of sent) state (length buffer) ≡ Word 0x9000 0 Granted)
+    → (reply_of other bodies (create_of sent) state (length buffer) ≡ with_word 0x9000 0 Granted)
     × (rec_at (image_of other bodies (create_of sent) state (length buffer)) (new_slot other)
     ≡ splice (started_at (version_of img) (rec_at img (found img c)) (new_start other (rec_at img (found img c)))) 6
     (be16 (current_df_of other) ++ be16 ((view_at other (current_df_of other)).level + 1)))

@@ -11,8 +11,9 @@ use lib.ListN.{length, get_or, take, drop, length-drop}
 use lib.Seq.{length-take-le, get_or-take, get_or-drop}
 use lib.Dec.{eqb, leb}
 use borrow.Author.Tests.{eqb-true, eq-eqb, ne_eqb, leb-true, leb-false}
-use Rattle.laws.specs.Walks.{all_below}
-use Rattle.laws.proofs.Walks.{all_each, all_more, all_fails, all_end}
+use Rattle.std.specs.Bool.{MatchBool}
+use Rattle.std.specs.List.{AllWithin, HoldsAt}
+use Rattle.laws.proofs.Walks.{all_each, each_all, all_fails}
 use Rattle.laws.proofs.Says.{and-says}
 use Rattle.expanded.specs.Object.{Object, object, cut, objects_of, Ends}
 use Rattle.expanded.specs.Condition.{formed_plain, is_template, formed}
@@ -106,19 +107,12 @@ pads_at s k h e =
     ∙ sym (get_or-drop k s 0 0)
     ∙ eqb-true (get_or (drop k s) 0 0) 0xFF (all_each (λ i. eqb (get_or (drop k s) i 0) 0xFF) (length (drop k s)) 0 (omega (arith, length-drop k s)) e)
 
--- a loop that asks each byte
-module _ (s : List ℕ) (k : ℕ) where
-  pub pad_turn : all_below k (is_ff s) ≡ true → get_or s k 0 ≡ 0xFF → all_below (k + 1) (is_ff s) ≡ true
-  unfolding is_ff
-  pad_turn h e = all_more (λ i. eqb (get_or s i 0) 0xFF) k h (eq-eqb (get_or s k 0) 0xFF e)
-
-  pub pad_stop : k < length s → (get_or s k 0 ≡ 0xFF → ⊥) → false ≡ is_padding s
-  unfolding is_padding is_ff
-  pad_stop h e = sym (all_fails (λ i. eqb (get_or s i 0) 0xFF) (length s) k h (ne_eqb (get_or s k 0) 0xFF e))
-
-  pub pad_end : k ≤ length s → length s ≤ k → all_below k (is_ff s) ≡ true → true ≡ is_padding s
-  unfolding is_padding
-  pad_end a b h = all_end (is_ff s) (length s) k a b h
+-- r is what `all` answered of the bytes
+pub pads_told : (s : List ℕ) (r : Bool)
+    → MatchBool r (AllWithin (λ x. x ≡ 0xFF) s 0 (length s)) ((k : ℕ) × (k < length s) × HoldsAt (λ x. x ≡ 0xFF → ⊥) s k) → r ≡ is_padding s
+unfolding is_padding is_ff
+pads_told s true h = sym (each_all (λ i. eqb (get_or s i 0) 0xFF) (length s) (λ k l. eq-eqb (get_or s k 0) 0xFF (h k 0 (omega arith) l)))
+pads_told s false h = sym (all_fails (λ i. eqb (get_or s i 0) 0xFF) (length s) h.0 h.1 (ne_eqb (get_or s h.0 0) 0xFF (h.2 0)))
 
 -- a rule that ends at k, seen from a place on the walk: what is between goes on a rule
 pub record Left (s : List ℕ) (at k : ℕ) : Type 0 where

@@ -8,14 +8,13 @@ use lib.Dec.{eqb}
 use lib.ListN.{length, take, drop}
 use lib.Seq.{take-take}
 use borrow.Author.Tests.{eqb-true}
-use Rattle.laws.specs.declared.Found.{Found}
-use Rattle.laws.specs.declared.Found.TheVariants.{At, Nothing}
+use Rattle.std.specs.Prelude.{Option, Some, None}
 use Rattle.laws.specs.Lists.{part}
 use Rattle.image.specs.Layout.{rec_at, form_of, record_length_of}
 use Rattle.access.specs.Access.{referred}
 use Rattle.pool.specs.Records.{has_record}
 use Rattle.sound.specs.Table.{view_at}
-use Rattle.referred.specs.declared.Place.TheVariants.{Nowhere, InPool}
+use Rattle.referred.specs.declared.Place.TheVariants.{InPool}
 use Rattle.referred.specs.Padding.{unpadded_end, unpadded}
 use Rattle.referred.specs.Nearest.{nearest_of}
 use Rattle.referred.specs.Deciding.{named_file_of, named_record_of, is_linear, record_start, row_at, in_pool, held_place, taken_place}
@@ -38,14 +37,14 @@ held-rule img pool t k = go (is_linear (rec_at img t) && has_record img t k)
     row : List ℕ
     row = take long (drop from pool)
 
-    there : (end : ℕ) → end ≤ length row → (b : Bool) → eqb end 0 ≡ b → part_of img pool (cond b Nowhere (InPool from (from + end))) ≡ take end row
+    there : (end : ℕ) → end ≤ length row → (b : Bool) → eqb end 0 ≡ b → part_of img pool (cond b None (Some (InPool from (from + end)))) ≡ take end row
     there end h true e = let z : end ≡ 0 = eqb-true end 0 e in rw z
     there end h false e =
         let z : from + end - from ≡ end = omega arith in
         ap (λ (j : ℕ). take j (drop from pool)) z
         ∙ sym (take-take end long (drop from pool) (omega (arith, h, (take_short long (drop from pool)).0)))
 
-    go : (b : Bool) → part_of img pool (cond b (in_pool from (unpadded_end row)) Nowhere) ≡ cond b (take (unpadded_end row) row) []
+    go : (b : Bool) → part_of img pool (cond b (in_pool from (unpadded_end row)) None) ≡ cond b (take (unpadded_end row) row) []
     go true = there (unpadded_end row) (end-within row) (eqb (unpadded_end row) 0) refl
     go false = refl
 
@@ -60,7 +59,7 @@ module _ (n : ℕ) (img pool other : List ℕ) (s : ℕ) where
       k : ℕ
       k = named_record_of (rec_at img s)
 
-      file : Found
+      file : Option ℕ
       file = nearest_of n (view_at img) (view_at img s).parent (named_file_of (rec_at img s))
 
       at : (t : ℕ) → t < n → form_of (rec_at img s) ≡ referred → part_of img pool (held_place img pool t k) ≡ part_of img other (held_place img other t k)
@@ -71,18 +70,18 @@ module _ (n : ℕ) (img pool other : List ℕ) (s : ℕ) where
           go true q = ap unpadded (rows e t l q)
           go false q = refl
 
-      taken : (f : Found) → file ≡ f → form_of (rec_at img s) ≡ referred
+      taken : (f : Option ℕ) → file ≡ f → form_of (rec_at img s) ≡ referred
           → part_of img pool (taken_place img pool s k f) ≡ part_of img other (taken_place img other s k f)
-      taken Nothing q e = refl
-      taken (At t) q e =
+      taken None q e = refl
+      taken (Some t) q e =
           go (eqb t s) (at t (nearest-low img n (view_at img s).parent (named_file_of (rec_at img s)) t q) e)
         where
           go : (b : Bool) → part_of img pool (held_place img pool t k) ≡ part_of img other (held_place img other t k)
-              → part_of img pool (cond b Nowhere (held_place img pool t k)) ≡ part_of img other (cond b Nowhere (held_place img other t k))
+              → part_of img pool (cond b None (held_place img pool t k)) ≡ part_of img other (cond b None (held_place img other t k))
           go true h = refl
           go false h = h
 
       form : (b : Bool) → eqb (form_of (rec_at img s)) referred ≡ b
-          → part_of img pool (cond b (taken_place img pool s k file) (own_place img s)) ≡ part_of img other (cond b (taken_place img other s k file) (own_place img s))
+          → part_of img pool (cond b (taken_place img pool s k file) (Some (own_place img s))) ≡ part_of img other (cond b (taken_place img other s k file) (Some (own_place img s)))
       form true q = taken file refl (eqb-true (form_of (rec_at img s)) referred q)
       form false q = refl

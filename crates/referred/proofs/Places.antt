@@ -9,8 +9,7 @@ use lib.ListN.{length, get_or, take, drop, length-drop, drop_of_length-le}
 use lib.Seq.{length-take-le, take_all}
 use lib.Dec.{eqb}
 use borrow.Author.Tests.{eq-eqb, ne_eqb, not-true, not-false}
-use Rattle.laws.specs.declared.Found.{Found}
-use Rattle.laws.specs.declared.Found.TheVariants.{At, Nothing}
+use Rattle.std.specs.Prelude.{Option, Some, None}
 use Rattle.laws.specs.Lists.{part}
 use Rattle.laws.proofs.Says.{lt-or}
 use Rattle.numbers.specs.Numbers.{u16_at}
@@ -22,7 +21,7 @@ use Rattle.pool.specs.Records.{has_record}
 use Rattle.sound.specs.Table.{view_at}
 use Rattle.kinship.specs.Climb.{Rooted, Stands}
 use Rattle.referred.specs.declared.Place.{Place}
-use Rattle.referred.specs.declared.Place.TheVariants.{Nowhere, InImage, InPool}
+use Rattle.referred.specs.declared.Place.TheVariants.{InImage, InPool}
 use Rattle.referred.specs.Padding.{unpadded_end}
 use Rattle.referred.specs.Nearest.{nearest_of}
 use Rattle.referred.specs.Deciding.{named_file_of, named_record_of, is_linear, record_start, row_at, held_place, taken_place, referred_place, own_place}
@@ -90,12 +89,12 @@ rule-small pool from z row end e h a b =
 
 -- the rule in record k of the file in slot t: b and h are what was answered of the file and of the number
 module _ (img pool : List ℕ) (t k : ℕ) (b : Bool) (f : b ≡ is_linear (rec_at img t)) where
-  pub held-other : not b ≡ true → Nowhere ≡ held_place img pool t k
+  pub held-other : not b ≡ true → None ≡ held_place img pool t k
   unfolding held_place
   held-other e = rw (← f, not-true b e)
 
   module _ (l : not b ≡ false) (h : Bool) (g : h ≡ has_record img t k) where
-    pub held-past : not h ≡ true → Nowhere ≡ held_place img pool t k
+    pub held-past : not h ≡ true → None ≡ held_place img pool t k
     unfolding held_place
     held-past e = rw (← f, not-false b l, ← g, not-true h e)
 
@@ -105,11 +104,11 @@ module _ (img pool : List ℕ) (t k : ℕ) (b : Bool) (f : b ≡ is_linear (rec_
       whole : end ≡ unpadded_end (row_at img pool t k)
       whole = u ∙ ap unpadded_end (q ∙ ap (λ (a : ℕ). part pool a z) i ∙ ap (part pool (record_start img t k)) j)
 
-      pub held-malformed : end ≡ 0 → Nowhere ≡ held_place img pool t k
+      pub held-malformed : end ≡ 0 → None ≡ held_place img pool t k
       unfolding held_place
       held-malformed e = rw (← f, not-false b l, ← g, not-false h p, ← whole, eq-eqb end 0 e)
 
-      pub held-there : (end ≡ 0 → ⊥) → InPool from (from + end) ≡ held_place img pool t k
+      pub held-there : (end ≡ 0 → ⊥) → Some (InPool from (from + end)) ≡ held_place img pool t k
       unfolding held_place
       held-there e = rw (← f, not-false b l, ← g, not-false h p, ← whole, ne_eqb end 0 e, ← i)
 
@@ -120,44 +119,44 @@ pub parent_stands : (img : List ℕ) (n s p : ℕ) → Rooted img n → Stands i
 parent_stands img n s p rooted h e = rw e (rooted.parent s h)
 
 -- the file that was found is a slot of the card
-found-low : (img : List ℕ) (n p x t : ℕ) (f : Found) → f ≡ nearest_of n (view_at img) p x → f ≡ At t → t < n
+found-low : (img : List ℕ) (n p x t : ℕ) (f : Option ℕ) → f ≡ nearest_of n (view_at img) p x → f ≡ Some t → t < n
 found-low img n p x t f e q = nearest-low img n p x t (sym e ∙ q)
 
-pub found_within : (img : List ℕ) (n p x t : ℕ) (f : Found) → Rooted img n → f ≡ nearest_of n (view_at img) p x → f ≡ At t → Within img t
+pub found_within : (img : List ℕ) (n p x t : ℕ) (f : Option ℕ) → Rooted img n → f ≡ nearest_of n (view_at img) p x → f ≡ Some t → Within img t
 found_within img n p x t f rooted e q =
     let h : t < n = found-low img n p x t f e q in
     (omega (arith, h, rooted.sized.long), omega (arith, h, rooted.sized.most))
 
 -- the file that slot s names: p is its parent, x the identifier, f what was found
-module _ (n : ℕ) (img pool : List ℕ) (s p x : ℕ) (f : Found) (a : p ≡ (view_at img s).parent) (b : x ≡ named_file_of (rec_at img s))
+module _ (n : ℕ) (img pool : List ℕ) (s p x : ℕ) (f : Option ℕ) (a : p ≡ (view_at img s).parent) (b : x ≡ named_file_of (rec_at img s))
     (e : f ≡ nearest_of n (view_at img) p x) where
   same-file : f ≡ nearest_of n (view_at img) (view_at img s).parent (named_file_of (rec_at img s))
   same-file = e ∙ ap (λ (d : ℕ). nearest_of n (view_at img) d x) a ∙ ap (nearest_of n (view_at img) (view_at img s).parent) b
 
-  pub referred-none : f ≡ Nothing → Nowhere ≡ referred_place n img pool s
+  pub referred-none : f ≡ None → None ≡ referred_place n img pool s
   unfolding referred_place
   referred-none q = ap (taken_place img pool s (named_record_of (rec_at img s))) (sym q ∙ same-file)
 
-  module _ (t : ℕ) (q : f ≡ At t) where
-    found : taken_place img pool s (named_record_of (rec_at img s)) (At t) ≡ referred_place n img pool s
+  module _ (t : ℕ) (q : f ≡ Some t) where
+    found : taken_place img pool s (named_record_of (rec_at img s)) (Some t) ≡ referred_place n img pool s
     unfolding referred_place
     found = ap (taken_place img pool s (named_record_of (rec_at img s))) (sym q ∙ same-file)
 
-    pub referred-itself : t ≡ s → Nowhere ≡ referred_place n img pool s
+    pub referred-itself : t ≡ s → None ≡ referred_place n img pool s
     referred-itself h = sym (rw (eq-eqb t s h)) ∙ found
 
-    pub referred-held : (k : ℕ) {m : Place} → (t ≡ s → ⊥) → k ≡ named_record_of (rec_at img s) → m ≡ held_place img pool t k
+    pub referred-held : (k : ℕ) {m : Option Place} → (t ≡ s → ⊥) → k ≡ named_record_of (rec_at img s) → m ≡ held_place img pool t k
         → m ≡ referred_place n img pool s
     referred-held k {m} h c d = d ∙ ap (held_place img pool t) c ∙ sym (rw (ne_eqb t s h)) ∙ found
 
 pub ruleset referrals = (referred-none, referred-itself, referred-held)
 
 -- the form z tells whether the rule stands elsewhere
-module _ (n : ℕ) (img pool : List ℕ) (s z : ℕ) (e : z ≡ form_of (rec_at img s)) {m : Place} where
-  pub place-referred : z ≡ referred → m ≡ referred_place n img pool s → m ≡ place_of n img pool s
+module _ (n : ℕ) (img pool : List ℕ) (s z : ℕ) (e : z ≡ form_of (rec_at img s)) where
+  pub place-referred : {m : Option Place} → z ≡ referred → m ≡ referred_place n img pool s → m ≡ place_of n img pool s
   unfolding place_of
-  place-referred h q = rw (← e, eq-eqb z referred h) q
+  place-referred {m} h q = rw (← e, eq-eqb z referred h) q
 
-  pub place-own : (z ≡ referred → ⊥) → m ≡ own_place img s → m ≡ place_of n img pool s
+  pub place-own : (z ≡ referred → ⊥) → {o : Place} → o ≡ own_place img s → Some o ≡ place_of n img pool s
   unfolding place_of
-  place-own h q = rw (← e, ne_eqb z referred h) q
+  place-own h q = rw (← e, ne_eqb z referred h) (ap (λ (k : Place). Some k) q)

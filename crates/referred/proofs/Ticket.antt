@@ -10,10 +10,10 @@ use lib.Dec.{eqb, ltb}
 use lib.ListN.{length, get_or, take, drop, length-append}
 use lib.Seq.{take-append_seam, take-take, get_or-take, get_or-drop}
 use borrow.Author.Tests.{eqb-true, eq-eqb, ne_eqb, lt-leb, le-leb, lt-ltb, le-ltb}
-use Rattle.laws.specs.declared.Found.{Found}
-use Rattle.laws.specs.declared.Found.TheVariants.{At, Nothing}
+use Rattle.std.specs.Prelude.{Option, Some, None, unwrap_or}
+use Rattle.std.specs.Option.{option_or}
 use Rattle.laws.specs.Lists.{part}
-use Rattle.laws.specs.Walks.{first_below, or_else}
+use Rattle.laws.specs.Walks.{first_below}
 use Rattle.laws.proofs.Firsts.{first_is}
 use Rattle.laws.proofs.Says.{and-says, all-says}
 use Rattle.laws.proofs.Walks.{split_lt, all_each}
@@ -26,8 +26,8 @@ use Rattle.access.specs.Access.{referred}
 use Rattle.pool.specs.Records.{has_record}
 use Rattle.sound.specs.Table.{View, view_at, up}
 use Rattle.sound.specs.Kinship.{child_named}
-use Rattle.referred.specs.declared.Place.TheVariants.{Nowhere, InPool}
-use Rattle.referred.specs.Padding.{is_ff, is_padding, ends_at, or_zero, unpadded_end, Padded}
+use Rattle.referred.specs.declared.Place.TheVariants.{InPool}
+use Rattle.referred.specs.Padding.{is_ff, is_padding, ends_at, unpadded_end, Padded}
 use Rattle.referred.specs.Nearest.{first_found, nearest_of, file_up}
 use Rattle.referred.specs.Deciding.{named_file_of, named_record_of, is_linear, record_start, row_at, in_pool, held_place}
 use Rattle.referred.specs.Deciding.{referred_place, own_place, place_of, part_of, deciding_rule}
@@ -36,64 +36,59 @@ use Rattle.referred.specs.Ticket.{NearestAt, Names}
 use Rattle.referred.proofs.OneRule as padding
 use Rattle.referred.proofs.Unpadded.{end_is, ends_padded, none-formed}
 use Rattle.referred.proofs.Places.{take_short}
-use Rattle.referred.proofs.Climbing.{found_at}
+use Rattle.referred.proofs.Climbing.{none_before, found_at}
 
 -- what the first answer says
-record FoundAt (f : ℕ → Found) (n t : ℕ) : Type 0 where
+record FoundAt (f : ℕ → Option ℕ) (n t : ℕ) : Type 0 where
   at : ℕ
   low : at < n
-  here : f at ≡ At t
-  before : (k : ℕ) → k < at → f k ≡ Nothing
+  here : f at ≡ Some t
+  before : (k : ℕ) → k < at → f k ≡ None
 
-none_found : (f : ℕ → Found) (n : ℕ) → first_found n f ≡ Nothing → (k : ℕ) → k < n → f k ≡ Nothing
+none_found : (f : ℕ → Option ℕ) (n : ℕ) → first_found n f ≡ None → (k : ℕ) → k < n → f k ≡ None
 unfolding first_found
 none_found f zero e k l = absurd (not-suc-le-zero l)
 none_found f (suc n) e k l =
     ⊎_elim (λ q. rw q (here (first_found n f) (f n) e)) (λ m. none_found f n (lower (first_found n f) (f n) e) k m) (split_lt l)
   where
-    here : (a b : Found) → or_else a b ≡ Nothing → b ≡ Nothing
-    here (At i) b e' = cc
-    here Nothing b e' = e'
+    here : (a b : Option ℕ) → option_or a b ≡ None → b ≡ None
+    here (Some i) b e' = cc
+    here None b e' = e'
 
-    lower : (a b : Found) → or_else a b ≡ Nothing → a ≡ Nothing
-    lower (At i) b e' = e'
-    lower Nothing b e' = refl
+    lower : (a b : Option ℕ) → option_or a b ≡ None → a ≡ None
+    lower (Some i) b e' = e'
+    lower None b e' = refl
 
-none_before : (f : ℕ → Found) (n : ℕ) → ((k : ℕ) → k < n → f k ≡ Nothing) → first_found n f ≡ Nothing
-unfolding first_found
-none_before f zero h = refl
-none_before f (suc n) h = rw (none_before f n (λ k l. h k (omega arith)), h n (omega arith))
-
-found-says : (f : ℕ → Found) (n t : ℕ) → first_found n f ≡ At t → FoundAt f n t
+found-says : (f : ℕ → Option ℕ) (n t : ℕ) → first_found n f ≡ Some t → FoundAt f n t
 unfolding first_found
 found-says f zero t e = let z : ◌≡◌ {A = ℕ} 0 1 = cc in absurd (omega arith)
 found-says f (suc n) t e = go (first_found n f) refl e (found-says f n t)
   where
-    go : (a : Found) → first_found n f ≡ a → or_else a (f n) ≡ At t → (first_found n f ≡ At t → FoundAt f n t) → FoundAt f (suc n) t
-    go (At j) q r rec =
+    go : (a : Option ℕ) → first_found n f ≡ a → option_or a (f n) ≡ Some t → (first_found n f ≡ Some t → FoundAt f n t) → FoundAt f (suc n) t
+    go (Some j) q r rec =
         let g = rec (q ∙ r) in
         record { at = g.at; low = omega (arith, g.low); here = g.here; before = g.before }
-    go Nothing q r rec = record { at = n; low = omega arith; here = r; before = none_found f n q }
+    go None q r rec = record { at = n; low = omega arith; here = r; before = none_found f n q }
 
 -- the file is looked for in the directory, then in each directory above; the nearest counts
 module _ (n : ℕ) (v : ℕ → View) (d x : ℕ) where
-  nearest_is : (t : ℕ) → nearest_of n v d x ≡ At t → NearestAt n v d x t
+  nearest_is : (t : ℕ) → nearest_of n v d x ≡ Some t → NearestAt n v d x t
   unfolding nearest_of file_up
   nearest_is t e =
       let g = found-says (λ k. child_named n v (up v k d) x) (suc (v d).level) t e in
       record { steps = g.at; above = omega (arith, g.low); here = g.here; nearest = g.before }
 
-  is_nearest : (t : ℕ) → NearestAt n v d x t → nearest_of n v d x ≡ At t
+  is_nearest : (t : ℕ) → NearestAt n v d x t → nearest_of n v d x ≡ Some t
   unfolding nearest_of file_up
   is_nearest t g =
       found_at (λ k. child_named n v (up v k d) x) (suc (v d).level) g.steps t (omega (arith, g.above))
       (none_before (λ k. child_named n v (up v k d) x) g.steps g.nearest) g.here
 
-  none_near : nearest_of n v d x ≡ Nothing → (k : ℕ) → k ≤ (v d).level → child_named n v (up v k d) x ≡ Nothing
+  none_near : nearest_of n v d x ≡ None → (k : ℕ) → k ≤ (v d).level → child_named n v (up v k d) x ≡ None
   unfolding nearest_of file_up
   none_near e k h = none_found (λ j. child_named n v (up v j d) x) (suc (v d).level) e k (omega (arith, h))
 
-  near_none : ((k : ℕ) → k ≤ (v d).level → child_named n v (up v k d) x ≡ Nothing) → nearest_of n v d x ≡ Nothing
+  near_none : ((k : ℕ) → k ≤ (v d).level → child_named n v (up v k d) x ≡ None) → nearest_of n v d x ≡ None
   unfolding nearest_of file_up
   near_none f = none_before (λ k. child_named n v (up v k d) x) (suc (v d).level) (λ k l. f k (omega (arith, l)))
 
@@ -112,7 +107,7 @@ own-rule n img pool s z =
     own w short = field_in img s 33 w (omega arith) short (get_or (rec_at img s) 33 0) (byte_in img s 33 (omega arith))
 
 none-placed : (n : ℕ) (img pool : List ℕ) (s : ℕ) → form_of (rec_at img s) ≡ referred
-    → nearest_of n (view_at img) (view_at img s).parent (named_file_of (rec_at img s)) ≡ Nothing → place_of n img pool s ≡ Nowhere
+    → nearest_of n (view_at img) (view_at img s).parent (named_file_of (rec_at img s)) ≡ None → place_of n img pool s ≡ None
 unfolding place_of referred_place
 none-placed n img pool s e f = rw (eq-eqb (form_of (rec_at img s)) referred e, f)
 
@@ -121,9 +116,9 @@ no_end : (s : List ℕ) → ((r : List ℕ) → Padded s r → ⊥) → unpadded
 unfolding unpadded_end
 no_end s f = go (first_below (suc (length s)) (ends_at s)) refl
   where
-    go : (g : Found) → first_below (suc (length s)) (ends_at s) ≡ g → or_zero g ≡ 0
-    go Nothing q = refl
-    go (At j) q = absurd (f (take j s) (ends_padded s j (first_is (suc (length s)) (ends_at s) j q).here))
+    go : (g : Option ℕ) → first_below (suc (length s)) (ends_at s) ≡ g → unwrap_or g 0 ≡ 0
+    go None q = refl
+    go (Some j) q = absurd (f (take j s) (ends_padded s j (first_is (suc (length s)) (ends_at s) j q).here))
 
 empty : (r : List ℕ) → length r ≡ 0 → r ≡ []
 empty [] e = refl
@@ -134,26 +129,26 @@ module _ (n : ℕ) (img pool : List ℕ) (s t : ℕ) (names : Names n img s t) w
   abbrev k : ℕ
   k = named_record_of (rec_at img s)
 
-  pub taken : place_of n img pool s ≡ cond (eqb t s) Nowhere (held_place img pool t k)
+  pub taken : place_of n img pool s ≡ cond (eqb t s) None (held_place img pool t k)
   unfolding place_of referred_place
   taken = rw (
     eq-eqb (form_of (rec_at img s)) referred names.form,
     is_nearest n (view_at img) (view_at img s).parent (named_file_of (rec_at img s)) t names.found,
   )
 
-  held : held_place img pool t k ≡ Nowhere → place_of n img pool s ≡ Nowhere
+  held : held_place img pool t k ≡ None → place_of n img pool s ≡ None
   held e = taken ∙ go (eqb t s)
     where
-      go : (b : Bool) → cond b Nowhere (held_place img pool t k) ≡ Nowhere
+      go : (b : Bool) → cond b None (held_place img pool t k) ≡ None
       go true = refl
       go false = e
 
-  number_off : has_record img t k ≡ false → held_place img pool t k ≡ Nowhere
+  number_off : has_record img t k ≡ false → held_place img pool t k ≡ None
   unfolding held_place
   number_off e = rw (e, and-false (is_linear (rec_at img t)))
 
   -- no other file than a linear fixed EF
-  other_off : is_linear (rec_at img t) ≡ false → held_place img pool t k ≡ Nowhere
+  other_off : is_linear (rec_at img t) ≡ false → held_place img pool t k ≡ None
   unfolding held_place
   other_off e = rw e
 
@@ -173,14 +168,14 @@ module _ (n : ℕ) (img pool : List ℕ) (s t : ℕ) (names : Names n img s t) w
         rw (lt-ltb 0 k a, le-leb (k * record_length_of (rec_at img t)) (size_of (rec_at img t)) ((le-div_iff_mul-le long).0 b))
 
   -- no rule and padding
-  malformed_off : ((r : List ℕ) → Padded (row_at img pool t k) r → ⊥) → held_place img pool t k ≡ Nowhere
+  malformed_off : ((r : List ℕ) → Padded (row_at img pool t k) r → ⊥) → held_place img pool t k ≡ None
   unfolding held_place
   malformed_off f = go (is_linear (rec_at img t) && has_record img t k)
     where
       end : unpadded_end (row_at img pool t k) ≡ 0
       end = no_end (row_at img pool t k) f
 
-      go : (b : Bool) → cond b (in_pool (record_start img t k) (unpadded_end (row_at img pool t k))) Nowhere ≡ Nowhere
+      go : (b : Bool) → cond b (in_pool (record_start img t k) (unpadded_end (row_at img pool t k))) None ≡ None
       go true = rw (eq-eqb (unpadded_end (row_at img pool t k)) 0 end)
       go false = refl
 
@@ -193,7 +188,7 @@ module _ (n : ℕ) (img pool : List ℕ) (s t : ℕ) (names : Names n img s t) w
     some : length r ≡ 0 → ⊥
     some e = false≢true (sym none-formed ∙ ap expanded_formed (sym (empty r e)) ∙ p.formed)
 
-    placed : place_of n img pool s ≡ InPool (record_start img t k) (record_start img t k + length r)
+    placed : place_of n img pool s ≡ Some (InPool (record_start img t k) (record_start img t k + length r))
     unfolding held_place
     placed = taken ∙ rw (ne_eqb t s other, linear, has, ends, ne_eqb (length r) 0 some)
 

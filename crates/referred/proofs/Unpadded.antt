@@ -7,13 +7,12 @@ use native.Mathlib.Omega.{arith}
 use lib.ListN.{length, take, drop, length-append, length-drop, take-append-drop}
 use lib.Seq.{length-take-le, take_all, take-append_seam, drop-append_seam}
 use borrow.Author.Tests.{not-true, not-false}
-use Rattle.laws.specs.declared.Found.{Found}
-use Rattle.laws.specs.declared.Found.TheVariants.{At, Nothing}
+use Rattle.std.specs.Prelude.{Option, Some, None, unwrap_or}
 use Rattle.laws.specs.Walks.{first_below}
 use Rattle.laws.proofs.Says.{and-says}
 use Rattle.laws.proofs.Firsts.{first_is, no-first}
 use Rattle.expanded.specs.Expanded.{expanded_formed}
-use Rattle.referred.specs.Padding.{is_padding, ends_at, or_zero, unpadded_end, Padded, OnlyEnd}
+use Rattle.referred.specs.Padding.{is_padding, ends_at, unpadded_end, Padded, OnlyEnd}
 use Rattle.referred.proofs.Ends.{end_unique}
 
 -- the only place where the rule can end is where it ends, or it has none
@@ -22,9 +21,9 @@ module _ {s : List ℕ} {k : ℕ} (o : OnlyEnd s k) where
   unfolding unpadded_end
   end-no e = go (first_below (suc (length s)) (ends_at s)) refl
     where
-      go : (f : Found) → first_below (suc (length s)) (ends_at s) ≡ f → 0 ≡ or_zero f
-      go Nothing q = refl
-      go (At j) q =
+      go : (f : Option ℕ) → first_below (suc (length s)) (ends_at s) ≡ f → 0 ≡ unwrap_or f 0
+      go None q = refl
+      go (Some j) q =
           let i = first_is (suc (length s)) (ends_at s) j q in
           let z : j ≡ k = o.only j (omega (arith, i.low)) i.here in
           absurd (false≢true (sym e ∙ ap (ends_at s) (sym z) ∙ i.here))
@@ -33,9 +32,9 @@ module _ {s : List ℕ} {k : ℕ} (o : OnlyEnd s k) where
   unfolding unpadded_end
   end-yes e = go (first_below (suc (length s)) (ends_at s)) refl
     where
-      go : (f : Found) → first_below (suc (length s)) (ends_at s) ≡ f → k ≡ or_zero f
-      go Nothing q = absurd (false≢true (sym ((no-first (suc (length s)) (ends_at s) q).none k (omega (arith, o.within))) ∙ e))
-      go (At j) q =
+      go : (f : Option ℕ) → first_below (suc (length s)) (ends_at s) ≡ f → k ≡ unwrap_or f 0
+      go None q = absurd (false≢true (sym ((no-first (suc (length s)) (ends_at s) q).none k (omega (arith, o.within))) ∙ e))
+      go (Some j) q =
           let i = first_is (suc (length s)) (ends_at s) j q in
           sym (o.only j (omega (arith, i.low)) i.here)
 

@@ -1,9 +1,10 @@
 -- Both sides of each line of 02 Ticket 7, computed: where the rule of a padded record ends, and where the rule that decides stands on cards
--- of five slots. Proved in proofs/Lines, `ends-told`, `places-told`.
+-- of five slots. Proved in proofs/Lines, `ends-told`, `places_told`.
 use Rattle.std.specs.Prelude.{ℕ, ◌/◌, ◌%◌, ◌≡◌, List, [], ◌∷◌, ◌++◌, replicate}
+use Rattle.std.specs.Prelude.{Option, Some, None}
 use Rattle.access.specs.Access.{compact, referred}
 use Rattle.referred.specs.declared.Place.{Place}
-use Rattle.referred.specs.declared.Place.TheVariants.{Nowhere, InImage, InPool}
+use Rattle.referred.specs.declared.Place.TheVariants.{InImage, InPool}
 use Rattle.referred.specs.Padding.{unpadded_end}
 use Rattle.referred.specs.Deciding.{place_of, deciding_rule}
 use Rattle.referred.specs.Ticket.{Names}
@@ -62,7 +63,7 @@ pool =
     ++ (0x80 ∷ 0x01 ∷ 0x7F ∷ 0x9E ∷ 0x01 ∷ 0xFF ∷ 0xFF ∷ 0xFF ∷ [])
     ++ (0x80 ∷ 0x01 ∷ 0x01 ∷ 0x97 ∷ 0x00 ∷ [])
 
-abbrev pub on : ℕ → List ℕ → ℕ → Place
+abbrev pub on : ℕ → List ℕ → ℕ → Option Place
 on s fourth k = place_of 5 (card (rules_as 0x02 0x05 k) fourth k) pool s
 
 -- on the EF: records 1 and 2, 0 and 3; nearer a linear fixed file, its record 1 and 2; nearer a transparent, a cyclic one and a DF
@@ -72,13 +73,13 @@ OfTheEf =
     ∷ on 3 (nearer_as 2 0x02) 1 ∷ on 3 (nearer_as 2 0x02) 2
     ∷ on 3 (nearer_as 2 0x01) 1 ∷ on 3 (nearer_as 2 0x06) 1 ∷ on 3 (nearer_as 1 0x38) 1
     ∷ [])
-    ≡ InPool 4 9 ∷ InPool 12 18 ∷ Nowhere ∷ Nowhere ∷ InPool 20 25 ∷ Nowhere ∷ Nowhere ∷ Nowhere ∷ Nowhere ∷ []
+    ≡ Some (InPool 4 9) ∷ Some (InPool 12 18) ∷ None ∷ None ∷ Some (InPool 20 25) ∷ None ∷ None ∷ None ∷ None ∷ []
 
 -- on the root and on 7F10, in which a 6F06 is not asked for 7F10's own; on the rule file itself; on a rule of its own
 abbrev pub OfOthers : Type 0
 OfOthers =
     (on 0 (nearer_as 2 0x02) 1 ∷ on 1 (nearer_as 2 0x02) 1 ∷ on 2 nothing 1 ∷ on 4 (nearer_as 2 0x02) 1 ∷ [])
-    ≡ InPool 4 9 ∷ InPool 4 9 ∷ Nowhere ∷ InImage 306 309 ∷ []
+    ≡ Some (InPool 4 9) ∷ Some (InPool 4 9) ∷ None ∷ Some (InImage 306 309) ∷ []
 
 -- the rule file deactivated, terminated, of an internal type, shareable; cyclic and transparent
 abbrev pub ByTheFile : Type 0
@@ -87,7 +88,7 @@ ByTheFile =
     ∷ place_of 5 (card (rules_as 0x0A 0x05 1) nothing 1) pool 3 ∷ place_of 5 (card (rules_as 0x42 0x05 1) nothing 1) pool 3
     ∷ place_of 5 (card (rules_as 0x06 0x05 1) nothing 1) pool 3 ∷ place_of 5 (card (rules_as 0x01 0x05 1) nothing 1) pool 3
     ∷ [])
-    ≡ InPool 4 9 ∷ InPool 4 9 ∷ InPool 4 9 ∷ InPool 4 9 ∷ Nowhere ∷ Nowhere ∷ []
+    ≡ Some (InPool 4 9) ∷ Some (InPool 4 9) ∷ Some (InPool 4 9) ∷ Some (InPool 4 9) ∷ None ∷ None ∷ []
 
 -- the rule itself, of record 2: its last byte is FF, and no padding
 abbrev pub TheRule : Type 0

@@ -1,8 +1,6 @@
 -- The rule in a record of a rule file (02 Ticket 7): an expanded rule, FF bytes after it being padding. The rule is the one well-formed
 -- beginning after which only FF comes: an FF that the rule itself ends with is no padding.
-use Rattle.std.specs.Prelude.{ℕ, suc, ◌≤◌, ◌≡◌, Bool, true, ◌&&◌, List, ◌++◌, length, get_or, take, drop, eqb}
-use Rattle.laws.specs.declared.Found.{Found}
-use Rattle.laws.specs.declared.Found.TheVariants.{At, Nothing}
+use Rattle.std.specs.Prelude.{ℕ, suc, ◌≤◌, ◌≡◌, Bool, true, ◌&&◌, List, ◌++◌, length, get_or, take, drop, eqb, unwrap_or}
 use Rattle.laws.specs.Walks.{all_below, first_below}
 use Rattle.expanded.specs.Expanded.{expanded_formed}
 
@@ -17,14 +15,9 @@ is_padding s = all_below (length s) (is_ff s)
 unfoldable pub ends_at : List ℕ → ℕ → Bool
 ends_at s k = expanded_formed (take k s) && is_padding (drop k s)
 
--- the place that was found; 0 for none, where no rule ends
-abbrev pub or_zero : Found → ℕ
-or_zero (At k) = k
-or_zero Nothing = 0
-
 -- where the rule of the record ends, 0 where it has none
 unfoldable pub unpadded_end : List ℕ → ℕ
-unpadded_end s = or_zero (first_below (suc (length s)) (ends_at s))
+unpadded_end s = unwrap_or (first_below (suc (length s)) (ends_at s)) 0
 
 -- the rule of the record, without padding; empty where it has none
 unfoldable pub unpadded : List ℕ → List ℕ

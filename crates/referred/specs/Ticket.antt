@@ -1,13 +1,12 @@
 -- 02 Ticket 7, sentence by sentence: which file counts, what denies, and what decides. Each is proved in proofs/Ticket under the same name
 -- in small letters. n is the slot count; s is the slot of the ruled file, t that of the file that its rule names.
-use Rattle.std.specs.Prelude.{ℕ, ◌+◌, ◌*◌, ◌/◌, ◌<◌, ◌≤◌, ◌≡◌, true, false, List, [], ◌∷◌, ◌↔◌, length, get_or}
-use Rattle.laws.specs.declared.Found.TheVariants.{At, Nothing}
+use Rattle.std.specs.Prelude.{ℕ, ◌+◌, ◌*◌, ◌/◌, ◌<◌, ◌≤◌, ◌≡◌, true, false, List, [], ◌∷◌, ◌↔◌, length, get_or, Some, None}
 use Rattle.rules.specs.Descriptor.{structure_of, ef}
 use Rattle.image.specs.Layout.{Within, rec_at, kind_of, descriptor_of, form_of, rule_of, record_length_of, size_of}
 use Rattle.access.specs.Access.{referred}
 use Rattle.sound.specs.Table.{View, view_at, up}
 use Rattle.sound.specs.Kinship.{child_named}
-use Rattle.referred.specs.declared.Place.TheVariants.{Nowhere, InPool}
+use Rattle.referred.specs.declared.Place.TheVariants.{InPool}
 use Rattle.referred.specs.Padding.{is_padding, Padded}
 use Rattle.referred.specs.Nearest.{nearest_of}
 use Rattle.referred.specs.Deciding.{named_file_of, named_record_of, is_linear, record_start, row_at, own_place, place_of, deciding_rule}
@@ -16,19 +15,19 @@ use Rattle.referred.specs.Deciding.{named_file_of, named_record_of, is_linear, r
 pub record NearestAt (n : ℕ) (v : ℕ → View) (d x t : ℕ) : Type 0 where
   pub steps : ℕ
   pub above : steps ≤ (v d).level
-  pub here : child_named n v (up v steps d) x ≡ At t
-  pub nearest : (k : ℕ) → k < steps → child_named n v (up v k d) x ≡ Nothing
+  pub here : child_named n v (up v steps d) x ≡ Some t
+  pub nearest : (k : ℕ) → k < steps → child_named n v (up v k d) x ≡ None
 
 -- looked for in a directory, then in each above; the nearest counts, and there is none where no directory up to the root has one
 abbrev pub NearestCounts : Type 0
 NearestCounts = (n : ℕ) (v : ℕ → View) (d x : ℕ)
-    → ((t : ℕ) → (nearest_of n v d x ≡ At t) ↔ NearestAt n v d x t)
-    × ((nearest_of n v d x ≡ Nothing) ↔ ((k : ℕ) → k ≤ (v d).level → child_named n v (up v k d) x ≡ Nothing))
+    → ((t : ℕ) → (nearest_of n v d x ≡ Some t) ↔ NearestAt n v d x t)
+    × ((nearest_of n v d x ≡ None) ↔ ((k : ℕ) → k ≤ (v d).level → child_named n v (up v k d) x ≡ None))
 
 -- a compact or an expanded rule stands in the record itself
 abbrev pub OwnRule : Type 0
 OwnRule = (n : ℕ) (img pool : List ℕ) (s : ℕ) → (form_of (rec_at img s) ≡ referred → ⊥)
-    → (place_of n img pool s ≡ own_place img s)
+    → (place_of n img pool s ≡ Some (own_place img s))
     × (Within img s → get_or (rec_at img s) 33 0 ≤ 30 → deciding_rule n img pool s ≡ rule_of (rec_at img s))
 
 -- slot s has a referred rule, and the file that it names is in slot t: looked for from the DF that holds the ruled file on
@@ -52,20 +51,20 @@ PaddingFF = (s : List ℕ) → (is_padding s ≡ true) ↔ ((i : ℕ) → i < le
 pub record Denials : Type 0 where
   pub missing : (n : ℕ) (img pool : List ℕ) (s : ℕ) → form_of (rec_at img s) ≡ referred
       → ((k : ℕ) → k ≤ (view_at img (view_at img s).parent).level
-      → child_named n (view_at img) (up (view_at img) k (view_at img s).parent) (named_file_of (rec_at img s)) ≡ Nothing)
-      → place_of n img pool s ≡ Nowhere
-  pub itself : (n : ℕ) (img pool : List ℕ) (s : ℕ) → Names n img s s → place_of n img pool s ≡ Nowhere
-  pub other : (n : ℕ) (img pool : List ℕ) (s t : ℕ) → Names n img s t → is_linear (rec_at img t) ≡ false → place_of n img pool s ≡ Nowhere
+      → child_named n (view_at img) (up (view_at img) k (view_at img s).parent) (named_file_of (rec_at img s)) ≡ None)
+      → place_of n img pool s ≡ None
+  pub itself : (n : ℕ) (img pool : List ℕ) (s : ℕ) → Names n img s s → place_of n img pool s ≡ None
+  pub other : (n : ℕ) (img pool : List ℕ) (s t : ℕ) → Names n img s t → is_linear (rec_at img t) ≡ false → place_of n img pool s ≡ None
   pub zeroth : (n : ℕ) (img pool : List ℕ) (s t : ℕ) → Names n img s t
-      → named_record_of (rec_at img s) ≡ 0 → place_of n img pool s ≡ Nowhere
+      → named_record_of (rec_at img s) ≡ 0 → place_of n img pool s ≡ None
   pub past : (n : ℕ) (img pool : List ℕ) (s t : ℕ) → Names n img s t → 0 < record_length_of (rec_at img t)
-      → size_of (rec_at img t) / record_length_of (rec_at img t) < named_record_of (rec_at img s) → place_of n img pool s ≡ Nowhere
+      → size_of (rec_at img t) / record_length_of (rec_at img t) < named_record_of (rec_at img s) → place_of n img pool s ≡ None
   pub malformed : (n : ℕ) (img pool : List ℕ) (s t : ℕ) → Names n img s t
-      → ((r : List ℕ) → Padded (row_at img pool t (named_record_of (rec_at img s))) r → ⊥) → place_of n img pool s ≡ Nowhere
+      → ((r : List ℕ) → Padded (row_at img pool t (named_record_of (rec_at img s))) r → ⊥) → place_of n img pool s ≡ None
 
 -- .. each with an empty part
 abbrev pub DeniedEmpty : Type 0
-DeniedEmpty = (n : ℕ) (img pool : List ℕ) (s : ℕ) → place_of n img pool s ≡ Nowhere → deciding_rule n img pool s ≡ []
+DeniedEmpty = (n : ℕ) (img pool : List ℕ) (s : ℕ) → place_of n img pool s ≡ None → deciding_rule n img pool s ≡ []
 
 -- else the rule decides that the record holds, and it is that part of the pool, without padding
 abbrev pub Decides : Type 0
@@ -74,7 +73,7 @@ Decides = (n : ℕ) (img pool : List ℕ) (s t : ℕ) (r : List ℕ) → Names n
     → named_record_of (rec_at img s) ≤ size_of (rec_at img t) / record_length_of (rec_at img t)
     → Padded (row_at img pool t (named_record_of (rec_at img s))) r
     → (place_of n img pool s
-    ≡ InPool (record_start img t (named_record_of (rec_at img s))) (record_start img t (named_record_of (rec_at img s)) + length r))
+    ≡ Some (InPool (record_start img t (named_record_of (rec_at img s))) (record_start img t (named_record_of (rec_at img s)) + length r)))
     × (deciding_rule n img pool s ≡ r)
 
 -- a record is one rule and padding at most

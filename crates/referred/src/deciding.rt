@@ -1,6 +1,6 @@
 // The rule that decides on a file (02 Ticket 7): where it stands, and the rule as a part of the image or of the pool. Nothing is kept: each
 // command reads the rule file as it is at that moment.
-ghost use Rattle.std.specs.Prelude.{◌≡◌, ◌<◌, ◌≤◌, get_or};
+ghost use Rattle.std.specs.Prelude.{◌≡◌, ◌<◌, ◌≤◌, get_or, Some};
 ghost use Rattle.laws.specs.Lists.{part};
 ghost use Rattle.image.specs.Layout.{Within, rec_at};
 ghost use Rattle.kinship.specs.Climb.{Rooted, Stands};
@@ -9,7 +9,6 @@ ghost use Rattle.referred.specs.Deciding.{own_place, place_of, Bounded, deciding
 
 use crate::{Place, nearest, padding};
 use image::fields;
-use laws::Found;
 use pool::records;
 use rules::descriptor;
 
@@ -64,31 +63,31 @@ fn stretch(pool: &[u8], from: usize, count: usize) -> &[u8]
     &pool[from..to]
 }
 
-// Where the rule in record k of the file in slot t stands.
-fn held(image: &[u8], pool: &[u8], t: usize, k: usize) -> Place
+// Where the rule in record k of the file in slot t stands; None is nowhere, here and below.
+fn held(image: &[u8], pool: &[u8], t: usize, k: usize) -> Option<Place>
     requires { Within image.now t × (k < 256) }
     ensures { (result ≡ held_place image.now pool.now t k) × Bounded result }
 {
     if !is_linear(image, t) {
-        return Place::Nowhere;
+        return None;
     }
     if !records::has_record(image, t, k) {
-        return Place::Nowhere;
+        return None;
     }
     let from = record_start(image, t, k);
     let length = fields::record_length(image, t) as usize;
     let end = padding::unpadded_end(stretch(pool, from, length));
     if end == 0 {
-        return Place::Nowhere;
+        return None;
     }
-    Place::InPool {
+    Some(Place::InPool {
         from,
         to: from + end,
-    }
+    })
 }
 
 // Where the rule stands that slot s names: the file is looked for in the directory that holds the ruled file, then in each above.
-fn referred(image: &[u8], pool: &[u8], n: usize, s: usize) -> Place
+fn referred(image: &[u8], pool: &[u8], n: usize, s: usize) -> Option<Place>
     requires rooted { Rooted image.now n }
     requires stands { Stands image.now n s }
     ensures { (result ≡ referred_place n image.now pool.now s) × Bounded result }
@@ -96,11 +95,11 @@ fn referred(image: &[u8], pool: &[u8], n: usize, s: usize) -> Place
     let up = fields::parent(image, s);
     let x = named_file(image, s);
     let found = nearest::nearest(image, n, up, x);
-    let Found::At(t) = found else {
-        return Place::Nowhere;
+    let Some(t) = found else {
+        return None;
     };
     if t == s {
-        return Place::Nowhere;
+        return None;
     }
     held(image, pool, t, named_record(image, s))
 }
@@ -108,7 +107,7 @@ fn referred(image: &[u8], pool: &[u8], n: usize, s: usize) -> Place
 // Where the rule of slot s stands in its own record.
 fn own(image: &[u8], s: usize) -> Place
     requires { Within image.now s }
-    ensures { (result ≡ own_place image.now s) × Bounded result }
+    ensures { (result ≡ own_place image.now s) × Bounded (Some result) }
 {
     let from = 16 + 64 * s + 34;
     let length = numbers::wide(image[16 + 64 * s + 33]) as usize;
@@ -119,7 +118,7 @@ fn own(image: &[u8], s: usize) -> Place
 }
 
 // Where the rule that decides on slot s stands.
-pub fn place(image: &[u8], pool: &[u8], n: usize, s: usize) -> Place
+pub fn place(image: &[u8], pool: &[u8], n: usize, s: usize) -> Option<Place>
     requires rooted { Rooted image.now n }
     requires stands { Stands image.now n s }
     ensures { (result ≡ place_of n image.now pool.now s) × Bounded result }
@@ -127,7 +126,7 @@ pub fn place(image: &[u8], pool: &[u8], n: usize, s: usize) -> Place
     if fields::form(image, s) == access::REFERRED {
         return referred(image, pool, n, s);
     }
-    own(image, s)
+    Some(own(image, s))
 }
 
 // The rule that decides on slot s, as a part of the image or of the pool; empty where the search denies.
@@ -137,8 +136,8 @@ pub fn deciding<'a>(image: &'a [u8], pool: &'a [u8], n: usize, s: usize) -> &'a 
     ensures { result.now ≡ deciding_rule n image.now pool.now s }
 {
     match place(image, pool, n, s) {
-        Place::Nowhere => &pool[..0],
-        Place::InImage { from, to } => &image[from..to],
-        Place::InPool { from, to } => &pool[from..to],
+        None => &pool[..0],
+        Some(Place::InImage { from, to }) => &image[from..to],
+        Some(Place::InPool { from, to }) => &pool[from..to],
     }
 }

@@ -7,10 +7,9 @@ pub mod deciding;
 pub mod nearest;
 pub mod padding;
 
-// Where a rule stands: nowhere, or from one byte of the image, or of the pool, up to another.
-#[derive(Clone, Copy)]
+// Where a rule stands: from one byte of the image, or of the pool, up to another.
+#[derive(Clone, Copy, Debug, PartialEq, Eq)]
 pub enum Place {
-    Nowhere,
     InImage { from: usize, to: usize },
     InPool { from: usize, to: usize },
 }

@@ -8,8 +8,7 @@ ghost use Rattle.referred.specs.Marks.{Marked};
 ghost use Rattle.referred.specs.Nearest.{nearest_of};
 
 use image::fields;
-use kinship::search;
-use laws::Found;
+use kinship::{climb, search};
 
 // Marks the directory of the file in slot s, if it has identifier x.
 fn mark(image: &[u8], n: usize, x: u16, s: usize, marks: &mut [u8])
@@ -34,54 +33,31 @@ fn mark_all(image: &[u8], n: usize, x: u16, marks: &mut [u8])
     requires marks_len { length marks.old ≡ 1024 }
     ensures { Marked image.now x marks.new n }
 {
-    let mut s = 0;
-    while s < n {
+    for s in 0..n {
         mark(image, n, x, s, marks);
-        s += 1;
     }
 }
 
 // The file with identifier x in directory t, where it has a mark.
-fn child_marked(image: &[u8], n: usize, t: usize, x: u16, marks: &[u8]) -> Found
+fn child_marked(image: &[u8], n: usize, t: usize, x: u16, marks: &[u8]) -> Option<usize>
     requires rooted { Rooted image.now n }
     requires t_lt_n { t < n }
     requires marked { Marked image.now x marks.now n }
     ensures { result ≡ child_named n (view_at image.now) t x }
 {
     if marks[t] != 1 {
-        return Found::Nothing;
+        return None;
     }
     search::child_named(image, n, t, x)
 }
 
-// The walk up, by marks.
-fn climb(image: &[u8], n: usize, d: usize, x: u16, marks: &[u8]) -> Found
-    requires rooted { Rooted image.now n }
-    requires stands { Stands image.now n d }
-    requires marked { Marked image.now x marks.now n }
-    ensures { result ≡ nearest_of n (view_at image.now) d x }
-{
-    let level = fields::level(image, d);
-    let mut t = d;
-    let mut i = 0;
-    while i < level + 1 {
-        let found = child_marked(image, n, t, x, marks);
-        if let Found::At(s) = found {
-            return Found::At(s);
-        }
-        t = fields::parent(image, t);
-        i += 1;
-    }
-    Found::Nothing
-}
-
 // The file with identifier x in directory d, else in the nearest directory above it that has one.
-pub fn nearest(image: &[u8], n: usize, d: usize, x: u16) -> Found
+pub fn nearest(image: &[u8], n: usize, d: usize, x: u16) -> Option<usize>
     requires rooted { Rooted image.now n }
     requires stands { Stands image.now n d }
     ensures { result ≡ nearest_of n (view_at image.now) d x }
 {
     let mut marks = [0; 1024];
     mark_all(image, n, x, &mut marks);
-    climb(image, n, d, x, &marks)
+    climb::first_up(image, n, d, |t| child_marked(image, n, t, x, &marks))
 }

@@ -11,21 +11,15 @@ const FILL: u8 = 0xFF;
 fn is_padding(s: &[u8]) -> bool
     ensures { result ≡ is_padding s.now }
 {
-    let mut i = 0;
-    while i < s.len() {
-        if s[i] != FILL {
-            return false;
-        }
-        i += 1;
-    }
-    true
+    s.iter().all(|b| *b == FILL)
 }
 
 // The only place where the rule can end: from object to object, up to an FF where a tag should stand.
 fn last_place(row: &[u8]) -> usize
     ensures { OnlyEnd row.now result }
 {
-    let mut at: usize = 0;
+    // No range: each object says where the next begins.
+    let mut at = 0;
     while at < row.len() {
         if row[at] == FILL {
             return at;
@@ -39,7 +33,7 @@ fn last_place(row: &[u8]) -> usize
     at
 }
 
-// Where the rule ends, 0 where the record has none.
+// Where the rule ends, 0 where the record has none: the number of `unpadded_end`, and no rule has 0 bytes.
 pub fn unpadded_end(row: &[u8]) -> usize
     ensures { (result ≡ unpadded_end row.now) × (result ≤ length row.now) }
 {

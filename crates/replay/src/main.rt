@@ -6,17 +6,26 @@
 // and the program ends with status 1.
 #![tactic(auto)]
 
+ghost use Rattle.replay_text.specs.Replay.{replay_of};
+
+use std::io;
 use std::process::ExitCode;
+use streams::Program;
+
+struct Replay;
+
+impl Program<98308> for Replay {
+    const UNREAD: &'static str = "replay: standard input cannot be read";
+
+    const UNWRITTEN: &'static str = "replay: standard output cannot be written";
+
+    ghost text_of = { replay_of };
+
+    fn text(input: &[u8], out: &mut [u8; 98308]) -> usize {
+        replay_text::replay(input, out)
+    }
+}
 
 fn main(rt: HostRuntime) -> ExitCode {
-    let mut data = [0u8; 32769];
-    let Ok(n) = streams::fill(&mut rt.stdin(), &mut data) else {
-        return streams::failure(&rt, "replay: standard input cannot be read");
-    };
-    let mut out = [0u8; 98308];
-    let long = replay_text::replay(&data[..n], &mut out);
-    if rt.write_all(&out[..long]).is_err() {
-        return streams::failure(&rt, "replay: standard output cannot be written");
-    }
-    ExitCode::SUCCESS
+    streams::run::<Replay, 32769, 98308, _, _>(&rt, &mut rt.stdin(), &mut io::writer(&rt))
 }

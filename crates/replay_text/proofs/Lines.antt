@@ -9,7 +9,7 @@ use lib.ListN.{length, take, drop}
 use borrow.Author.Tests.{lt-ltb, le-ltb, ltb-false}
 use Rattle.laws.specs.Lists.{part, splice}
 use Rattle.numbers.specs.Numbers.{u16_at}
-use Rattle.card.specs.declared.Reply.{Reply}
+use Rattle.card.specs.Command.{Reply}
 use Rattle.card.specs.Command.{reply_of, image_of, answer_word, CommandPromises}
 use Rattle.text.specs.Digits.{digit_of}
 use Rattle.replay_text.specs.Text.{line_of}

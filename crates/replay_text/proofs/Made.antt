@@ -8,13 +8,14 @@ use lib.Dec.{eqb, leb}
 use lib.ListN.{length, take, replicate, length-replicate}
 use lib.Seq.{length-take-le}
 use borrow.Author.Tests.{lt-ltb, le-ltb, lt-leb, leb-true}
+use Rattle.std.specs.Prelude.{Result, Ok, Err}
 use Rattle.laws.specs.Lists.{splice}
 use Rattle.laws.proofs.Says.{and-says}
 use Rattle.numbers.specs.Numbers.{u16_at, u32_at}
 use Rattle.access.specs.Access.{compact}
 use Rattle.maker.specs.declared.Edition.{Edition}
-use Rattle.maker.specs.declared.Made.{Made}
-use Rattle.maker.specs.declared.Made.TheVariants.{Done, BadLength, BadTotal, BadRule}
+use Rattle.maker.specs.declared.MakeError.{MakeError}
+use Rattle.maker.specs.declared.MakeError.TheVariants.{BadLength, BadTotal, BadRule}
 use Rattle.maker.specs.Making.{slots_in, fits_length, fits_buffer, made_of, made_number, left_by}
 use Rattle.sound.specs.Effects.{fresh}
 use Rattle.text.specs.Written.{Wrote, big}
@@ -23,46 +24,41 @@ use Rattle.replay_text.specs.Text.{bad}
 use Rattle.replay_text.specs.Replay.{root_rule, first_edition, run_of, good_header, perform_of, replay_of}
 
 -- what is written, by the maker's answer
-by_made : List ℕ → List ℕ → Made → List ℕ
+by_made : List ℕ → List ℕ → Result Unit MakeError → List ℕ
 by_made s img m = cond (eqb (made_number m) 0) (run_of (length s) s 11 (left_by m img first_edition (u32_at s 7) compact root_rule)) bad
 
-perform_made : (s img : List ℕ) (m : Made) → made_of img first_edition (u32_at s 7) compact root_rule ≡ m → by_made s img m ≡ perform_of s img
+perform_made : (s img : List ℕ) (m : Result Unit MakeError) → made_of img first_edition (u32_at s 7) compact root_rule ≡ m → by_made s img m ≡ perform_of s img
 unfolding perform_of by_made
 perform_made s img m e =
-    ap (λ (t : Made). cond (eqb (made_number t) 0) (run_of (length s) s 11 (left_by t img first_edition (u32_at s 7) compact root_rule)) bad)
+    ap (λ (t : Result Unit MakeError). cond (eqb (made_number t) 0) (run_of (length s) s 11 (left_by t img first_edition (u32_at s 7) compact root_rule)) bad)
     (sym e)
 
-module _ (s img : List ℕ) (total : ℕ) (r : Made) (et : total ≡ u32_at s 7) (er : r ≡ made_of img first_edition total compact root_rule) where
-  made_is : (m : Made) → r ≡ m → made_of img first_edition (u32_at s 7) compact root_rule ≡ m
+refused_bad : (s img : List ℕ) (d : MakeError) → by_made s img (Err d) ≡ bad
+unfolding by_made
+refused_bad s img BadLength = refl
+refused_bad s img BadTotal = refl
+refused_bad s img BadRule = refl
+
+module _ (s img : List ℕ) (total : ℕ) (r : Result Unit MakeError) (et : total ≡ u32_at s 7) (er : r ≡ made_of img first_edition total compact root_rule) where
+  made_is : (m : Result Unit MakeError) → r ≡ m → made_of img first_edition (u32_at s 7) compact root_rule ≡ m
   made_is m e = ap (λ (n : ℕ). made_of img first_edition n compact root_rule) (sym et) ∙ sym er ∙ e
 
-  pub performed : (y : List ℕ) → r ≡ Done → y ≡ left_by r img first_edition total compact root_rule → run_of (length s) s 11 y ≡ perform_of s img
+  pub performed : (y : List ℕ) → r ≡ Ok tt → y ≡ left_by r img first_edition total compact root_rule → run_of (length s) s 11 y ≡ perform_of s img
   unfolding by_made
   performed y e h =
       ap (λ (x : List ℕ). run_of (length s) s 11 x)
-      (h ∙ ap (λ (m : Made). left_by m img first_edition total compact root_rule) e
-      ∙ ap (λ (n : ℕ). left_by Done img first_edition n compact root_rule) et)
-      ∙ perform_made s img Done (made_is Done e)
+      (h ∙ ap (λ (m : Result Unit MakeError). left_by m img first_edition total compact root_rule) e
+      ∙ ap (λ (n : ℕ). left_by (Ok tt) img first_edition n compact root_rule) et)
+      ∙ perform_made s img (Ok tt) (made_is (Ok tt) e)
 
-  pub no_length : r ≡ BadLength → bad ≡ perform_of s img
-  unfolding by_made
-  no_length e = perform_made s img BadLength (made_is BadLength e)
-
-  pub no-total : r ≡ BadTotal → bad ≡ perform_of s img
-  unfolding by_made
-  no-total e = perform_made s img BadTotal (made_is BadTotal e)
-
-  pub no-rule : r ≡ BadRule → bad ≡ perform_of s img
-  unfolding by_made
-  no-rule e = perform_made s img BadRule (made_is BadRule e)
+  pub refused : {d : MakeError} → r ≡ Err d → bad ≡ perform_of s img
+  refused {d} e = sym (refused_bad s img d) ∙ perform_made s img (Err d) (made_is (Err d) e)
 
 -- only the length of the buffer counts
-by_length : (s a b : List ℕ) (m : Made) → length a ≡ length b → by_made s a m ≡ by_made s b m
+by_length : (s a b : List ℕ) (m : Result Unit MakeError) → length a ≡ length b → by_made s a m ≡ by_made s b m
 unfolding by_made
-by_length s a b Done e = ap (λ (n : ℕ). run_of (length s) s 11 (fresh 1 (slots_in n) (u32_at s 7) compact root_rule)) e
-by_length s a b BadLength e = refl
-by_length s a b BadTotal e = refl
-by_length s a b BadRule e = refl
+by_length s a b (Ok u) e = ap (λ (n : ℕ). run_of (length s) s 11 (fresh 1 (slots_in n) (u32_at s 7) compact root_rule)) e
+by_length s a b (Err d) e = refused_bad s a d ∙ sym (refused_bad s b d)
 
 made-length : (a b : List ℕ) (e : Edition) (total form : ℕ) (rule : List ℕ) → length a ≡ length b
     → made_of a e total form rule ≡ made_of b e total form rule
@@ -90,7 +86,7 @@ too_many n h =
 refuses : (s : List ℕ) (n : ℕ) → 1023 < n → bad ≡ perform_of s (replicate (16 + 64 * n) 0)
 unfolding by_made made_of fits_buffer
 refuses s n h =
-    perform_made s (replicate (16 + 64 * n) 0) BadLength
+    perform_made s (replicate (16 + 64 * n) 0) (Err BadLength)
     (rw (length-replicate {A = ℕ} (16 + 64 * n) 0, too_many n h))
 
 -- the three ways of `replay`

@@ -1,7 +1,7 @@
 -- The text of a stream (01 "Replay"): `UFS`, version 1, N, total, then commands each after a 16-bit length; root rule 7F
 -- and seven 00; sets full, no other channel.
 use Rattle.std.specs.Prelude.{ℕ, zero, suc, ◌+◌, ◌*◌, ◌≡◌, Bool, true, false, cond, ◌&&◌, ◌||◌, List, [], ◌∷◌, ◌++◌, eqb, ltb, leb}
-use Rattle.std.specs.Prelude.{length, get_or, replicate}
+use Rattle.std.specs.Prelude.{length, get_or, replicate, Ok}
 use Rattle.laws.specs.Lists.{part}
 use Rattle.numbers.specs.Numbers.{u16_at, u32_at}
 use Rattle.maker.specs.declared.Edition.{Edition}
@@ -9,7 +9,6 @@ use Rattle.image.specs.Layout.{has_bodies, version_of}
 use Rattle.access.specs.Access.{compact}
 use Rattle.sound.specs.Sound.{soundb}
 use Rattle.verdict.specs.declared.State.{State}
-use Rattle.maker.specs.declared.Made.TheVariants.{Done}
 use Rattle.maker.specs.Making.{made_of, made_number, left_by}
 use Rattle.card.specs.Command.{reply_of, image_of, answer_word}
 use Rattle.card.specs.Obeyed.{is_one_of}
@@ -59,7 +58,7 @@ abbrev pub Played : List ℕ → Type 0
 Played img = (soundb img ≡ true) × (has_bodies (version_of img) ≡ false)
 
 -- .. so that a command on it is always answered by a word of 01's table, never 0000, and leaves such an image (proofs/Worded,
--- `always-worded`)
+-- `always_worded`)
 abbrev pub AlwaysWorded : Type 0
 AlwaysWorded = (s : List ℕ) (at : ℕ) (img : List ℕ) → Played img
     → (is_one_of (word_at s at img) words_of_table ≡ true) × Played (image_at s at img)
@@ -91,8 +90,8 @@ perform_of s img =
 
 -- the card that a stream begins with is one of those on which each command is answered by a word (proofs/Worded, `fresh-played`)
 abbrev pub FreshPlayed : Type 0
-FreshPlayed = (img : List ℕ) (total : ℕ) → made_of img first_edition total compact root_rule ≡ Done
-    → Played (left_by Done img first_edition total compact root_rule)
+FreshPlayed = (img : List ℕ) (total : ℕ) → made_of img first_edition total compact root_rule ≡ Ok tt
+    → Played (left_by (Ok tt) img first_edition total compact root_rule)
 
 -- over 32,768 bytes; a bad header; a card of N slots
 unfoldable pub replay_of : List ℕ → List ℕ

@@ -2,7 +2,7 @@
 // `replay` only reads a stream and writes that text.
 #![tactic(auto)]
 
-ghost use Rattle.std.specs.Prelude.{◌≡◌, false, [], ◌+◌, ◌*◌, ◌<◌, ◌≤◌, length};
+ghost use Rattle.std.specs.Prelude.{◌≡◌, false, [], ◌+◌, ◌*◌, ◌<◌, ◌≤◌, length, take};
 ghost use Rattle.laws.specs.Lists.{splice};
 ghost use Rattle.card.specs.Command.{reply_of, image_of, answer_word};
 ghost use Rattle.text.specs.Written.{Wrote, Counted};
@@ -10,8 +10,7 @@ ghost use Rattle.replay_text.specs.Text.{line_of, bad, cut};
 ghost use Rattle.replay_text.specs.Replay.{full, lent, good_header, cut_short, sent_at, end_of, word_at, image_at, run_of};
 ghost use Rattle.replay_text.specs.Replay.{perform_of, replay_of};
 
-use card::Reply;
-use maker::{Edition, Made};
+use maker::Edition;
 use rules::Sets;
 use verdict::State;
 
@@ -24,7 +23,7 @@ fn put_line(out: &mut [u8], at: usize, word: u16)
     let b = text::digit(word / 256 % 16);
     let c = text::digit(word / 16 % 16);
     let d = text::digit(word % 16);
-    numbers::copy_in(out, at, &[a, b, c, d, 10]);
+    numbers::copy_in(out, at, &[a, b, c, d, b'\n']);
 }
 
 // Writes `CUT` at `at`.
@@ -32,7 +31,7 @@ fn put_cut(out: &mut [u8], at: usize)
     requires { at + 4 ≤ length out.old }
     ensures { out.new ≡ splice out.old at cut }
 {
-    numbers::copy_in(out, at, &[67, 85, 84, 10]);
+    numbers::copy_in(out, at, b"CUT\n");
 }
 
 // Where the command ends whose length stands at `at`.
@@ -77,21 +76,11 @@ fn step(image: &mut [u8], command: &[u8]) -> u16
         external: 0xFFFF,
         user: 0xFFFF,
     };
-    let state = State {
-        sets: sets,
-        channels: 0,
-    };
-    let mut none = [0u8; 0];
-    let reply = card::command(image, &mut none, command, &mut response[..67], state);
+    let state = State { sets, channels: 0 };
+    let reply = card::command(image, &mut [], command, &mut response[..67], state);
     match reply {
-        Reply::Word {
-            word,
-            told,
-            security,
-        } => word,
-        Reply::Damaged => 0,
-        Reply::Short => 0,
-        Reply::WrongPool => 0,
+        Ok(answer) => answer.word,
+        Err(_) => 0,
     }
 }
 
@@ -106,6 +95,7 @@ fn turn(s: &[u8], at: usize, image: &mut [u8], out: &mut [u8], put: usize)
     put_line(out, put, word);
 }
 
+// No `for`: a command begins where the one before it ends, and not an index further.
 // Carries out the commands of the stream in turn, writes a line for each, and `CUT` where one is cut short. Gives the
 // number of bytes written.
 fn run(s: &[u8], image: &mut [u8], out: &mut [u8]) -> usize
@@ -134,13 +124,13 @@ fn good_header(s: &[u8]) -> bool
     if s.len() < 11 {
         return false;
     }
-    if s[0] != 85 {
+    if s[0] != b'U' {
         return false;
     }
-    if s[1] != 70 {
+    if s[1] != b'F' {
         return false;
     }
-    if s[2] != 83 {
+    if s[2] != b'S' {
         return false;
     }
     numbers::u16_at(s, 3) == 1
@@ -151,7 +141,7 @@ fn put_bad(out: &mut [u8]) -> usize
     requires { 4 ≤ length out.old }
     ensures { Wrote result out.old out.new bad }
 {
-    numbers::copy_in(out, 0, &[66, 65, 68, 10]);
+    numbers::copy_in(out, 0, b"BAD\n");
     4
 }
 
@@ -169,10 +159,8 @@ fn perform(s: &[u8], image: &mut [u8], out: &mut [u8]) -> usize
         &[0x7F, 0, 0, 0, 0, 0, 0, 0],
     );
     match made {
-        Made::Done => run(s, image, out),
-        Made::BadLength => put_bad(out),
-        Made::BadTotal => put_bad(out),
-        Made::BadRule => put_bad(out),
+        Ok(()) => run(s, image, out),
+        Err(_) => put_bad(out),
     }
 }
 
@@ -189,7 +177,7 @@ fn write(s: &[u8], out: &mut [u8]) -> usize
     ensures { Wrote result out.old out.new (replay_of s.now) }
 {
     if 32768 < s.len() {
-        numbers::copy_in(out, 0, &[66, 73, 71, 10]);
+        numbers::copy_in(out, 0, b"BIG\n");
         return 4;
     }
     if !good_header(s) {
@@ -209,6 +197,7 @@ fn write(s: &[u8], out: &mut [u8]) -> usize
 pub fn replay(s: &[u8], out: &mut [u8; 98308]) -> usize
     ensures wrote { Wrote result out.old out.new (replay_of s.now) }
     ensures counted { Counted result out.new }
+    ensures taken { take result out.new ≡ replay_of s.now }
 {
     write(s, out)
 }

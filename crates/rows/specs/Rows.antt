@@ -108,6 +108,6 @@ abbrev pub all_say : List Row → List ℕ
 all_say [] = []
 all_say (r ∷ rs) = r.says ∷ all_say rs
 
--- in every row the definitions give what 01 says, on a card of any version that is known (proofs/Computed, `both-sides`)
+-- in every row the definitions give what 01 says, on a card of any version that is known (proofs/Computed, `both_sides`)
 abbrev pub BothSides : Type 0
 BothSides = (v : ℕ) → known_version v ≡ true → (x : Sets) → all_give (rows v x) ≡ all_say (rows v x)

@@ -8,7 +8,7 @@ use Rattle.access.specs.Access.{compact}
 use Rattle.access.specs.Lines.{user1}
 use Rattle.sound.specs.Effects.{fresh}
 use Rattle.create_data.specs.Grammar.{object}
-use Rattle.card.specs.declared.Reply.{Reply}
+use Rattle.card.specs.Command.{Reply}
 use Rattle.card.specs.Command.{answer_number, answer_word, answer_security, reply_of}
 use Rattle.rows.specs.Calls.{with, blank, left, card, select_file, deactivate_file, terminate_ef}
 use Rattle.rows.specs.Rows.{empty}

@@ -58,6 +58,6 @@ found =
     ∷ (0x9000 ∷ 1 ∷ 0xFFFF ∷ [])
     ∷ []
 
--- (proofs/Computed, `select-tries`)
+-- (proofs/Computed, `select_tries`)
 abbrev pub SelectTries : Type 0
 SelectTries = (x : Sets) → tried x ≡ found

@@ -1,20 +1,18 @@
--- The bits of an AM byte and of an identifier: what a product or one test tells of them is what the statement
--- says; of a byte, by one test of all 256 that is computed.
+-- The bits of an AM byte: what a product tells of them is what the statement says, by one test of all 256 bytes that is computed; so are
+-- the two tables right.
 use mathlib.Core.Path.{◌≡◌, refl}
 use mathlib.Core.Bool.{true}
 use mathlib.Core.List.{List}
 use Prim.Native.Nat.{ℕ, ◌+◌, ◌*◌, ◌/◌, ◌%◌, ◌<◌}
 use lib.Bits.{bit_and}
-use lib.ListN.{length, get_or}
+use lib.ListN.{length}
 use lib.Dec.{T, eqb}
 use borrow.Author.Tests.{eqb-true}
 use Rattle.laws.specs.Walks.{all_below}
-use Rattle.laws.proofs.Chains.{not-and, not_last}
 use Rattle.laws.specs.Tests.{every_entry}
 use Rattle.laws.proofs.Tables.{entry_of, entry_is}
 use Rattle.laws.proofs.Walks.{all_each}
 use Rattle.rules.specs.Descriptor.{class_of, Classes}
-use Rattle.rules.specs.Value.{good_identifier}
 use Rattle.rules.specs.Group.{b7, b6, b5, b4, b3, b2, b1, group_length, Lengths}
 
 -- the set bits of an AM byte, each alone in four bits, then summed in the highest four
@@ -36,15 +34,5 @@ count_bits am h =
 pub classes_by : (xs : List ℕ) → length xs ≡ 256 → T (every_entry (entry_of class_of) 0 xs) → Classes xs
 classes_by xs e t = record { right = λ d l. entry_is class_of 256 d xs e t l }
 
--- the entry of a byte
-pub class_in : (xs : List ℕ) (d : ℕ) → d < 256 → Classes xs → get_or xs d 0 ≡ class_of d
-class_in xs d l table = table.right d l
-
 pub lengths_by : (xs : List ℕ) → length xs ≡ 256 → T (every_entry (entry_of group_length) 0 xs) → Lengths xs
 lengths_by xs e t = record { right = λ am l. entry_is group_length 256 am xs e t l }
-
--- the identifiers that no file has end in FF
-pub low_byte : (x : ℕ) → (x % 256 ≡ 0xFF → ⊥) → true ≡ good_identifier x
-unfolding good_identifier
-low_byte x h =
-    not-and x 0x3FFF _ (λ e. h (rw e)) (not-and x 0x7FFF _ (λ e. h (rw e)) (not_last x 0xFFFF (λ e. h (rw e)) refl))

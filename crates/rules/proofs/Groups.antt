@@ -5,6 +5,8 @@ use mathlib.Core.Bool.{Bool, true, false, not, cond, or-true}
 use mathlib.Core.List.{List}
 use Prim.Native.Nat.{ℕ, zero, suc, ◌+◌, ◌-◌, ◌<◌, ◌≤◌}
 use native.Mathlib.Omega.{arith}
+use mir.Val.{Fits}
+use mir.Syntax.{w8}
 use lib.ListN.{length, get_or}
 use lib.Dec.{ltb}
 use borrow.Author.Tests.{lt-ltb, le-ltb, leb-true, ltb-false}
@@ -86,7 +88,7 @@ short-group am n a e = go (ltb am 128) refl e
     go false p q = absurd (omega arith)
 
 -- one group, by the table of lengths: i is the first AM byte, x what the table says of it
-pub one-formed : (rule table : List ℕ) (i x : ℕ) → Lengths table → 1 ≤ length rule → i ≡ get_or rule 0 0 → i < 256 → x ≡ get_or table i 0
+pub one-formed : (rule table : List ℕ) (i x : ℕ) → Lengths table → 1 ≤ length rule → i ≡ get_or rule 0 0 → Fits w8 (get_or rule 0 0) → x ≡ get_or table i 0
     → x ≡ length rule → true ≡ compact_formed rule
 unfolding next_of
 one-formed rule table i x t a q l e h =
@@ -95,7 +97,7 @@ one-formed rule table i x t a q l e h =
     (omega arith)
   where
     fills : (i ≤ 127) × (length rule ≡ 1 + b7 i + b6 i + b5 i + b4 i + b3 i + b2 i + b1 i)
-    fills = short-group i (length rule) a (sym h ∙ e ∙ t.right i l)
+    fills = short-group i (length rule) a (sym h ∙ e ∙ t.right i (omega (arith, q, l)))
 
 -- a length that counts its AM byte is not 0
 not_none : (a b c d e f g : ℕ) → 0 ≡ 1 + a + b + c + d + e + f + g → ⊥
@@ -110,9 +112,9 @@ module _ {rule : List ℕ} {at : ℕ} (inv : Formed rule at) (table : List ℕ) 
       let zero : get_or rule at 0 ≡ 0 = sym e ∙ z in
       formed-next inv {to = at + 1} here (rw zero (omega arith)) (omega arith) (omega arith)
 
-  module _ (low : am < 256) {n : ℕ} (f : n ≡ get_or table am 0) where
+  module _ (low : Fits w8 (get_or rule at 0)) {n : ℕ} (f : n ≡ get_or table am 0) where
     is_length : n ≡ group_length am
-    is_length = f ∙ t.right am low
+    is_length = f ∙ t.right am (omega (arith, e, low))
 
     pub formed-none : n ≡ 0 → false ≡ compact_formed rule
     unfolding group_length

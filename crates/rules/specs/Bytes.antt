@@ -1,9 +1,10 @@
 -- Which bytes are known, of all 256: how many descriptor bytes have each class, and which life-cycle bytes (01 "Descriptor
 -- and rules", "Image"; 02 Ticket 1). Each is computed.
-use Rattle.std.specs.Prelude.{ℕ, zero, suc, ◌≡◌, refl, Bool, cond, List, [], ◌∷◌, ◌++◌, eqb}
+use Rattle.std.specs.Prelude.{ℕ, zero, suc, ◌≡◌, refl, Bool, cond, List, [], ◌∷◌, ◌++◌, eqb, Option}
 use Rattle.laws.specs.Walks.{count_below, sum_below}
 use Rattle.rules.specs.Descriptor.{class_of, df, ef, neither}
-use Rattle.rules.specs.Life.{life_of, creation, initialisation, is_activated, is_deactivated, is_terminated}
+use Rattle.rules.specs.declared.life_cycle.Life.{Life}
+use Rattle.rules.specs.Life.{same_life, life_of, creation, initialisation, is_activated, is_deactivated, is_terminated}
 use Rattle.rules.specs.Life.{known_life, new_life, can_activate}
 
 -- how many descriptor bytes have a class
@@ -30,8 +31,8 @@ unfolding known_life new_life can_activate life_of
 known-lives = refl
 
 -- those of each class: creation, initialisation, activated, deactivated, terminated
-abbrev pub lives_in : ℕ → List ℕ
-lives_in class = these 256 (λ x. eqb (life_of x) class)
+abbrev pub lives_in : Option Life → List ℕ
+lives_in class = these 256 (λ x. same_life (life_of x) class)
 
 pub classed_lives :
     lives_in creation ∷ lives_in initialisation ∷ these 256 is_activated ∷ these 256 is_deactivated ∷ these 256 is_terminated ∷ []

@@ -3,7 +3,8 @@
 ghost use Rattle.std.specs.Prelude.{◌≡◌};
 ghost use Rattle.rules.specs.Descriptor.{class_of, Classes, has_records};
 
-// The classes, by the numbers of a record's kind.
+// The classes, by the numbers of a record's kind. No enum: a record may hold any byte there, and `kind` of `image` asks for no less;
+// soundness compares that byte with the table's in one look.
 pub const NEITHER: u8 = 0;
 
 pub const DF: u8 = 1;
@@ -42,17 +43,13 @@ pub fn classes() -> [u8; 256]
 pub fn class(d: u8) -> u8
     ensures { result ≡ class_of d }
 {
-    let table = classes();
-    let i = d as usize;
-    table[i]
+    classes()[usize::from(d)]
 }
 
 // Whether the structure is linear fixed or cyclic.
+#[tactic(auto, unfolding(crate::specs::Descriptor::has_records))]
 pub fn has_records(d: u8) -> bool
     ensures { result ≡ has_records d }
 {
-    if d % 8 == 2 {
-        return true;
-    }
-    d % 8 == 6
+    matches!(d % 8, 2 | 6)
 }

@@ -32,31 +32,32 @@ pub fn lengths() -> [u8; 256]
 }
 
 // The SC byte at a place, for a bit that is set (1); FF, never, for one that is not.
+#[tactic(auto, unfolding(crate::specs::Group::sc_at))]
 fn sc_at(rule: &[u8], at: usize, on: u8) -> u8
     ensures { result ≡ sc_at rule.now at on }
 {
-    if on != 1 {
-        return 0xFF;
+    if on == 1 && at < rule.len() {
+        rule[at]
+    } else {
+        0xFF
     }
-    if at < rule.len() {
-        return rule[at];
-    }
-    0xFF
 }
 
-// The seven condition slots of the group at `at`: slot 0 is b7, slot 6 is b1.
+// The seven condition slots of the group at `at`: slot 0 is b7, slot 6 is b1. No loop: so they stand one by one as in `slots_of`, and a
+// loop would need the sum so far as its invariant.
+#[tactic(auto, unfolding(crate::specs::Group::slots_of))]
 pub fn unpack(rule: &[u8], at: usize) -> [u8; 7]
     requires { at < length rule.now }
     ensures { result ≡ slots_of rule.now at }
 {
     let am = rule[at];
     let b7 = at + 1;
-    let b6 = b7 + (am / 64 % 2) as usize;
-    let b5 = b6 + (am / 32 % 2) as usize;
-    let b4 = b5 + (am / 16 % 2) as usize;
-    let b3 = b4 + (am / 8 % 2) as usize;
-    let b2 = b3 + (am / 4 % 2) as usize;
-    let b1 = b2 + (am / 2 % 2) as usize;
+    let b6 = b7 + usize::from(am / 64 % 2);
+    let b5 = b6 + usize::from(am / 32 % 2);
+    let b4 = b5 + usize::from(am / 16 % 2);
+    let b3 = b4 + usize::from(am / 8 % 2);
+    let b2 = b3 + usize::from(am / 4 % 2);
+    let b1 = b2 + usize::from(am / 2 % 2);
     [
         sc_at(rule, b7, am / 64 % 2),
         sc_at(rule, b6, am / 32 % 2),
@@ -79,6 +80,7 @@ fn set_bits(am: u8) -> usize
 }
 
 // The place after the group at `at`.
+#[tactic(auto, unfolding(crate::specs::Group::next_of))]
 pub fn next(rule: &[u8], at: usize) -> usize
     requires { at < length rule.now }
     ensures { result ≡ next_of rule.now at }

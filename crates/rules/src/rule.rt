@@ -6,6 +6,9 @@ ghost use Rattle.rules.specs.Rule.{compact_formed, slot_of, compact_grants, allo
 
 use crate::{Right, Sets, condition, group};
 
+// The walks here go on by what a group's length is: an iterator over the groups would hand out places, and whoever takes one
+// would have to show again that it is within the rule.
+
 // Whether the groups fill the rule exactly, with b8 clear in each AM byte.
 pub fn well_formed(rule: &[u8]) -> bool
     ensures { result ≡ compact_formed rule.now }
@@ -24,13 +27,6 @@ pub fn well_formed(rule: &[u8]) -> bool
     true
 }
 
-// A byte as an index or a length, with its bound.
-fn wide(x: u8) -> usize
-    ensures { (result ≡ x) × (result < 256) }
-{
-    x as usize
-}
-
 // The same with the table of lengths, for rules of several groups. A group without SC bytes goes on by a constant, so that the
 // next one does not wait for the table.
 fn groups_by(rule: &[u8], lengths: &[u8; 256]) -> bool
@@ -39,19 +35,19 @@ fn groups_by(rule: &[u8], lengths: &[u8; 256]) -> bool
 {
     let mut at: usize = 0;
     while at < rule.len() {
-        let am = wide(rule[at]);
+        let am = usize::from(rule[at]);
         if am == 0 {
-            at = at + 1;
+            at += 1;
             continue;
         }
-        let n = wide(lengths[am]);
+        let n = usize::from(lengths[am]);
         if n == 0 {
             return false;
         }
         if rule.len() - at < n {
             return false;
         }
-        at = at + n;
+        at += n;
     }
     true
 }
@@ -61,27 +57,27 @@ pub fn formed_by(rule: &[u8], lengths: &[u8; 256]) -> bool
     requires { (1 ≤ length rule.now) × Lengths lengths.now }
     ensures { result ≡ compact_formed rule.now }
 {
-    let am = wide(rule[0]);
-    if wide(lengths[am]) == rule.len() {
+    let am = usize::from(rule[0]);
+    if usize::from(lengths[am]) == rule.len() {
         return true;
     }
     groups_by(rule, lengths)
 }
 
-// The slot of a right's bit in a group: slot 0 is b7, slot 6 is b1.
-fn slot_of(right: Right) -> usize
-    ensures { (result ≡ slot_of right) × (result < 7) }
-{
-    match right {
-        Right::DeleteSelf => 0,
-        Right::Terminate => 1,
-        Right::Activate => 2,
-        Right::Deactivate => 3,
-        Right::CreateDf => 4,
-        Right::CreateEf => 5,
-        Right::DeleteChild => 6,
-        Right::Update => 5,
-        Right::Read => 6,
+impl Right {
+    // The slot of a right's bit in a group: slot 0 is b7, slot 6 is b1.
+    pub fn slot(self) -> usize
+        ensures { (result ≡ slot_of self) × (result < 7) }
+    {
+        match self {
+            Right::DeleteSelf => 0,
+            Right::Terminate => 1,
+            Right::Activate => 2,
+            Right::Deactivate => 3,
+            Right::CreateDf => 4,
+            Right::CreateEf | Right::Update => 5,
+            Right::DeleteChild | Right::Read => 6,
+        }
     }
 }
 
@@ -103,8 +99,9 @@ fn allows(rule: &[u8], k: usize, sets: Sets) -> bool
 }
 
 // What the rule decides on a right, under what has been authenticated.
+#[tactic(auto, unfolding(crate::specs::Rule::compact_grants))]
 pub fn granted(rule: &[u8], right: Right, sets: Sets) -> bool
     ensures { result ≡ compact_grants rule.now right sets }
 {
-    allows(rule, slot_of(right), sets)
+    allows(rule, right.slot(), sets)
 }

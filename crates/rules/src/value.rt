@@ -6,6 +6,7 @@ ghost use Rattle.rules.specs.Value.{good_identifier, whole_records, good_length}
 use crate::descriptor;
 
 // Whether a file may have the identifier.
+#[tactic(auto, unfolding(crate::specs::Value::good_identifier))]
 pub fn good_identifier(x: u16) -> bool
     ensures { result ≡ good_identifier x }
 {
@@ -13,41 +14,29 @@ pub fn good_identifier(x: u16) -> bool
     if x % 256 != 0xFF {
         return true;
     }
-    if x == 0x3FFF {
-        return false;
-    }
-    if x == 0x7FFF {
-        return false;
-    }
-    x != 0xFFFF
+    !matches!(x, 0x3FFF | 0x7FFF | 0xFFFF)
 }
 
 // Whether a body of `size` bytes is 1 to 254 whole records of `length` bytes.
+#[tactic(auto, unfolding(crate::specs::Value::whole_records))]
 pub fn whole_records(length: u16, size: u32) -> bool
     ensures { result ≡ whole_records length size }
 {
-    if length < 1 {
+    if !matches!(length, 1..=255) {
         return false;
     }
-    if 255 < length {
-        return false;
-    }
-    let each = length as u32;
-    if size % each != 0 {
-        return false;
-    }
-    if size / each < 1 {
-        return false;
-    }
-    size / each <= 254
+    let each = u32::from(length);
+    size % each == 0 && matches!(size / each, 1..=254)
 }
 
 // Whether the record length suits descriptor and size: 0 where the structure has no records.
+#[tactic(auto, unfolding(crate::specs::Value::good_length, laws::specs::Tests::either))]
 pub fn good_length(descriptor: u8, length: u16, size: u32) -> bool
     ensures { result ≡ good_length descriptor length size }
 {
     if descriptor::has_records(descriptor) {
-        return whole_records(length, size);
+        whole_records(length, size)
+    } else {
+        length == 0
     }
-    length == 0
 }

@@ -8,7 +8,6 @@ ghost use Rattle.kinship.specs.Search.{is_df_named, df_named};
 
 use image::fields;
 use kinship::search;
-use laws::Found;
 use rules::descriptor;
 
 // A child of directory d.
@@ -34,18 +33,11 @@ fn is_child_named(image: &[u8], d: usize, x: u16, s: usize) -> bool
 }
 
 // The child of directory d with identifier x.
-pub fn child_named(image: &[u8], n: usize, d: usize, x: u16) -> Found
+pub fn child_named(image: &[u8], n: usize, d: usize, x: u16) -> Option<usize>
     requires { Sized image.now n }
     ensures { result ≡ child_named n (view_at image.now) d x }
 {
-    let mut s = 0;
-    while s < n {
-        if is_child_named(image, d, x, s) {
-            return Found::At(s);
-        }
-        s += 1;
-    }
-    Found::Nothing
+    (0..n).find(|s| is_child_named(image, d, x, *s))
 }
 
 fn is_df_named(image: &[u8], d: usize, x: u16, s: usize) -> bool
@@ -59,16 +51,9 @@ fn is_df_named(image: &[u8], d: usize, x: u16, s: usize) -> bool
 }
 
 // The DF among the children of directory d with identifier x.
-pub fn df_named(image: &[u8], n: usize, d: usize, x: u16) -> Found
+pub fn df_named(image: &[u8], n: usize, d: usize, x: u16) -> Option<usize>
     requires { Sized image.now n }
     ensures { result ≡ df_named n (view_at image.now) d x }
 {
-    let mut s = 0;
-    while s < n {
-        if is_df_named(image, d, x, s) {
-            return Found::At(s);
-        }
-        s += 1;
-    }
-    Found::Nothing
+    (0..n).find(|s| is_df_named(image, d, x, *s))
 }

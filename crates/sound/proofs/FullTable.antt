@@ -7,7 +7,7 @@ use native.Mathlib.Nat.{zero-add}
 use native.Mathlib.Omega.{arith}
 use lib.Dec.{eqb}
 use borrow.Author.Tests.{eq-eqb, ne_eqb, eqb-false, lt-ltb}
-use Rattle.laws.specs.declared.Found.TheVariants.{Nothing}
+use Rattle.std.specs.Prelude.{None}
 use Rattle.laws.specs.Walks.{sum_below, if_so}
 use Rattle.laws.proofs.Firsts.{no-first}
 use Rattle.laws.proofs.Says.{same_or}
@@ -114,11 +114,11 @@ module _ (n : ℕ) (v : ℕ → View) (kin : Kin n v) (some : 0 < n) where
         omega (arith, a, b, f, paid_once, weights, kin.root-size)
 
   -- the search for a free record finds one, if some directory has room for a size of at least 1 and 64
-  pub free-found : (d : ℕ) → d < n → (v d).kind ≡ 1 → charged n v d + 64 ≤ (v d).size → free_slot n v ≡ Nothing → ⊥
+  pub free-found : (d : ℕ) → d < n → (v d).kind ≡ 1 → charged n v d + 64 ≤ (v d).size → free_slot n v ≡ None → ⊥
   unfolding free_slot
   free-found d low dir room e = full-never d low dir room (λ s l. eqb-false (v s).kind 0 ((no-first n (λ t. eqb (v t).kind 0) e).none s l))
 
-  pub full_table : (d size : ℕ) → d < n → (v d).kind ≡ 1 → size + 64 ≤ room_for n v d → free_slot n v ≡ Nothing → ⊥
+  pub full_table : (d size : ℕ) → d < n → (v d).kind ≡ 1 → size + 64 ≤ room_for n v d → free_slot n v ≡ None → ⊥
   unfolding room_for total_for
   full_table d size low dir room e = free-found d low dir (omega arith) e
 

@@ -8,8 +8,7 @@ use native.Mathlib.Omega.{arith}
 use lib.Dec.{ltb}
 use lib.ListN.{length, replicate, length-replicate}
 use borrow.Author.Tests.{lt-ltb, le-ltb}
-use Rattle.laws.specs.declared.Found.{Found}
-use Rattle.laws.specs.declared.Found.TheVariants.{At, Nothing}
+use Rattle.std.specs.Prelude.{Option, Some, None}
 use Rattle.laws.proofs.Says.{lt-or}
 use Rattle.image.specs.declared.Head.{Head}
 use Rattle.image.specs.Layout.{Sized, version_of, count_of, rec_at}
@@ -62,9 +61,9 @@ pub record Cleared (a b : List ℕ) : Type 0 where
   pub table : view_at b ≡ view_at a
 
 module _ (img : List ℕ) (sound : Sound img) where
-  pub cleared : (g : Found) → Cleared img (place_image g (count_of img) img)
-  cleared (At p) = record { sound = sound; header = record { long = refl; bytes = λ k l. refl }; table = refl }
-  cleared Nothing = record {
+  pub cleared : (g : Option ℕ) → Cleared img (place_image g (count_of img) img)
+  cleared (Some p) = record { sound = sound; header = record { long = refl; bytes = λ k l. refl }; table = refl }
+  cleared None = record {
     sound = files-sound (packed_image (count_of img) img) files (rw (count, long) laid);
     header = after.header;
     table = table;
@@ -92,14 +91,14 @@ module _ (img : List ℕ) (sound : Sound img) where
       laid =
           rw same at
           (place-laid (count_of img) 0 img (replicate (pool_length img) 0) (sound-sized img sound) (rw same sound.bodies)
-          (omega (arith, same, bodies-within img (sound-files img sound))) Nothing)
+          (omega (arith, same, bodies-within img (sound-files img sound))) None)
 
 -- the record that a slot has where bodies were moved down, or not
-pub kept_record_lem : (img : List ℕ) (sound : Sound img) (g : Found) (t : ℕ) → t < count_of img
+pub kept_record_lem : (img : List ℕ) (sound : Sound img) (g : Option ℕ) (t : ℕ) → t < count_of img
     → rec_at (place_image g (count_of img) img) t ≡ kept_record g img t
 unfolding kept_record
-kept_record_lem img sound (At p) t l = refl
-kept_record_lem img sound Nothing t l = go (lt-or 0 (body_at img t))
+kept_record_lem img sound (Some p) t l = refl
+kept_record_lem img sound None t l = go (lt-or 0 (body_at img t))
   where
     pool : List ℕ
     pool = replicate (pool_length img) 0

@@ -1,9 +1,8 @@
 -- What each effect leaves of an image (01 "Making", "SELECT", "CREATE", "DELETE", the life cycles) and of the pool (02 Ticket 4),
 -- byte for byte. SELECT leaves `set_current`, a change of life cycle `set_life`.
-use Rattle.std.specs.Prelude.{◌≡◌, List, [], ◌++◌, ◌∷◌, Bool, true, cond, ◌&&◌, ℕ, zero, suc, ◌+◌, ◌*◌, ◌-◌, ◌<◌, ◌≤◌, eqb, ltb, length}
+use Rattle.std.specs.Prelude.{◌≡◌, List, [], ◌++◌, ◌∷◌, Bool, true, cond, ◌&&◌, ℕ, zero, suc, ◌+◌, ◌*◌, ◌-◌}
+use Rattle.std.specs.Prelude.{◌<◌, ◌≤◌, eqb, ltb, length, Option, Some, None}
 use Rattle.std.specs.Prelude.{replicate}
-use Rattle.laws.specs.declared.Found.{Found}
-use Rattle.laws.specs.declared.Found.TheVariants.{At, Nothing}
 use Rattle.laws.specs.Lists.{splice}
 use Rattle.numbers.specs.Numbers.{be16}
 use Rattle.rules.specs.Descriptor.{class_of, df, ef}
@@ -34,7 +33,7 @@ unfoldable pub new_body : ℕ → Head → ℕ
 new_body v h = cond (has_bodies v && eqb h.kind ef) h.size 0
 
 -- the lowest gap that fits it, before any body is moved
-unfoldable pub new_gap : List ℕ → Head → Found
+unfoldable pub new_gap : List ℕ → Head → Option ℕ
 new_gap img h = gap_for (count_of img) img (pool_length img) (new_body (version_of img) h)
 
 -- CREATE with the body: where no gap fits, bodies are moved down first; then the record, and where its body starts
@@ -50,9 +49,9 @@ new_bytes img h name rule =
     (with_start (record_bytes (version_of img) h name rule) (place_at (new_gap img h) (count_of img) img))
 
 -- .. and this every other: as it was, but for the start of a body that was moved down, since no gap fits
-unfoldable pub kept_record : Found → List ℕ → ℕ → List ℕ
-kept_record (At p) img t = rec_at img t
-kept_record Nothing img t =
+unfoldable pub kept_record : Option ℕ → List ℕ → ℕ → List ℕ
+kept_record (Some p) img t = rec_at img t
+kept_record None img t =
     cond (ltb 0 (body_at img t)) (with_start (rec_at img t) (packed_start (count_of img) (start_at img) (body_at img) t)) (rec_at img t)
 
 unfoldable pub other_record : List ℕ → Head → ℕ → List ℕ
@@ -85,7 +84,7 @@ pub record Creates (img : List ℕ) (s : ℕ) (h : Head) (name rule : List ℕ) 
   pub identifier : identifier_free (count_of img) (view_at img) (current_df_of img) h.identifier ≡ true
   pub name_is_free : name_free (count_of img) (view_at img) name ≡ true
   pub room : fits_room (count_of img) (view_at img) (current_df_of img) h.size ≡ true
-  pub slot : free_slot (count_of img) (view_at img) ≡ At s
+  pub slot : free_slot (count_of img) (view_at img) ≡ Some s
 
 -- a free record in slot s, where the test holds; in each slot below n of which p holds
 unfoldable pub clear_if : Bool → List ℕ → ℕ → List ℕ

@@ -1,7 +1,6 @@
 -- Who is whose child, what lies beneath a directory, what is above a file, and the searches, counts and sums
 -- over them that commands and the report ask for (01 "Making and reporting", "SELECT", "CREATE", "DELETE").
-use Rattle.std.specs.Prelude.{◌≡◌, List, [], Bool, not, ◌&&◌, ℕ, suc, ◌+◌, ◌-◌, ◌<◌, ◌≤◌, eqb, leb}
-use Rattle.laws.specs.declared.Found.{Found}
+use Rattle.std.specs.Prelude.{◌≡◌, List, [], Bool, not, ◌&&◌, ℕ, suc, ◌+◌, ◌-◌, ◌<◌, ◌≤◌, eqb, leb, Option}
 use Rattle.laws.specs.Walks.{all_below, first_below, count_below}
 use Rattle.laws.specs.Lists.{same_list}
 use Rattle.laws.specs.Tests.{implies}
@@ -18,11 +17,11 @@ unfoldable pub is_child_named : (ℕ → View) → ℕ → ℕ → ℕ → Bool
 is_child_named v d x s = is_child v d s && eqb (v s).identifier x
 
 -- the lowest slot of a child of d with identifier x; a sound image has at most one
-unfoldable pub child_named : ℕ → (ℕ → View) → ℕ → ℕ → Found
+unfoldable pub child_named : ℕ → (ℕ → View) → ℕ → ℕ → Option ℕ
 child_named n v d x = first_below n (is_child_named v d x)
 
 -- the lowest slot whose record is free
-unfoldable pub free_slot : ℕ → (ℕ → View) → Found
+unfoldable pub free_slot : ℕ → (ℕ → View) → Option ℕ
 free_slot n v = first_below n (λ s. eqb (v s).kind 0)
 
 -- slot s holds d itself or a file beneath it: as many steps up as there are levels between them stands d

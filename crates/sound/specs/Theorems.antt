@@ -1,7 +1,6 @@
 -- What is proved of sound images and worth reading; each is proved under the same name in small letters (proofs/Says,
 -- proofs/Fresh, proofs/FirstVersion, proofs/FullTable).
-use Rattle.std.specs.Prelude.{◌≡◌, Bool, true, List, ◌↔◌, ℕ, ◌+◌, ◌*◌, ◌-◌, ◌<◌, ◌≤◌, get_or}
-use Rattle.laws.specs.declared.Found.TheVariants.{Nothing}
+use Rattle.std.specs.Prelude.{◌≡◌, Bool, true, List, ◌↔◌, ℕ, ◌+◌, ◌*◌, ◌-◌, ◌<◌, ◌≤◌, get_or, None}
 use Rattle.laws.specs.Settled.{Settles}
 use Rattle.rules.specs.Descriptor.{df}
 use Rattle.rules.specs.Rule.{compact_formed}
@@ -41,4 +40,4 @@ FirstVersion = (r : List ℕ) → Used 1 r → Compact r
 -- a full table never refuses: where some directory has room for a size and 64, a record is free
 abbrev pub SlotExists : Type 0
 SlotExists = (img : List ℕ) (d size : ℕ) → Sound img → d < count_of img → (view_at img d).kind ≡ df
-    → size + 64 ≤ room_for (count_of img) (view_at img) d → free_slot (count_of img) (view_at img) ≡ Nothing → ⊥
+    → size + 64 ≤ room_for (count_of img) (view_at img) d → free_slot (count_of img) (view_at img) ≡ None → ⊥

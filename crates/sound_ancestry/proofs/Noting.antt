@@ -4,7 +4,7 @@ use mathlib.Core.Path.{◌≡◌, refl, sym, ap, ◌∙◌}
 use mathlib.Core.Bool.{Bool, true, false, not, cond, false≢true}
 use mathlib.Core.List.{List}
 use mathlib.Core.Logic.{⊎_elim}
-use Prim.Native.Nat.{ℕ, suc, ◌+◌, ◌<◌, ◌≤◌}
+use Prim.Native.Nat.{ℕ, suc, ◌+◌, ◌<◌}
 use native.Mathlib.Omega.{arith}
 use lib.ListN.{length, replicate, length-replicate}
 use borrow.Author.Count.{below_none, below_more}
@@ -64,9 +64,6 @@ module _ (v : ℕ → View) (s : ℕ) (once twice : List ℕ) (h : Seen v s once
           again = below_more (Again v twice) s h.again
               (λ d u b c i. absurd (false≢true (sym g ∙ f ∙ ap (marked once) (q ∙ sym i) ∙ h.first.has u b c)));
         }
-
-pub noted-end : (v : ℕ → View) (n s : ℕ) (once twice : List ℕ) → Seen v s once twice → s ≤ n → n ≤ s → Seen v n once twice
-noted-end v n s once twice h a b = let e : s ≡ n = omega arith in rw e at h
 
 -- what the set that is asked answers
 module _ (v : ℕ → View) (s : ℕ) (once twice : List ℕ) (k x : ℕ) (e : k ≡ (v s).kind) (q : x ≡ (v s).identifier) (r : Bool) where

@@ -86,9 +86,6 @@ pub sum-small : (v : ℕ → View) (s : ℕ) (sums : List ℕ) (p : ℕ) → Sum
 sum-small v s sums p h l = h.small p l
 
 -- once all records are added, the sum of a directory is what its children cost it
-pub summed_end : (v : ℕ → View) (n s : ℕ) (sums : List ℕ) → Summed v s sums → s ≤ n → n ≤ s → Summed v n sums
-summed_end v n s sums h a b = let e : s ≡ n = omega arith in rw e at h
-
 pub sum_is : (img : List ℕ) (n : ℕ) (sums : List ℕ) (d : ℕ) → Summed (view_at img) n sums → Sized img n → d < n
     → get_or sums d 0 ≡ charged n (view_at img) d
 sum_is img n sums d h sized l = h.right d (omega (arith, sized.most))

@@ -8,6 +8,8 @@ use Rattle.laws.specs.Walks.{all_below}
 use Rattle.laws.proofs.Walks.{all_fails}
 use Rattle.sound.specs.Table.{View}
 use Rattle.sound.specs.Kin.{placed_at, placedb, siblings_at, siblingsb, above_at, aboveb, charges_at, chargesb, namesb, rootb, kinb}
+use Rattle.sound_links.specs.declared.Gathered.{Gathered}
+use Rattle.sound_links.specs.Gathers.{Gathers}
 use Rattle.sound_links.specs.Linked.{first_at, second_at, linkedb}
 
 -- two tests, the second only where the first holds
@@ -29,6 +31,10 @@ all_both (suc n) p q = rw (all_both n p q) (go (all_below n p) (all_below n q) (
     go true false true d = refl
     go true false false d = refl
     go false b c d = refl
+
+-- the first walk is at its end
+pub gathered-end : (v : ℕ → View) (n s : ℕ) (g : Gathered) → Gathers v s g → s ≤ n → n ≤ s → Gathers v n g
+gathered-end v n s g h a b = let e : s ≡ n = omega arith in rw e at h
 
 module _ (n : ℕ) (v : ℕ → View) where
   first_is : all_below n (first_at n v) ≡ (siblingsb n v && placedb n v)

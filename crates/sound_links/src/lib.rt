@@ -5,18 +5,17 @@
 // children cost; the second asks what needs these. Each record is asked twice.
 #![tactic(auto)]
 
-ghost use Rattle.std.specs.Prelude.{◌≡◌, true, ◌+◌, ◌<◌};
+ghost use Rattle.std.specs.Prelude.{◌≡◌, ℕ, true, ◌+◌, ◌<◌};
 ghost use Rattle.laws.specs.Walks.{all_below};
-ghost use Rattle.keys.specs.Marks.{Keyed};
 ghost use Rattle.image.specs.Layout.{Sized};
-ghost use Rattle.sound.specs.Table.{view_at, is_file, charged};
+ghost use Rattle.sound.specs.Table.{View, view_at, is_file};
 ghost use Rattle.sound.specs.Kin.{rootb, placed_at, placedb};
-ghost use Rattle.sound_siblings.specs.Key.{sibling_key};
-ghost use Rattle.sound_ancestry.specs.Directories.{Seen};
-ghost use Rattle.sound_charges.specs.Summing.{Summed};
 ghost use Rattle.sound_links.specs.Linked.{first_at, second_at, linkedb};
+ghost use Rattle.sound_links.specs.Gathers.{Gathers};
 
+use keys::Keys;
 use rules::descriptor;
+use sound_ancestry::Directories;
 
 // Whether s, if it is a file, has as parent a DF with level one less.
 fn placed_at(image: &[u8], n: usize, s: usize) -> bool
@@ -36,76 +35,69 @@ fn placed_at(image: &[u8], n: usize, s: usize) -> bool
     image::fields::level(image, s) == image::fields::level(image, p) + 1
 }
 
-// The first walk at slot s.
-fn first_at(
-    seen: &mut [u64; 1024],
-    once: &mut [u64; 1024],
-    twice: &mut [u64; 1024],
-    sums: &mut [u64; 1023],
-    image: &[u8],
-    n: usize,
-    s: usize,
-) -> bool
-    requires sized { Sized image.now n × (s < n) }
-    requires keyed { Keyed (is_file (view_at image.now)) (sibling_key (view_at image.now)) s seen.old }
-    requires seen { Seen (view_at image.now) s once.old twice.old }
-    requires summed { Summed (view_at image.now) s sums.old }
-    ensures value { result ≡ first_at n (view_at image.now) s }
-    ensures keyed_2 { Keyed (is_file (view_at image.now)) (sibling_key (view_at image.now)) (s + 1) seen.new }
-    ensures seen_2 { Seen (view_at image.now) (s + 1) once.new twice.new }
-    ensures summed_2 { Summed (view_at image.now) (s + 1) sums.new }
-{
-    sound_ancestry::note(once, twice, image, s);
-    sound_charges::add_cost(sums, image, s);
-    if !sound_siblings::alone(seen, image, n, s) {
-        return false;
-    }
-    placed_at(image, n, s)
+// What the first walk gathers of the records before a slot: siblings' keys, directories' identifiers, and what its children cost each.
+#[derive(Drop)]
+struct Gathered {
+    siblings: Keys,
+    directories: Directories,
+    sums: [u64; 1023],
 }
 
-// The second walk at slot s, whose children cost `sum`.
-fn second_at(
-    once: &[u64; 1024],
-    twice: &[u64; 1024],
-    image: &[u8],
-    n: usize,
-    s: usize,
-    sum: u64,
-) -> bool
-    requires sized { Sized image.now n × (s < n) }
-    requires image_value { (rootb n (view_at image.now) ≡ true) × (placedb n (view_at image.now) ≡ true) }
-    requires seen { Seen (view_at image.now) n once.now twice.now }
-    requires sum_value { sum ≡ charged n (view_at image.now) s }
-    ensures { result ≡ second_at n (view_at image.now) s }
-{
-    if !sound_charges::covered_at(image, n, s, sum) {
-        return false;
+impl Gathered {
+    // Of no record.
+    #[inline(always)]
+    fn new() -> Self
+        ensures { (v : ℕ → View) → Gathers v 0 result }
+    {
+        Gathered {
+            siblings: Keys::new(),
+            directories: Directories::new(),
+            sums: [0; 1023],
+        }
     }
-    sound_ancestry::above_at(once, twice, image, n, s)
-}
 
-// The second walk.
-fn second(
-    once: &[u64; 1024],
-    twice: &[u64; 1024],
-    sums: &[u64; 1023],
-    image: &[u8],
-    n: usize,
-) -> bool
-    requires sized { Sized image.now n }
-    requires image_value { (rootb n (view_at image.now) ≡ true) × (placedb n (view_at image.now) ≡ true) }
-    requires seen { Seen (view_at image.now) n once.now twice.now }
-    requires summed { Summed (view_at image.now) n sums.now }
-    ensures { result ≡ all_below n (second_at n (view_at image.now)) }
-{
-    let mut s = 0;
-    while s < n {
-        if !second_at(once, twice, image, n, s, sums[s]) {
+    // The first walk at slot s.
+    fn first_at(&mut self, image: &[u8], n: usize, s: usize) -> bool
+        requires sized { Sized image.now n × (s < n) }
+        requires gathered { Gathers (view_at image.now) s self.old }
+        ensures value { result ≡ first_at n (view_at image.now) s }
+        ensures gathered_2 { Gathers (view_at image.now) (s + 1) self.new }
+    {
+        self.directories.note(image, s);
+        sound_charges::add_cost(&mut self.sums, image, s);
+        if !sound_siblings::alone(&mut self.siblings, image, n, s) {
             return false;
         }
-        s += 1;
+        placed_at(image, n, s)
     }
-    true
+
+    // The second walk at slot s.
+    fn second_at(&self, image: &[u8], n: usize, s: usize) -> bool
+        requires sized { Sized image.now n × (s < n) }
+        requires image_value { (rootb n (view_at image.now) ≡ true) × (placedb n (view_at image.now) ≡ true) }
+        requires gathered { Gathers (view_at image.now) n self.now }
+        ensures { result ≡ second_at n (view_at image.now) s }
+    {
+        if !sound_charges::covered_at(image, n, s, self.sums[s]) {
+            return false;
+        }
+        self.directories.above_at(image, n, s)
+    }
+
+    // The second walk.
+    fn second(&self, image: &[u8], n: usize) -> bool
+        requires sized { Sized image.now n }
+        requires image_value { (rootb n (view_at image.now) ≡ true) × (placedb n (view_at image.now) ≡ true) }
+        requires gathered { Gathers (view_at image.now) n self.now }
+        ensures { result ≡ all_below n (second_at n (view_at image.now)) }
+    {
+        for s in 0..n {
+            if !self.second_at(image, n, s) {
+                return false;
+            }
+        }
+        true
+    }
 }
 
 // Whether places, identifiers and charges of all records are good.
@@ -114,16 +106,11 @@ pub fn linked(image: &[u8], n: usize) -> bool
     requires image_value { rootb n (view_at image.now) ≡ true }
     ensures { result ≡ linkedb n (view_at image.now) }
 {
-    let mut seen = [0u64; 1024];
-    let mut once = [0u64; 1024];
-    let mut twice = [0u64; 1024];
-    let mut sums = [0u64; 1023];
-    let mut s = 0;
-    while s < n {
-        if !first_at(&mut seen, &mut once, &mut twice, &mut sums, image, n, s) {
+    let mut gathered = Gathered::new();
+    for s in 0..n {
+        if !gathered.first_at(image, n, s) {
             return false;
         }
-        s += 1;
     }
-    second(&once, &twice, &sums, image, n)
+    gathered.second(image, n)
 }

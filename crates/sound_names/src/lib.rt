@@ -13,6 +13,7 @@ ghost use Rattle.sound.specs.Sound.{recordsb};
 ghost use Rattle.sound_names.specs.Key.{name_key, name_key_at, has_name, LooksBack};
 
 use image::fields;
+use keys::Keys;
 
 // Whether s has a name, and t the same.
 fn same_name(image: &[u8], n: usize, s: usize, t: usize) -> bool
@@ -40,7 +41,7 @@ fn key_of(r: &[u8]) -> u16
 }
 
 // How far s has to look back: not at all where it has no name, or one with a new key, which is put in.
-fn look_back(seen: &mut [u64; 1024], image: &[u8], n: usize, s: usize) -> usize
+fn look_back(seen: &mut Keys, image: &[u8], n: usize, s: usize) -> usize
     requires sized { Sized image.now n × (s < n) }
     requires n_value { recordsb image.now n ≡ true }
     requires keyed { Keyed (has_name (view_at image.now)) (name_key_at image.now) s seen.old }
@@ -51,10 +52,10 @@ fn look_back(seen: &mut [u64; 1024], image: &[u8], n: usize, s: usize) -> usize
         return 0;
     }
     let key = key_of(fields::record(image, s));
-    if keys::has(seen, key) {
+    if seen.has(key) {
         return s;
     }
-    keys::put(seen, key);
+    seen.put(key);
     0
 }
 
@@ -64,20 +65,16 @@ pub fn distinct(image: &[u8], n: usize) -> bool
     requires n_value { recordsb image.now n ≡ true }
     ensures { result ≡ namesb n (view_at image.now) }
 {
-    let mut seen = [0u64; 1024];
+    let mut seen = Keys::new();
     let mut distinct = true;
-    let mut s = 0;
-    'pairs: while s < n {
+    'pairs: for s in 0..n {
         let back = look_back(&mut seen, image, n, s);
-        let mut t = 0;
-        while t < back {
+        for t in 0..back {
             if same_name(image, n, s, t) {
                 distinct = false;
                 break 'pairs;
             }
-            t += 1;
         }
-        s += 1;
     }
     distinct
 }

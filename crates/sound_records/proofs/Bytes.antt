@@ -27,7 +27,7 @@ use Rattle.access.proofs.Fits.{fits-says}
 use Rattle.sound_records.specs.Ends.{zeros_end}
 use Rattle.sound.specs.Own.{zerosb, paddedb, ownb, measuredb, nameb, ruledb}
 use Rattle.sound.specs.Sound.{headerb, recordsb}
-use Rattle.sound_records.proofs.Zeros.{agree, zeros_each, zeros-part, zeros-both, zeros-start, zeros_more}
+use Rattle.sound_records.proofs.Zeros.{agree, zeros_each, zeros-part, zeros-both, one-zero}
 use Rattle.sound_records.proofs.Tails.{tail-says}
 
 pub identifier-last : (v w : ℕ) {b : Bool} → v ≡ w → b ≡ good_identifier v → b ≡ good_identifier w
@@ -91,7 +91,7 @@ module _ (r : List ℕ) (x : Bool) (g : x ≡ zerosb r 16 17) where
       let q = (and-says (leb (get_or r 16 0) 16) (zerosb r (17 + get_or r 16 0) (16 - get_or r 16 0))).0 p.0 in
       let o : get_or r 16 0 ≡ 0 = eqb-true (get_or r 16 0) 0
       ((implies-says (eqb (kind_of r) ef) (eqb (get_or r 16 0) 0)).0 p.1 (eq-eqb (get_or r 0 0) 2 k)) in
-      zeros-both r 16 1 17 16 16 17 (omega arith) (omega arith) (omega arith) (zeros_more r 16 0 (zeros-start r 16) o) (rw o at q.1)
+      zeros-both r 16 1 17 16 16 17 (omega arith) (omega arith) (omega arith) (sym (one-zero r 16) ∙ eq-eqb (get_or r 16 0) 0 o) (rw o at q.1)
 
   module _ (t : x ≡ false) (n : ℕ) (e : n ≡ get_or r 16 0) where
     pub named-long : 16 < n → false ≡ nameb r

@@ -4,16 +4,19 @@ use mathlib.Core.Path.{◌≡◌, refl, sym, ◌∙◌, ap}
 use mathlib.Core.Bool.{Bool, true, false, not, ◌&&◌, false≢true}
 use mathlib.Core.List.{List}
 use mathlib.Core.Logic.{⊎_elim}
-use Prim.Native.Nat.{ℕ, ◌+◌, ◌*◌, ◌-◌, ◌/◌, ◌<◌, ◌≤◌}
+use Prim.Native.Nat.{ℕ, zero, suc, ◌+◌, ◌*◌, ◌-◌, ◌/◌, ◌<◌, ◌≤◌}
 use native.Mathlib.Numerals.{add-one}
 use native.Mathlib.Omega.{arith}
-use lib.ListN.{get_or}
+use lib.ListN.{length, get_or, take, drop, length-drop}
+use lib.Seq.{get_or-drop}
 use lib.Bits.{bit_or, or_add_and, and_le_l, and_le_r}
 use lib.Dec.{eqb}
-use borrow.Author.Tests.{eqb-true, eq-eqb, ne_eqb, not-true, not-false}
+use borrow.Author.Tests.{eqb-true, eq-eqb, not-true, not-false}
+use Rattle.std.specs.List.{list_all}
+use Rattle.std.proofs.lemmas.List.Folds.{list_all_more}
 use Rattle.laws.specs.Walks.{all_below}
 use Rattle.laws.proofs.Says.{and-says, lt-or}
-use Rattle.laws.proofs.Walks.{all-zero, all_more, all_fails, all_each, each_all}
+use Rattle.laws.proofs.Walks.{all_each, each_all}
 use Rattle.numbers.specs.Numbers.{u16_at, u32_at}
 use Rattle.sound.specs.Own.{zerosb}
 
@@ -57,21 +60,18 @@ module _ (s : List ℕ) where
       e ∙ agree (zerosb s b m) (zerosb s c k) (zeros-both a n b m c k l q (omega arith) g) (zeros-part c k b m o (omega arith))
 
   -- bytes, byte by byte
-  module _ (at : ℕ) where
-    pub zeros-start : zerosb s at 0 ≡ true
-    unfolding zerosb
-    zeros-start = all-zero (λ k. eqb (get_or s (at + k) 0) 0)
+  zeros_first : (at n : ℕ) → at + n ≤ length s → list_all (λ (x : ℕ). eqb x 0) (take n (drop at s)) ≡ zerosb s at n
+  unfolding zerosb all_below
+  zeros_first at zero h = refl
+  zeros_first at (suc n) h =
+      let p : ℕ → Bool = λ x. eqb x 0 in
+      let l : n < length (drop at s) = rw length-drop (omega arith) in
+      ap (λ (m : ℕ). list_all p (take m (drop at s))) (sym (add-one n))
+      ∙ list_all_more p (drop at s) n 0 l
+      ∙ rw (zeros_first at n (omega arith), get_or-drop)
 
-    pub zeros_more : (k : ℕ) → zerosb s at k ≡ true → get_or s (at + k) 0 ≡ 0 → zerosb s at (k + 1) ≡ true
-    unfolding zerosb
-    zeros_more k h e = all_more (λ k. eqb (get_or s (at + k) 0) 0) k h (eq-eqb (get_or s (at + k) 0) 0 e)
-
-    pub zeros_stop : (n k : ℕ) → k < n → (get_or s (at + k) 0 ≡ 0 → ⊥) → false ≡ zerosb s at n
-    unfolding zerosb
-    zeros_stop n k l e = sym (all_fails (λ k. eqb (get_or s (at + k) 0) 0) n k l (ne_eqb (get_or s (at + k) 0) 0 e))
-
-    pub zeros-end : (n k : ℕ) → k ≤ n → n ≤ k → zerosb s at k ≡ true → true ≡ zerosb s at n
-    zeros-end n k a b h = let e : k ≡ n = omega arith in sym (rw e at h)
+  pub zeros_all : (at n : ℕ) (b : Bool) → at + n ≤ length s → b ≡ list_all (λ (x : ℕ). eqb x 0) (take (at + n - at) (drop at s)) → b ≡ zerosb s at n
+  zeros_all at n b h e = let k : at + n - at ≡ n = omega arith in e ∙ rw k (zeros_first at n h)
 
   -- two numbers side by side, and one that is zero where both are
   side : (at n m u v z : ℕ) → (z ≡ 0 → u ≡ 0) → (z ≡ 0 → v ≡ 0) → (u ≡ 0 → v ≡ 0 → z ≡ 0) → eqb u 0 ≡ zerosb s at n
@@ -85,7 +85,7 @@ module _ (s : List ℕ) where
       (f (eqb-true u 0 (g ∙ zeros-part at (n + m) at n (omega arith) (omega arith) t))
       (eqb-true v 0 (h ∙ zeros-part at (n + m) (at + n) m (omega arith) (omega arith) t))))
 
-  one-zero : (at : ℕ) → eqb (get_or s at 0) 0 ≡ zerosb s at 1
+  pub one-zero : (at : ℕ) → eqb (get_or s at 0) 0 ≡ zerosb s at 1
   unfolding zerosb all_below
   one-zero at = ap (λ (i : ℕ). eqb (get_or s i 0) 0) (omega arith)
 
@@ -120,7 +120,8 @@ or-zero x y =
 
 module _ (r : List ℕ) where
   pub gather_start : eqb 0 0 ≡ zerosb r 0 0
-  gather_start = sym (zeros-start r 0)
+  unfolding zerosb all_below
+  gather_start = refl
 
   pub gather_more : (k x : ℕ) → eqb x 0 ≡ zerosb r 0 k → eqb (bit_or x (get_or r k 0)) 0 ≡ zerosb r 0 (k + 1)
   unfolding zerosb all_below

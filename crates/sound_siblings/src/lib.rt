@@ -13,6 +13,7 @@ ghost use Rattle.sound.specs.Kin.{siblings_at};
 ghost use Rattle.sound_siblings.specs.Key.{sibling_key};
 
 use image::fields;
+use keys::Keys;
 use kinship::search;
 
 // Whether s differs from each sibling before it.
@@ -25,12 +26,10 @@ fn siblings_at(image: &[u8], n: usize, s: usize) -> bool
     }
     let d = fields::parent(image, s);
     let x = fields::identifier(image, s);
-    let mut t = 0;
-    while t < s {
+    for t in 0..s {
         if search::is_child_named(image, d, x, t) {
             return false;
         }
-        t += 1;
     }
     true
 }
@@ -44,7 +43,7 @@ fn key_of(parent: usize, identifier: u16) -> u16
 }
 
 // Whether s differs from its siblings before it; only one whose key was seen looks at them. Its key is put in.
-pub fn alone(seen: &mut [u64; 1024], image: &[u8], n: usize, s: usize) -> bool
+pub fn alone(seen: &mut Keys, image: &[u8], n: usize, s: usize) -> bool
     requires sized { Sized image.now n × (s < n) }
     requires keyed { Keyed (is_file (view_at image.now)) (sibling_key (view_at image.now)) s seen.old }
     ensures { (result ≡ siblings_at (view_at image.now) s)
@@ -54,9 +53,9 @@ pub fn alone(seen: &mut [u64; 1024], image: &[u8], n: usize, s: usize) -> bool
         return true;
     }
     let key = key_of(fields::parent(image, s), fields::identifier(image, s));
-    if keys::has(seen, key) {
+    if seen.has(key) {
         return siblings_at(image, n, s);
     }
-    keys::put(seen, key);
+    seen.put(key);
     true
 }

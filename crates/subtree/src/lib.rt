@@ -34,6 +34,7 @@ fn find(marks: &[u8; 1023], image: &[u8], n: usize, d: usize, s: usize) -> u8
 {
     let high = fields::level(image, d);
     let mut t = s;
+    // No `for`: only the marks tell how far it is.
     while open(marks, image, high, t) {
         t = fields::parent(image, t);
     }
@@ -57,6 +58,7 @@ fn spread(marks: &mut [u8; 1023], image: &[u8], n: usize, d: usize, s: usize, ma
 {
     let high = fields::level(image, d);
     let mut t = s;
+    // No `for`: only the marks tell how far it is.
     while open(marks, image, high, t) {
         marks[t] = mark;
         t = fields::parent(image, t);
@@ -111,10 +113,8 @@ pub fn settle_all(marks: &mut [u8; 1023], image: &[u8], n: usize, d: usize)
     requires settled { Settled (view_at image.now) n d 0 marks.old }
     ensures { Settled (view_at image.now) n d n marks.new }
 {
-    let mut s = 0;
-    while s < n {
+    for s in 0..n {
         settle(marks, image, n, d, s);
-        s += 1;
     }
 }
 
@@ -138,11 +138,9 @@ pub fn beneath(image: &[u8], n: usize, d: usize) -> u32
 {
     let mut marks = [0u8; 1023];
     settle_all(&mut marks, image, n, d);
-    let mut sum: u32 = 0;
-    let mut s = 0;
-    while s < n {
-        sum += kinship::count::one(is_beneath(&marks, image, n, d, s));
-        s += 1;
+    let mut sum = 0;
+    for s in 0..n {
+        sum += u32::from(is_beneath(&marks, image, n, d, s));
     }
     sum
 }

@@ -3,7 +3,7 @@
 ghost use Rattle.std.specs.Prelude.{◌≡◌, ◌<◌};
 ghost use Rattle.template.specs.Objects.{object_at, taken_at, objects_of};
 
-use crate::{Object, Objects};
+use crate::{Object, Objects, Span};
 
 // The tags in 01's order, AB and 8B after 8C, in whose place one of them may stand (02 Tickets 3 and 7). The DF's list and the
 // EF's are both in this order.
@@ -11,64 +11,56 @@ const ORDER: [u8; 12] = [
     0x82, 0x83, 0x84, 0x8A, 0x8C, 0xAB, 0x8B, 0x80, 0x81, 0xC6, 0x85, 0xA5,
 ];
 
-// The data object at a place: a tag, a length byte 00-7F, and as many bytes.
-pub fn object_at(s: &[u8], at: usize) -> Object
+// The data object at a place: a tag, a length byte 00-7F, and as many bytes. None where no whole one stands.
+#[tactic(auto, unfolding(crate::specs::Objects::object_at))]
+pub fn object_at(s: &[u8], at: usize) -> Option<Object>
     ensures { result ≡ object_at s.now at }
 {
-    let n = s.len();
-    if n < 2 {
-        return Object::Broken;
-    }
-    if n - 2 < at {
-        return Object::Broken;
-    }
-    let length = s[at + 1];
+    let tag = *s.get(at)?;
+    let length = *s.get(at + 1)?;
     if 127 < length {
-        return Object::Broken;
+        return None;
     }
-    let end = at + 2 + (length as usize);
-    if n < end {
-        return Object::Broken;
+    let start = at + 2;
+    let end = start + usize::from(length);
+    if s.len() < end {
+        return None;
     }
-    Object::Whole {
-        tag: s[at],
-        start: at + 2,
-        end,
-    }
+    Some(Object {
+        tag,
+        value: Span { start, end },
+    })
 }
 
 // The objects with the next one added, if it is number k of the list.
+#[tactic(auto, unfolding(crate::specs::Objects::taken_at))]
 fn take(s: &[u8], o: Objects, k: usize) -> Objects
     requires { k < 12 }
     ensures { result ≡ taken_at s.now o k }
 {
-    let at = o.next;
-    let Object::Whole { tag, start, end } = object_at(s, at) else {
+    let Some(Object { tag, value }) = object_at(s, o.next) else {
         return o;
     };
     if tag != ORDER[k] {
         return o;
     }
     let mut more = o;
-    more.starts[k] = start;
-    more.ends[k] = end;
-    more.next = end;
+    more.values[k] = Some(value);
+    more.next = value.end;
     more
 }
 
 // The objects after 62 LL, in 01's order, each at most once.
+#[tactic(auto, unfolding(crate::specs::Objects::taken_below, crate::specs::Objects::objects_of))]
 pub fn all(s: &[u8]) -> Objects
     ensures { result ≡ objects_of s.now }
 {
     let mut o = Objects {
-        starts: [0; 12],
-        ends: [0; 12],
+        values: [None; 12],
         next: 2,
     };
-    let mut k: usize = 0;
-    while k < 12 {
+    for k in 0..12 {
         o = take(s, o, k);
-        k += 1;
     }
     o
 }

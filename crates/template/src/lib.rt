@@ -7,19 +7,18 @@
 pub mod gather;
 pub mod value;
 
-// One data object at a place: its tag, and where its value starts and ends.
+// One data object at a place: its tag, and where its value stands.
 #[derive(Clone, Copy)]
-pub enum Object {
-    Whole { tag: u8, start: usize, end: usize },
-    Broken,
+pub struct Object {
+    pub tag: u8,
+    pub value: Span,
 }
 
-// The objects that a template holds, by their number in 01's list: where the value of each starts and ends,
-// 0 and 0 for one that is not there; and the place after the last.
+// The objects that a template holds, by their number in 01's list: where the value of each stands, if it is there;
+// and the place after the last.
 #[derive(Clone, Copy)]
 pub struct Objects {
-    pub starts: [usize; 12],
-    pub ends: [usize; 12],
+    pub values: [Option<Span>; 12],
     pub next: usize,
 }
 

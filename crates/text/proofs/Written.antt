@@ -4,8 +4,8 @@ use native.Mathlib.Nat.{add-zero, zero-add}
 use mathlib.Core.Path.{◌≡◌, sym, ◌∙◌, ap, subst}
 use mathlib.Core.List.{List, [], ◌++◌}
 use Prim.Native.Nat.{ℕ, ◌+◌, ◌≤◌}
-use lib.ListN.{length, length-append}
-use lib.Seq.{length-take-le}
+use lib.ListN.{length, take, drop, length-append}
+use lib.Seq.{length-take-le, take_at}
 use Rattle.laws.specs.Lists.{splice}
 use Rattle.laws.proofs.Splices.{splice-nil, splice-step, length-splice}
 use Rattle.laws.proofs.Settling.{settled, both_are}
@@ -49,6 +49,11 @@ pub counted : {r : ℕ} {o y : List ℕ} (t : List ℕ) → Wrote r o y t → Co
 counted {r} {o} {y} t w =
     let f : r ≤ length y = omega (arith, w.fits, same-room t w) in
     (f, sym (length-take-le r y f))
+
+-- .. and that part is the text
+pub taken : {r : ℕ} {o y : List ℕ} (t : List ℕ) → Wrote r o y t → take r y ≡ t
+unfolding splice
+taken {r} {o} t w = ap (take r) w.bytes ∙ take_at t (drop (0 + length t) o) r (omega (arith, w.long))
 
 pub wrote_once : WroteOnce
 wrote_once before text =

@@ -21,6 +21,6 @@ Counted r after = (r ≤ length after) × (r ≡ length (take r after))
 abbrev pub big : List ℕ
 big = 66 ∷ 73 ∷ 71 ∷ 10 ∷ []
 
--- what was written settles the number and the buffer (proofs/Written, `wrote-once`)
+-- what was written settles the number and the buffer (proofs/Written, `wrote_once`)
 abbrev pub WroteOnce : Type 0
 WroteOnce = (before text : List ℕ) → Settles (ℕ × List ℕ) (λ p. Wrote p.0 before p.1 text)

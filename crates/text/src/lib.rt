@@ -7,6 +7,7 @@ ghost use Rattle.text.specs.Digits.{digit_of};
 ghost use Rattle.text.specs.Written.{WroteAt};
 
 // The capital hex digit of a number below 16.
+#[tactic(auto, unfolding(crate::specs::Digits::digit_of))]
 pub fn digit(d: u16) -> u8
     requires { d < 16 }
     ensures { result ≡ digit_of d }

@@ -1,8 +1,10 @@
 // What passes between judging and applying a command (judge, then apply): what the caller hands over, and the verdict,
-// a refusal with its word or one effect with its numbers. No code but the words' names. specs/ has the status words of
-// 01 and 02, and what each verdict gives: its word, and every byte of image and pool afterwards.
+// one effect with its numbers or the word of a refusal. specs/ has the status words of 01 and 02, and what each verdict
+// gives: its word, and every byte of image and pool afterwards.
 
 #![tactic(auto)]
+
+ghost use Rattle.std.specs.Prelude.{◌≡◌, cond};
 
 pub mod words;
 
@@ -24,10 +26,9 @@ pub struct NewRecord {
     pub rule: template::Span,
 }
 
-// What is due: a refusal with its word, or one effect with the numbers that it needs.
+// The effect that is due, with the numbers that it needs.
 #[derive(Clone, Copy)]
-pub enum Verdict {
-    Refuse(u16),
+pub enum Effect {
     // The current DF and EF slots afterwards, and the word.
     Select { df: u16, ef: u16, word: u16 },
     Create(NewRecord),
@@ -39,4 +40,14 @@ pub enum Verdict {
     Read { at: usize, count: usize },
     // From where on the command's data are written into the pool.
     Update(usize),
+}
+
+// What judging answers: the effect, or the word of the step that failed.
+pub type Verdict = Result<Effect, u16>;
+
+// One step: where it fails, its word.
+pub fn require(holds: bool, word: u16) -> Result<(), u16>
+    ensures { result ≡ cond holds (Ok tt) (Err word) }
+{
+    if holds { Ok(()) } else { Err(word) }
 }

@@ -1,4 +1,5 @@
-// The status words of 01 and 02 by their names, the same as in specs/Words.
+// The status words of 01 and 02 by their names, the same as in specs/Words. Numbers, not an enum: C answers them as they stand in the
+// documents, and `all_steps` (card/specs/Steps) has 0000 among them, a step without a word, which an enum of words could not hold.
 pub const DONE: u16 = 0x9000;
 
 pub const FILE_DEACTIVATED: u16 = 0x6283;

@@ -1,23 +1,12 @@
 -- `denial`: step J is asked once more, where it was the one that refused.
-use mathlib.Core.Path.{ap}
-use mathlib.Core.Bool.{not}
-use Rattle.judge_security.proofs.Deciding.{not-denied, denied_decides}
-use Rattle.judge_security.proofs.Denied.{denied_needs}
-use Rattle.judge_target.proofs.FromSound.{judgeable}
+use mathlib.Core.Path.{sym, ap, ◌∙◌}
+use Rattle.judge_security.specs.Security.{is_denied}
+use Rattle.judge_security.proofs.Gated.{denied-fits}
 use Rattle.judge_security.proofs.denial.Goals as goal
 
-pub returns-then-not-is_denied : goal.returns-then-not-is_denied
-returns-then-not-is_denied c = not-denied _ _ _ _ _ c.is_denied.ensures (ap not c.if-not-is_denied.true)
+pub decided-requires-clause-d_value : goal.decided-requires-clause-d_value
+decided-requires-clause-d_value c = rw c.new.ensures.lent.0 c.new.ensures.read.1
 
-pub decided-requires : goal.decided-requires
-decided-requires c = record {
-  judgeable = rw (c.count-n.ensures.0, c.current_df-d.ensures.0) (judgeable _ c.requires.sound);
-  d_value = c.current_df-d.ensures.0;
-  in_bounds = denied_needs _ _ _ _ _ c.is_denied.ensures (ap not c.if-not-is_denied.false)
-      c.requires.due_value;
-}
-
-pub returns : goal.returns
-returns c =
-    denied_decides _ _ _ _ _ c.is_denied.ensures (ap not c.if-not-is_denied.false)
-    c.count-n.ensures.0 c.current_df-d.ensures.0 c.decided.ensures
+pub decided-requires-clause-in_bounds : goal.decided-requires-clause-in_bounds
+decided-requires-clause-in_bounds c =
+    denied-fits _ _ _ _ (ap is_denied (sym c.requires.due_value) ∙ sym c.is_denied.ensures ∙ c.if-not-is_denied.false)

@@ -1,20 +1,13 @@
-use borrow.Author.Rules.{rules}
+-- `numbers::zero_out` writes a splice of n zeros.
+use mathlib.Core.Path.{ap, ◌∙◌}
 use native.Mathlib.Omega.{arith}
-use mathlib.Core.Path.{◌≡◌, sym}
-use lib.ListN.{length-set}
-use Rattle.laws.proofs.Splices.{splice-nil, fill_turn}
+use Prim.Native.Nat.{ℕ}
+use lib.ListN.{replicate, length-replicate, length-take, length-drop}
+use Rattle.numbers.proofs.Writing.{put_mid-splice}
 use Rattle.numbers.proofs.zero_out.Goals as goal
-
-pub loop-j-init : goal.loop-j-init
-loop-j-init c = (search rules, sym (splice-nil _ _))
-
-pub loop-j-preserved : goal.loop-j-preserved
-loop-j-preserved c = (
-  simp length-set (search rules),
-  fill_turn _ _ _ _ _ (search rules) c.loop-j.invariant.1,
-)
 
 pub returns : goal.returns
 returns c =
-    let e : c.loop-j.j ≡ c.args.n = omega arith in
-    cc
+    put_mid-splice _ _ _ _ _
+    (c.fill.ensures.after (λ y e. e) ∙ ap (λ (k : ℕ). replicate k 0) (rw (length-take, length-drop) (omega arith)))
+    (rw length-replicate (omega arith))

@@ -1,9 +1,8 @@
 -- `put_mark`: two digits and a space, and the word behind them.
-use Rattle.objects_text.proofs.Marks.{mark_put}
+use Rattle.objects_text.specs.Lines.{mark_line}
+use Rattle.text.proofs.Written.{written_on}
 use Rattle.objects_text.proofs.put_mark.Goals as goal
 
 pub returns : goal.returns
-returns c =
-    mark_put _ _ _ _ c.digit-a.ensures
-    c.digit-b.ensures
-    c.put-next.ensures c.put.ensures
+unfolding mark_line
+returns c = written_on _ (rw c.hex.ensures at c.put-next.ensures) _ c.put.ensures

@@ -3,8 +3,8 @@ use Prim.Native.Nat.{◌-◌}
 use Rattle.objects_text.proofs.Walking.{Going}
 use Rattle.objects_text.proofs.walk.Given as goal
 
-abbrev pub invariant-loop-out : goal.invariant-loop-out
-invariant-loop-out l = Going l.s l.initial.out l.from l.out l.at l.put
+abbrev pub invariant-loop-object : goal.invariant-loop-object
+invariant-loop-object l = Going l.s l.initial.out l.from l.out l.at l.put
 
-abbrev pub decreases-loop-out : goal.decreases-loop-out
-decreases-loop-out l = 256 - l.at
+abbrev pub decreases-loop-object : goal.decreases-loop-object
+decreases-loop-object l = 256 - l.at

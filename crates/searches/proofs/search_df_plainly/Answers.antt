@@ -2,8 +2,8 @@
 use Rattle.searches.proofs.Told.{is_sized, told_none, told-df}
 use Rattle.searches.proofs.search_df_plainly.Goals as goal
 
-pub returns-then-n-eq0 : goal.returns-then-n-eq0
-returns-then-n-eq0 c = search told_none
+pub returns-in_default : goal.returns-in_default
+returns-in_default c = search told_none
 
 pub df_named-requires : goal.df_named-requires
 df_named-requires c = search is_sized

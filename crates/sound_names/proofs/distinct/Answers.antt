@@ -4,7 +4,7 @@ use borrow.Author.Rules.{rules}
 use Rattle.sound_names.proofs.distinct.Goals as goal
 
 pub pairs-init : goal.pairs-init
-pairs-init c = (search rules, (search rules, (apart-start _, keyed_none _ _)))
+pairs-init c = (search rules, (search rules, (apart-start _, rw c.new-seen.ensures (keyed_none _ _))))
 
 pub loop-t-init : goal.loop-t-init
 loop-t-init c = (search rules, (search rules, pair_start _ _))

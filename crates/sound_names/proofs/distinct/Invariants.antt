@@ -1,5 +1,5 @@
 -- `distinct`: no pair before (s, t) has one name; the label is left at the first that has.
-use Prim.Native.Nat.{◌-◌, ◌≤◌}
+use Prim.Native.Nat.{◌≤◌}
 use mathlib.Core.Path.{◌≡◌}
 use mathlib.Core.Bool.{true}
 use Rattle.keys.specs.Marks.{Keyed}
@@ -14,9 +14,3 @@ invariant-loop-t l = (l.t ≤ l.back) × ((l.distinct ≡ true) × ApartTo l.ima
 abbrev pub invariant-pairs : goal.invariant-pairs
 invariant-pairs l =
     (l.s ≤ l.n) × ((l.distinct ≡ true) × (Apart l.image l.s × Keyed (has_name (view_at l.image)) (name_key_at l.image) l.s l.seen))
-
-abbrev pub decreases-loop-t : goal.decreases-loop-t
-decreases-loop-t l = l.back - l.t
-
-abbrev pub decreases-pairs : goal.decreases-pairs
-decreases-pairs l = l.n - l.s

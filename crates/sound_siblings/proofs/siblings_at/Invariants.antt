@@ -1,5 +1,5 @@
 -- `siblings_at`: s is apart from each record before t.
-use Prim.Native.Nat.{◌-◌, ◌≤◌}
+use Prim.Native.Nat.{◌≤◌}
 use mathlib.Core.Path.{◌≡◌}
 use mathlib.Core.Bool.{true}
 use Rattle.laws.specs.Walks.{all_below}
@@ -9,6 +9,3 @@ use Rattle.sound_siblings.proofs.siblings_at.Given as goal
 
 abbrev pub invariant-loop-t : goal.invariant-loop-t
 invariant-loop-t l = (l.t ≤ l.s) × (all_below l.t (apart_at (view_at l.image) l.s) ≡ true)
-
-abbrev pub decreases-loop-t : goal.decreases-loop-t
-decreases-loop-t l = l.s - l.t

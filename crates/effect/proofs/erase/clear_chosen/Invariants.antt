@@ -1,5 +1,5 @@
 -- `erase::clear_chosen`: the invariant is that the marked records below s are cleared, and no other.
-use Prim.Native.Nat.{◌-◌, ◌≤◌}
+use Prim.Native.Nat.{◌≤◌}
 use mathlib.Core.Path.{◌≡◌}
 use lib.Dec.{eqb}
 use lib.ListN.{length, get_or}
@@ -9,6 +9,3 @@ use Rattle.effect.proofs.erase.clear_chosen.Given as goal
 abbrev pub invariant-loop-s : goal.invariant-loop-s
 invariant-loop-s l =
     ((l.s ≤ l.n) × (length l.image ≡ length l.initial.image)) × (l.image ≡ clear_below l.s (λ k. eqb (get_or l.marks k 0) 1) l.initial.image)
-
-abbrev pub decreases-loop-s : goal.decreases-loop-s
-decreases-loop-s l = l.n - l.s

@@ -1,30 +1,18 @@
 -- `tell::tell`: SELECT and READ tell, no other verdict does.
-use Rattle.effect.proofs.Told.{tells_nothing, tells, can_tell, can_read}
+use Rattle.effect.proofs.Told.{nothing}
 use Rattle.effect.proofs.tell.tell.Goals as goal
 
-pub tell_selected-requires : goal.tell_selected-requires
-tell_selected-requires c = search can_tell
+pub returns-in-Err : goal.returns-in-Err
+returns-in-Err c = rw c.in-Err.is (nothing _)
 
-pub tell_read-requires : goal.tell_read-requires
-tell_read-requires c = search can_read
+pub returns-in-Ok-Create : goal.returns-in-Ok-Create
+returns-in-Ok-Create c = rw (c.in-Ok-Create.is, rw c.in-Ok-Create.is at c.in-Ok-Create.field-0-is) (nothing _)
 
-pub returns-in-Refuse : goal.returns-in-Refuse
-returns-in-Refuse c = search tells_nothing
+pub returns-in-Ok-Delete : goal.returns-in-Ok-Delete
+returns-in-Ok-Delete c = rw (c.in-Ok-Delete.is, rw c.in-Ok-Delete.is at c.in-Ok-Delete.field-0-is) (nothing _)
 
-pub returns-in-Select : goal.returns-in-Select
-returns-in-Select c = search tells
+pub returns-in-Ok-SetLife : goal.returns-in-Ok-SetLife
+returns-in-Ok-SetLife c = rw (c.in-Ok-SetLife.is, rw c.in-Ok-SetLife.is at c.in-Ok-SetLife.field-0-is) (nothing _)
 
-pub returns-in-Create : goal.returns-in-Create
-returns-in-Create c = search tells_nothing
-
-pub returns-in-Delete : goal.returns-in-Delete
-returns-in-Delete c = search tells_nothing
-
-pub returns-in-SetLife : goal.returns-in-SetLife
-returns-in-SetLife c = search tells_nothing
-
-pub returns-in-Read : goal.returns-in-Read
-returns-in-Read c = search tells
-
-pub returns-in-Update : goal.returns-in-Update
-returns-in-Update c = search tells_nothing
+pub returns-in-Ok-Update : goal.returns-in-Ok-Update
+returns-in-Ok-Update c = rw (c.in-Ok-Update.is, rw c.in-Ok-Update.is at c.in-Ok-Update.field-0-is) (nothing _)

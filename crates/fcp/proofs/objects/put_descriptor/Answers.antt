@@ -4,17 +4,19 @@ use Rattle.image.specs.Layout.{rec_at}
 use lib.ListN.{length}
 use native.Mathlib.Omega.{arith}
 use mathlib.Core.Path.{◌≡◌}
-use Rattle.fcp.proofs.Pieces.{records-told, plain-told, six}
+use Rattle.fcp.proofs.Pieces.{two-bytes, records-told, plain-told, six}
 use Rattle.fcp.proofs.objects.put_descriptor.Goals as goal
 
-pub object-requires : goal.object-requires
-object-requires c =
+pub put-requires : goal.put-requires
+put-requires c =
     let a = c.args in
     let e : length (descriptor_object (rec_at a.image.now a.s)) ≡ 6 = search six in
     (omega arith, omega arith)
 
 pub returns-then-has_records : goal.returns-then-has_records
-returns-then-has_records c = search records-told
+returns-then-has_records c =
+    records-told _ c.descriptor-d.ensures c.has_records.ensures c.if-has_records.true
+    (two-bytes c.to_be_bytes.ensures c.record_length.type_inv c.record_length.ensures) c.put.ensures
 
 pub returns : goal.returns
 returns c = search plain-told

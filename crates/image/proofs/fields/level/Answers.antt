@@ -5,4 +5,4 @@ use Rattle.image.proofs.Places.{level_in}
 use Rattle.image.proofs.fields.level.Goals as goal
 
 pub returns : goal.returns
-returns c = (c.u16_at.ensures ∙ sym (level_in _ _), omega arith)
+returns c = (c.from.ensures ∙ c.u16_at.ensures ∙ sym (level_in _ _), omega arith)

@@ -5,4 +5,4 @@ use Rattle.image.proofs.Places.{parent_in}
 use Rattle.image.proofs.fields.parent.Goals as goal
 
 pub returns : goal.returns
-returns c = (c.u16_at.ensures ∙ sym (parent_in _ _), omega arith)
+returns c = (c.from.ensures ∙ c.u16_at.ensures ∙ sym (parent_in _ _), omega arith)

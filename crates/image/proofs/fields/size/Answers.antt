@@ -5,4 +5,4 @@ use Rattle.image.proofs.Places.{size_in}
 use Rattle.image.proofs.fields.size.Goals as goal
 
 pub returns : goal.returns
-returns c = (c.u32_at.ensures ∙ sym (size_in _ _), omega arith)
+returns c = (c.from.ensures ∙ c.u32_at.ensures ∙ sym (size_in _ _), omega arith)

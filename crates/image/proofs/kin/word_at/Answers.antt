@@ -1,7 +1,6 @@
--- `kin::word_at`: parent above identifier, as both stand in record s.
+-- `kin::word_at`: the four bytes that stand there, the first least.
 use Rattle.image.proofs.Words.{kin_read}
-use borrow.Author.Rules.{rules}
 use Rattle.image.proofs.kin.word_at.Goals as goal
 
 pub returns : goal.returns
-returns c = search (kin_read, rules)
+returns c = kin_read _ _ _ c.type_inv.image c.from_le_bytes.ensures

@@ -1,15 +1,10 @@
+-- `climb::terminated_up`: each slot on the way answers if it is terminated.
+use mathlib.Core.Path.{◌∙◌}
 use borrow.Author.Rules.{rules}
-use Rattle.kinship.proofs.Steps.{climb_start, climb_more, terminated-none, terminated_turn, terminated_stop, terminated-end}
+use Rattle.sound.specs.Kinship.{terminated_at, terminated_up}
+use Rattle.kinship.proofs.Steps.{some_up}
 use Rattle.kinship.proofs.climb.terminated_up.Goals as goal
 
-pub loop-i-init : goal.loop-i-init
-loop-i-init c = (search rules, (search climb_start, terminated-none _ _))
-
-pub returns-then-is_terminated : goal.returns-then-is_terminated
-returns-then-is_terminated c = search (terminated_stop, rules)
-
-pub loop-i-preserved : goal.loop-i-preserved
-loop-i-preserved c = (search rules, (search climb_more, search terminated_turn))
-
 pub returns : goal.returns
-returns c = search (terminated-end, rules)
+unfolding terminated_up terminated_at
+returns c = c.is_some.ensures ∙ some_up _ _ _ c.requires.rooted c.requires.stands (terminated_at c.args.image.now) _ (λ t r h k. search rules) _ c.first_up.ensures

@@ -2,8 +2,8 @@ use borrow.Author.Rules.{rules}
 use Rattle.kinship.proofs.Sameness.{free-start, free_turn, free-empty, free_stop, free-end}
 use Rattle.kinship.proofs.names.name_free.Goals as goal
 
-pub returns-then-name-eq0 : goal.returns-then-name-eq0
-returns-then-name-eq0 c = search free-empty
+pub returns-then-is_empty : goal.returns-then-is_empty
+returns-then-is_empty c = search free-empty
 
 pub loop-s-init : goal.loop-s-init
 loop-s-init c = (search rules, free-start _ _)

@@ -1,5 +1,5 @@
 -- `names::name_free`: the invariant is that no record passed has the name.
-use Prim.Native.Nat.{◌-◌, ◌≤◌}
+use Prim.Native.Nat.{◌≤◌}
 use mathlib.Core.Path.{◌≡◌}
 use mathlib.Core.Bool.{true}
 use Rattle.sound.specs.Table.{view_at}
@@ -8,6 +8,3 @@ use Rattle.kinship.proofs.names.name_free.Given as goal
 
 abbrev pub invariant-loop-s : goal.invariant-loop-s
 invariant-loop-s l = (l.s ≤ l.n) × (free_up_to (view_at l.image) l.name l.s ≡ true)
-
-abbrev pub decreases-loop-s : goal.decreases-loop-s
-decreases-loop-s l = l.n - l.s

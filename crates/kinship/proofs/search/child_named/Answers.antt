@@ -1,19 +1,11 @@
-use Rattle.laws.proofs.Firsts.{first_stop, first-end}
-use Rattle.sound.specs.Kinship.{child_named}
-use Rattle.kinship.proofs.Foreign.{child-start, child_turn}
+-- `search::child_named`: each slot is asked whether it is such a child.
 use borrow.Author.Rules.{rules}
+use Rattle.sound.specs.Table.{view_at}
+use Rattle.sound.specs.Kinship.{is_child_named, child_named}
+use Rattle.kinship.proofs.Foreign.{first_kin}
 use Rattle.kinship.proofs.search.child_named.Goals as goal
-
-pub loop-s-init : goal.loop-s-init
-loop-s-init c = (search rules, search child-start)
-
-pub returns-then-is_child_named : goal.returns-then-is_child_named
-unfolding child_named
-returns-then-is_child_named c = search (first_stop, rules)
-
-pub loop-s-preserved : goal.loop-s-preserved
-loop-s-preserved c = (search rules, search child_turn)
 
 pub returns : goal.returns
 unfolding child_named
-returns c = search (first-end, rules)
+returns c =
+    first_kin _ _ _ _ _ (is_child_named (view_at c.args.image.now) c.args.d c.args.x) (λ k e. e) (λ k r l a. search rules) _ c.first_kin.ensures

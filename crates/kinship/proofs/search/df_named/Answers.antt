@@ -1,19 +1,11 @@
-use Rattle.laws.proofs.Firsts.{first_stop, first-end}
-use Rattle.kinship.specs.Search.{df_named}
-use Rattle.kinship.proofs.Foreign.{df-start, df_turn}
+-- `search::df_named`: each slot is asked whether it is such a child, and a DF.
 use borrow.Author.Rules.{rules}
+use Rattle.sound.specs.Table.{view_at}
+use Rattle.kinship.specs.Search.{is_df_named, df_named}
+use Rattle.kinship.proofs.Foreign.{first_kin, df-kin}
 use Rattle.kinship.proofs.search.df_named.Goals as goal
-
-pub loop-s-init : goal.loop-s-init
-loop-s-init c = (search rules, search df-start)
-
-pub returns-then-is_df_named : goal.returns-then-is_df_named
-unfolding df_named
-returns-then-is_df_named c = search (first_stop, rules)
-
-pub loop-s-preserved : goal.loop-s-preserved
-loop-s-preserved c = (search rules, search df_turn)
 
 pub returns : goal.returns
 unfolding df_named
-returns c = search (first-end, rules)
+returns c =
+    first_kin _ _ _ _ _ (is_df_named (view_at c.args.image.now) c.args.d c.args.x) (df-kin _ _ _) (λ k r l a. search rules) _ c.first_kin.ensures

@@ -1,6 +1,7 @@
-use mathlib.Core.Path.{sym, ◌∙◌}
+use mathlib.Core.Path.{◌≡◌, sym, ◌∙◌}
+use native.Mathlib.Omega.{arith}
 use borrow.Author.Tests.{eq-eqb, ne_eqb}
-use Rattle.laws.proofs.Firsts.{first-zero, first_more, first-at, first-end}
+use Rattle.laws.proofs.Firsts.{first-zero, first_more, first-at}
 use Rattle.sound.specs.Kinship.{free_slot}
 use borrow.Author.Rules.{rules}
 use Rattle.kinship.proofs.search.free_slot.Goals as goal
@@ -17,7 +18,9 @@ loop-s-preserved c = (
 
 pub returns-then-n-s : goal.returns-then-n-s
 unfolding free_slot
-returns-then-n-s c = search (first-end, rules)
+returns-then-n-s c =
+    let e : c.loop-s.s ≡ c.args.n = omega (arith, c.loop-s.invariant.0, c.if-n-s.true) in
+    sym (rw e at c.loop-s.invariant.1)
 
 pub returns-then-kind-eq-FREE : goal.returns-then-kind-eq-FREE
 unfolding free_slot

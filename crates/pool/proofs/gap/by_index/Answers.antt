@@ -7,17 +7,17 @@ use Rattle.pool.proofs.gap.by_index.Goals as goal
 pub loop-p-init : goal.loop-p-init
 loop-p-init c = search searched_start
 
-pub ahead-next-requires : goal.ahead-next-requires
-ahead-next-requires c = record { linked = search chained-linked; p_lt_len = search rules }
+pub ahead-ahead-requires : goal.ahead-ahead-requires
+ahead-ahead-requires c = record { linked = search chained-linked; p_lt_len = search rules }
 
-pub returns-then-size-next : goal.returns-then-size-next
-returns-then-size-next c = search seek_found
+pub returns-then-size-ahead : goal.returns-then-size-ahead
+returns-then-size-ahead c = search seek_found
 
-pub loop-p-smaller-then-next-eq0 : goal.loop-p-smaller-then-next-eq0
-loop-p-smaller-then-next-eq0 c = search ahead_less
+pub loop-p-smaller-in_default : goal.loop-p-smaller-in_default
+loop-p-smaller-in_default c = search ahead_less
 
-pub loop-p-preserved-then-next-eq0 : goal.loop-p-preserved-then-next-eq0
-loop-p-preserved-then-next-eq0 c = search seek_gap
+pub loop-p-preserved-in_default : goal.loop-p-preserved-in_default
+loop-p-preserved-in_default c = search seek_gap
 
 pub size-p-requires : goal.size-p-requires
 size-p-requires c = search ahead_within

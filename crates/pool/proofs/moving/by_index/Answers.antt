@@ -7,14 +7,14 @@ use Rattle.pool.proofs.moving.by_index.Goals as goal
 pub loop-p-init : goal.loop-p-init
 loop-p-init c = search going_start
 
-pub ahead-next-requires : goal.ahead-next-requires
-ahead-next-requires c = record { linked = search chained-linked; p_lt_len = search rules }
+pub ahead-ahead-requires : goal.ahead-ahead-requires
+ahead-ahead-requires c = record { linked = search chained-linked; p_lt_len = search rules }
 
-pub loop-p-smaller-then-next-eq0 : goal.loop-p-smaller-then-next-eq0
-loop-p-smaller-then-next-eq0 c = search ahead_less
+pub loop-p-smaller-in_default : goal.loop-p-smaller-in_default
+loop-p-smaller-in_default c = search ahead_less
 
-pub loop-p-preserved-then-next-eq0 : goal.loop-p-preserved-then-next-eq0
-loop-p-preserved-then-next-eq0 c = search going_none
+pub loop-p-preserved-in_default : goal.loop-p-preserved-in_default
+loop-p-preserved-in_default c = search going_none
 
 pub size-size-requires : goal.size-size-requires
 size-size-requires c = search going_within

@@ -5,8 +5,8 @@ use Rattle.pool.proofs.placing.make.Goals as goal
 pub fill-requires : goal.fill-requires
 fill-requires c = search gap_room
 
-pub returns-in-At : goal.returns-in-At
-returns-in-At c = search make_gap
+pub returns-in-Some : goal.returns-in-Some
+returns-in-Some c = search make_gap
 
 pub returns : goal.returns
 returns c = search make-packed

@@ -2,29 +2,21 @@
 use Rattle.referred.proofs.Parts.{image_lies, pool_lies, part_none, part-image, part-pool}
 use Rattle.referred.proofs.deciding.deciding.Goals as goal
 
-pub slice_bounds-result-count : goal.slice_bounds-result-count
-slice_bounds-result-count c = (image_lies _ _ _ _ _ c.place.ensures.0 _ _ c.requires.rooted c.requires.stands.0 c.requires.stands.1 c.in-InImage.is).order
+pub slice_bounds-result-end-in-Some-InImage : goal.slice_bounds-result-end-in-Some-InImage
+slice_bounds-result-end-in-Some-InImage c =
+    let w = c.in-Some-InImage in
+    (image_lies _ _ _ _ _ c.place.ensures.0 _ w.is _ _ c.requires.rooted c.requires.stands.0 c.requires.stands.1 w.field-0-is).end
 
-pub slice_bounds-result-start : goal.slice_bounds-result-start
-slice_bounds-result-start c = (image_lies _ _ _ _ _ c.place.ensures.0 _ _ c.requires.rooted c.requires.stands.0 c.requires.stands.1 c.in-InImage.is).order
+pub slice_bounds-result-end-in-Some-InPool : goal.slice_bounds-result-end-in-Some-InPool
+slice_bounds-result-end-in-Some-InPool c =
+    let w = c.in-Some-InPool in
+    (pool_lies _ _ _ _ _ c.place.ensures.0 _ w.is _ _ c.requires.rooted c.requires.stands.0 c.requires.stands.1 w.field-0-is).end
 
-pub slice_bounds-result-end-in-InImage : goal.slice_bounds-result-end-in-InImage
-slice_bounds-result-end-in-InImage c = (image_lies _ _ _ _ _ c.place.ensures.0 _ _ c.requires.rooted c.requires.stands.0 c.requires.stands.1 c.in-InImage.is).end
+pub returns-in-None : goal.returns-in-None
+returns-in-None c = search part_none
 
-pub slice_bounds-result-count-in-InPool : goal.slice_bounds-result-count-in-InPool
-slice_bounds-result-count-in-InPool c = (pool_lies _ _ _ _ _ c.place.ensures.0 _ _ c.requires.rooted c.requires.stands.0 c.requires.stands.1 c.in-InPool.is).order
+pub returns-in-Some-InImage : goal.returns-in-Some-InImage
+returns-in-Some-InImage c = search part-image
 
-pub slice_bounds-result-start-in-InPool : goal.slice_bounds-result-start-in-InPool
-slice_bounds-result-start-in-InPool c = (pool_lies _ _ _ _ _ c.place.ensures.0 _ _ c.requires.rooted c.requires.stands.0 c.requires.stands.1 c.in-InPool.is).order
-
-pub slice_bounds-result-end-in-InPool : goal.slice_bounds-result-end-in-InPool
-slice_bounds-result-end-in-InPool c = (pool_lies _ _ _ _ _ c.place.ensures.0 _ _ c.requires.rooted c.requires.stands.0 c.requires.stands.1 c.in-InPool.is).end
-
-pub returns-in-Nowhere : goal.returns-in-Nowhere
-returns-in-Nowhere c = search (part_none, part-image, part-pool)
-
-pub returns-in-InImage : goal.returns-in-InImage
-returns-in-InImage c = search (part_none, part-image, part-pool)
-
-pub returns-in-InPool : goal.returns-in-InPool
-returns-in-InPool c = search (part_none, part-image, part-pool)
+pub returns-in-Some-InPool : goal.returns-in-Some-InPool
+returns-in-Some-InPool c = search part-pool

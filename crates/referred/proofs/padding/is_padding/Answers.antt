@@ -1,16 +1,13 @@
+-- `padding::is_padding`: what `all` answers of the bytes.
+use mathlib.Core.Path.{◌≡◌}
 use borrow.Author.Rules.{rules}
-use Rattle.laws.proofs.Walks.{all-zero}
-use Rattle.referred.proofs.Ends.{pad_turn, pad_stop, pad_end}
+use borrow.Author.Tests.{tests}
+use Rattle.std.proofs.lemmas.Iterator.{cases_from_all, YieldsList-from_slice}
+use Rattle.referred.proofs.Ends.{pads_told}
 use Rattle.referred.proofs.padding.is_padding.Goals as goal
 
-pub loop-i-init : goal.loop-i-init
-loop-i-init c = (search rules, all-zero _)
-
-pub returns-then-s-i : goal.returns-then-s-i
-returns-then-s-i c = search (pad_stop, rules)
-
-pub loop-i-preserved : goal.loop-i-preserved
-loop-i-preserved c = (search rules, search pad_turn)
-
 pub returns : goal.returns
-returns c = search (pad_end, rules)
+returns c =
+    pads_told _ _
+    (cases_from_all _ _ _ (λ x. x ≡ 0xFF) (λ x. x ≡ 0xFF → ⊥) c.all.ensures.ran (YieldsList-from_slice c.args.s.now cc)
+    (λ x q k. search (rules, tests)) (λ x q k. search (rules, tests)))

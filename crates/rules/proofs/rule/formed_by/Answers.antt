@@ -2,5 +2,5 @@
 use Rattle.rules.proofs.Groups.{one-formed}
 use Rattle.rules.proofs.rule.formed_by.Goals as goal
 
-pub returns-then-wide-rule : goal.returns-then-wide-rule
-returns-then-wide-rule c = search one-formed
+pub returns-then-from-rule : goal.returns-then-from-rule
+returns-then-from-rule c = search one-formed

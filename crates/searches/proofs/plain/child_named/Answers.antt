@@ -1,18 +1,18 @@
-use Rattle.laws.proofs.Firsts.{first-zero, first_turn, first_stop, first-end}
-use Rattle.sound.specs.Kinship.{child_named}
+-- `plain::child_named`: each slot is asked.
+use mathlib.Core.Path.{◌≡◌}
+use mathlib.Core.Bool.{true, false}
 use borrow.Author.Rules.{rules}
+use borrow.Author.Tests.{tests}
+use Rattle.std.proofs.lemmas.Iterator.{first_from_Range}
+use Rattle.laws.proofs.Firsts.{found_first}
+use Rattle.sound.specs.Table.{view_at}
+use Rattle.sound.specs.Kinship.{is_child_named, child_named}
 use Rattle.searches.proofs.plain.child_named.Goals as goal
-
-pub loop-s-init : goal.loop-s-init
-loop-s-init c = (search rules, first-zero _)
-
-pub returns-then-is_child_named : goal.returns-then-is_child_named
-unfolding child_named
-returns-then-is_child_named c = search (first_stop, rules)
-
-pub loop-s-preserved : goal.loop-s-preserved
-loop-s-preserved c = (search rules, search first_turn)
 
 pub returns : goal.returns
 unfolding child_named
-returns c = search (first-end, rules)
+returns c =
+    found_first (is_child_named (view_at c.args.image.now) c.args.d c.args.x) _ _
+    (first_from_Range _ _ _ _ (λ k. is_child_named (view_at c.args.image.now) c.args.d c.args.x k ≡ true)
+    (λ k. is_child_named (view_at c.args.image.now) c.args.d c.args.x k ≡ false) c.find.ensures.ran
+    (λ x q k. search (rules, tests)) (λ x q k. search (rules, tests)))

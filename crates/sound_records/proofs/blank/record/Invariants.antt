@@ -1,12 +1,9 @@
 -- `blank::record`: the bytes before k are gathered.
-use Prim.Native.Nat.{◌-◌, ◌≤◌}
+use Prim.Native.Nat.{◌≤◌}
 use mathlib.Core.Path.{◌≡◌}
 use lib.Dec.{eqb}
 use Rattle.sound.specs.Own.{zerosb}
 use Rattle.sound_records.proofs.blank.record.Given as goal
 
-abbrev pub invariant-loop-k : goal.invariant-loop-k
-invariant-loop-k l = (l.k ≤ 64) × (eqb l.all 0 ≡ zerosb l.r 0 l.k)
-
-abbrev pub decreases-loop-k : goal.decreases-loop-k
-decreases-loop-k l = 64 - l.k
+abbrev pub invariant-loop-byte : goal.invariant-loop-byte
+invariant-loop-byte l = (l.byte-index ≤ 64) × (eqb l.all 0 ≡ zerosb l.r 0 l.byte-index)

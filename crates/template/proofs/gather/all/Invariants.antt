@@ -1,11 +1,8 @@
 -- All objects of the list, in its order. The loop keeps: k is at most 12, and o is what the first k give.
-use Prim.Native.Nat.{◌≤◌, ◌-◌}
+use Prim.Native.Nat.{◌≤◌}
 use mathlib.Core.Path.{◌≡◌}
 use Rattle.template.specs.Objects.{taken_below}
 use Rattle.template.proofs.gather.all.Given as goal
 
 abbrev pub invariant-loop-k : goal.invariant-loop-k
 invariant-loop-k l = (l.k ≤ 12) × (l.o ≡ taken_below l.k l.s)
-
-abbrev pub decreases-loop-k : goal.decreases-loop-k
-decreases-loop-k l = 12 - l.k

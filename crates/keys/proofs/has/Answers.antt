@@ -1,8 +1,0 @@
--- `has`: the bit_in of the key in its word.
-use mathlib.Core.Path.{refl}
-use Rattle.keys.specs.Marks.{marked, bit_in}
-use Rattle.keys.proofs.has.Goals as goal
-
-pub returns : goal.returns
-unfolding marked bit_in
-returns c = refl

@@ -1,8 +1,0 @@
--- `numbers::u16_at` gives the number that stands there.
-use Rattle.numbers.specs.Numbers.{u16_at}
-use borrow.Author.Rules.{rules}
-use Rattle.numbers.proofs.u16_at.Goals as goal
-
-pub returns : goal.returns
-unfolding u16_at
-returns c = search rules

@@ -1,5 +1,0 @@
-use Rattle.pool.proofs.Indexes.{chained_end}
-use Rattle.pool.proofs.index.fill.Goals as goal
-
-pub returns : goal.returns
-returns c = search chained_end
