@@ -23,18 +23,20 @@ fn eight(s: &[u8], at: usize) -> bool
 }
 
 // Whether 64 bytes are zero, gathered with no way out between.
-pub fn record(r: &[u8; 64]) -> bool
+pub fn record(r: &[u8]) -> bool
+    requires { length r.now ≡ 64 }
     ensures { result ≡ zerosb r.now 0 64 }
 {
     let mut all: u8 = 0;
-    for byte in r {
-        all |= *byte;
+    for k in 0..64 {
+        all = all | r[k];
     }
     all == 0
 }
 
 // Whether a record has no name: neither a length nor a byte of one.
-pub fn name(r: &[u8; 64]) -> bool
+pub fn name(r: &[u8]) -> bool
+    requires { length r.now ≡ 64 }
     ensures { result ≡ zerosb r.now 16 17 }
 {
     if !eight(r, 16) {
@@ -47,8 +49,8 @@ pub fn name(r: &[u8; 64]) -> bool
 }
 
 // Whether the bytes after a name of n bytes are zero, up to the rule's length.
-pub fn after_name(r: &[u8; 64], n: usize) -> bool
-    requires { n ≤ 16 }
+pub fn after_name(r: &[u8], n: usize) -> bool
+    requires { (length r.now ≡ 64) × (n ≤ 16) }
     ensures { result ≡ zerosb r.now (17 + n) (16 - n) }
 {
     if n > 8 {
@@ -61,8 +63,8 @@ pub fn after_name(r: &[u8; 64], n: usize) -> bool
 }
 
 // Whether the bytes after a rule of more than 16 bytes are zero, up to `to`: the end of the record, or the start of a body.
-pub fn after_long_rule(r: &[u8; 64], n: usize, to: usize) -> bool
-    requires n_bound { (16 < n) × (34 + n ≤ to) }
+pub fn after_long_rule(r: &[u8], n: usize, to: usize) -> bool
+    requires r_len { (length r.now ≡ 64) × ((16 < n) × (34 + n ≤ to)) }
     requires le_to { (62 ≤ to) × (to ≤ 64) }
     ensures { result ≡ zerosb r.now (34 + n) (to - (34 + n)) }
 {
@@ -77,8 +79,8 @@ pub fn after_long_rule(r: &[u8; 64], n: usize, to: usize) -> bool
 
 // The same of a rule of at most 16 bytes. The words lie so that no length of it is a case of its own. No one function with that above: its
 // first words are below the stretch after a long rule, and the test here is the one that nearly every record takes.
-pub fn after_rule(r: &[u8; 64], n: usize, to: usize) -> bool
-    requires n_bound { n ≤ 16 }
+pub fn after_rule(r: &[u8], n: usize, to: usize) -> bool
+    requires r_len { (length r.now ≡ 64) × (n ≤ 16) }
     requires le_to { (62 ≤ to) × (to ≤ 64) }
     ensures { result ≡ zerosb r.now (34 + n) (to - (34 + n)) }
 {

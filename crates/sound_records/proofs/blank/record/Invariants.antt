@@ -5,5 +5,5 @@ use lib.Dec.{eqb}
 use Rattle.sound.specs.Own.{zerosb}
 use Rattle.sound_records.proofs.blank.record.Given as goal
 
-abbrev pub invariant-loop-byte : goal.invariant-loop-byte
-invariant-loop-byte l = (l.byte-index ≤ 64) × (eqb l.all 0 ≡ zerosb l.r 0 l.byte-index)
+abbrev pub invariant-loop-k : goal.invariant-loop-k
+invariant-loop-k l = (l.k ≤ 64) × (eqb l.all 0 ≡ zerosb l.r 0 l.k)

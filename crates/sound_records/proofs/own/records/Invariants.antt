@@ -1,4 +1,5 @@
--- `own::records`: each record before this one is good by itself; the version is the first of what they are tested by.
+-- `own::records`: each record before s is good by itself.
+use Prim.Native.Nat.{◌≤◌}
 use mathlib.Core.Path.{◌≡◌}
 use mathlib.Core.Bool.{true}
 use Rattle.laws.specs.Walks.{all_below}
@@ -6,5 +7,5 @@ use Rattle.image.specs.Layout.{rec_at}
 use Rattle.sound.specs.Own.{ownb}
 use Rattle.sound_records.proofs.own.records.Given as goal
 
-abbrev pub invariant-loop-record : goal.invariant-loop-record
-invariant-loop-record l = all_below l.record-index (λ t. ownb l.by.0 (rec_at l.image t)) ≡ true
+abbrev pub invariant-loop-s : goal.invariant-loop-s
+invariant-loop-s l = (l.s ≤ l.n) × (all_below l.s (λ t. ownb l.by.0 (rec_at l.image t)) ≡ true)

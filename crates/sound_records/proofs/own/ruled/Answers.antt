@@ -12,7 +12,7 @@ pub returns-then-not-has_form : goal.returns-then-not-has_form
 returns-then-not-has_form c = search ruling
 
 pub ruled_long-requires : goal.ruled_long-requires
-ruled_long-requires c = record { n_value = search rules; form = form-known _ _ c.has_form.ensures (ap not c.if-not-has_form.false); end_value = search rules }
+ruled_long-requires c = record { r_len = (search rules, (search rules, search rules)); form = form-known _ _ c.has_form.ensures (ap not c.if-not-has_form.false); end_value = search rules }
 
 pub returns-then-not-after_rule : goal.returns-then-not-after_rule
 returns-then-not-after_rule c = search ruling

@@ -8,7 +8,7 @@ pub returns-then-longest_rule-n : goal.returns-then-longest_rule-n
 returns-then-longest_rule-n c = search long-past
 
 pub after_long_rule-requires : goal.after_long_rule-requires
-after_long_rule-requires c = record { n_bound = (search rules, search long-room); le_to = search rules }
+after_long_rule-requires c = record { r_len = (search rules, (search rules, search long-room)); le_to = search rules }
 
 pub returns-then-not-after_long_rule : goal.returns-then-not-after_long_rule
 returns-then-not-after_long_rule c = search ruled-tail
