@@ -1,10 +1,11 @@
 -- A rule that is well formed by its form: what the tests of it find, in the order of the code.
 use mathlib.Core.Path.{◌≡◌, refl, sym, ◌∙◌}
-use mathlib.Core.Bool.{Bool, true, false, cond, ◌&&◌}
+use mathlib.Core.Bool.{Bool, true, false, cond, ◌&&◌, and-false}
 use mathlib.Core.List.{List}
 use Prim.Native.Nat.{ℕ}
 use native.Mathlib.Omega.{arith}
 use lib.Dec.{eqb}
+use lib.ListN.{length}
 use borrow.Author.Tests.{eqb-true, eq-eqb, ne_eqb}
 use Rattle.laws.proofs.Says.{and-says}
 use Rattle.rules.specs.Rule.{compact_formed}
@@ -12,6 +13,9 @@ use Rattle.expanded.specs.Expanded.{expanded_formed}
 use Rattle.access.specs.Access.{compact, expanded, referred, referred_formed, well_formed}
 
 module _ (form : ℕ) (rule : List ℕ) where
+  pub not_three : (length rule ≡ 3 → ⊥) → false ≡ (eqb form referred && referred_formed rule)
+  not_three z = sym (rw (ne_eqb (length rule) 3 z) (and-false (eqb form referred)))
+
   pub formed-compact : {r : Bool} → form ≡ compact → r ≡ compact_formed rule → r ≡ well_formed form rule
   unfolding well_formed
   formed-compact e q = rw (eq-eqb form compact e) q

@@ -51,6 +51,18 @@ fn is_reference(form: u8, rule: &[u8]) -> bool
     rule.len() == 3 && form == REFERRED
 }
 
+// Whether a rule is well formed. Not by `formed_by`: who asks but once would make the table for one rule.
+#[tactic(auto, unfolding(crate::specs::Access::well_formed))]
+fn well_formed(form: u8, rule: &[u8]) -> bool
+    ensures { result ≡ well_formed form rule.now }
+{
+    match form {
+        COMPACT => rules::rule::well_formed(rule),
+        EXPANDED => expanded::rule::well_formed(rule),
+        _ => is_reference(form, rule),
+    }
+}
+
 // Whether a rule may stand in a record of a version.
 pub fn fits_record(v: u32, form: u8, rule: &[u8]) -> bool
     ensures { result ≡ fits_record v form rule.now }
@@ -64,7 +76,7 @@ pub fn fits_record(v: u32, form: u8, rule: &[u8]) -> bool
     if !image::version::has_form(v, form) {
         return false;
     }
-    formed_by(form, rule, &rules::group::lengths())
+    well_formed(form, rule)
 }
 
 // Whether a rule is well formed, with the table of a compact group's lengths, for a caller that asks often: a compact rule, which most

@@ -93,6 +93,11 @@ module _ (img pool c : List ℕ) (st : State) where
         few = omega arith;
       }
 
+  -- r is what the soundness test answered
+  pub call_damaged : {r : Bool} → r ≡ soundb img → (o : List ℕ) → not r ≡ true
+      → CommandPromises img pool c st o (Err (Card Damaged)) img pool o
+  call_damaged e o t = call_refused o Damaged (check_damaged img pool e t)
+
   -- a card of n slots
   module _ {n : ℕ} (k : Checked img pool (Ok n)) where
     sound : Sound img

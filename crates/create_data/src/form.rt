@@ -17,10 +17,10 @@ pub fn is_absent(o: Objects, k: usize) -> bool
     o.values[k].is_none()
 }
 
-// Where the value of object k stands; from 0 to 0 where it is not there.
-pub fn place(o: Objects, k: usize) -> Span
+// Where the value of object k stands; from 0 to 0 where it is not there. By reference: of a copy, k is looked up by memcpy.
+pub fn place(o: &Objects, k: usize) -> Span
     requires { k < 12 }
-    ensures { result ≡ place_in o k }
+    ensures { result ≡ place_in o.now k }
 {
     o.values[k].unwrap_or(Span { start: 0, end: 0 })
 }
@@ -30,7 +30,7 @@ fn length(o: Objects, k: usize) -> usize
     requires { k < 12 }
     ensures { result ≡ length_in o k }
 {
-    let Span { start, end } = place(o, k);
+    let Span { start, end } = place(&o, k);
     end.saturating_sub(start)
 }
 

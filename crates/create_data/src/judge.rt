@@ -31,7 +31,7 @@ impl Sent<'_> {
         requires { k < 12 }
         ensures { result.now ≡ value_in self.now.data.now self.now.objects k }
     {
-        let Span { start, end } = form::place(self.objects, k);
+        let Span { start, end } = form::place(&self.objects, k);
         &self.data[start..end]
     }
 
@@ -108,8 +108,8 @@ impl Sent<'_> {
             form: form::form_in(self.objects),
             record_length: length,
             size,
-            name: form::place(self.objects, 2),
-            rule: form::place(self.objects, form::rule_in(self.objects)),
+            name: form::place(&self.objects, 2),
+            rule: form::place(&self.objects, form::rule_in(self.objects)),
         }
     }
 

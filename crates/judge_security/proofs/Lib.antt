@@ -3,3 +3,4 @@ pub mod Deciding
 pub mod Gated
 pub mod Sure
 pub mod Alike
+pub mod Denied

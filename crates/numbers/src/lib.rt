@@ -58,12 +58,14 @@ pub fn put32(s: &mut [u8], at: usize, v: u32)
     copy_in(s, at, &v.to_be_bytes());
 }
 
-// Writes all of src into dst from `at` on.
+// Writes all of src into dst from `at` on. Byte by byte: `copy_from_slice` is memmove, and the library for C asks for no such name outside.
 pub fn copy_in(dst: &mut [u8], at: usize, src: &[u8])
     requires { at + length src.now ≤ length dst.old }
     ensures { dst.new ≡ splice dst.old at src.now }
 {
-    dst[at..at + src.len()].copy_from_slice(src);
+    for j in 0..src.len() {
+        dst[at + j] = src[j];
+    }
 }
 
 // Writes n zeros into dst from `at` on.

@@ -107,7 +107,7 @@ fn walk(s: &[u8], out: &mut [u8], from: usize) -> usize
     // No `for`: a line begins with the place of its object, which an iterator over the objects would hand out beside each.
     while let Some(object) = reader::object(s, at) {
         put = put_object(s, at, object, out, put);
-        at = object.value.end;
+        at = reader::after(s, at);
     }
     put_stop(s, at, out, put)
 }

@@ -9,17 +9,17 @@ use crate::{Ahead, body};
 
 // Of a slot: where its body starts, and the mark of the slot after it in its chain.
 #[derive(Clone, Copy)]
-struct Link {
-    place: u16,
-    next: u16,
+pub struct Link {
+    pub place: u16,
+    pub next: u16,
 }
 
 // The first mark of each cell's chain, and the links of all slots. A mark is a slot plus one, or 0 for none: an Option of a slot is twice
 // as long, and the stack of a call is bounded (`HULL_STACK_BYTES`).
 #[derive(Drop)]
 pub struct Index {
-    firsts: [u16; 1024],
-    links: [Link; 1024],
+    pub firsts: [u16; 1024],
+    pub links: [Link; 1024],
 }
 
 // The slot of a mark.

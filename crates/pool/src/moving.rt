@@ -12,7 +12,8 @@ use crate::body;
 use crate::index::Index;
 use image::write;
 
-// Moves `size` bytes down; those that are left become 00.
+// Moves `size` bytes down, the lowest first; those that are left become 00. Byte by byte: `copy_within` is memmove, and the library for C
+// asks for no such name outside.
 fn move_down(pool: &mut [u8], from: usize, to: usize, size: usize)
     requires { (to ≤ from) × (from + size ≤ length pool.old) }
     ensures { pool.new ≡ move_down pool.old from to size }
@@ -20,7 +21,9 @@ fn move_down(pool: &mut [u8], from: usize, to: usize, size: usize)
     if from == to {
         return;
     }
-    pool.copy_within(from..from + size, to);
+    for j in 0..size {
+        pool[to + j] = pool[from + j];
+    }
     let left = from.max(to + size);
     pool[left..from + size].fill(0);
 }

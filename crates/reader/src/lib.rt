@@ -2,7 +2,7 @@
 // object reader is also wanted as a struct that holds the template and its place").
 //
 // Thin: each method takes the struct apart and calls a function on slice and place, or puts one together.
-// `object` and `after` have plain parameters; callers use `object`.
+// Callers use `object` and `after`, whose parameters are plain.
 #![tactic(auto)]
 
 ghost use Rattle.std.specs.Prelude.{◌≡◌};

@@ -18,8 +18,8 @@ use rules::descriptor;
 // The identifiers of directories: those that one has, and those that two have.
 #[derive(Drop)]
 pub struct Directories {
-    once: Keys,
-    twice: Keys,
+    pub once: Keys,
+    pub twice: Keys,
 }
 
 impl Directories {

@@ -43,6 +43,7 @@ held_none : (s : List ℕ) → Held s no_objects
 held_none s =
     record {
       values_long = refl;
+      absent = λ k. rw (nones 12 k) (λ z. refl);
       low = λ k. rw (nones 12 k) (omega arith);
       high = λ k. rw (nones 12 k) (omega arith);
     }
@@ -59,10 +60,12 @@ module _ (s : List ℕ) (o : Objects) (k : ℕ) (lt : k < 12) (h : Held s o) whe
       other : (j ≡ k → ⊥) → P (get_or (set o.values k p) j None)
       other n = rw (get_or-set_other o.values k j p None n) old
 
-  held-noted : (p : Span) → p.start ≤ p.end → p.end ≤ length s → Held s (noted o k p)
-  held-noted p l i =
+  held-noted : (p : Span) → 0 < p.start → p.start ≤ p.end → p.end ≤ length s → Held s (noted o k p)
+  held-noted p f l i =
       record {
         values_long = length-set o.values k (Some p) ∙ h.values_long;
+        absent = λ j. written (λ x. (unwrap_or x nowhere).start ≡ 0 → (unwrap_or x nowhere).end ≡ 0) (Some p)
+            (λ z. omega (arith, f, z)) j (h.absent j);
         low = λ j. written (λ x. (unwrap_or x nowhere).start ≤ (unwrap_or x nowhere).end) (Some p) l j (h.low j);
         high = λ j. written (λ x. (unwrap_or x nowhere).end ≤ length s) (Some p) i j (h.high j);
       }
@@ -72,7 +75,7 @@ module _ (s : List ℕ) (o : Objects) (k : ℕ) (lt : k < 12) (h : Held s o) whe
   held_on (Some x) i = go (eqb x.tag (get_or order k 0))
     where
       go : (b : Bool) → Held s (cond b (noted o k x.value) o)
-      go true = held-noted x.value i.1 i.3
+      go true = held-noted x.value (omega (arith, i.0)) i.1 i.3
       go false = h
 
   held_taken : Held s (taken_at s o k)

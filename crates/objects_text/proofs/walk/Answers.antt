@@ -1,6 +1,6 @@
 use mathlib.Core.Path.{sym, ◌∙◌}
 use Rattle.text.proofs.Written.{same_text}
-use Rattle.objects_text.proofs.Found.{is-whole, not-whole, its-line, its-end}
+use Rattle.objects_text.proofs.Found.{is-whole, not-whole, its-line}
 use Rattle.objects_text.proofs.Walking.{start, object-fits, stop_fits, goes_on, less, ended, stop_room}
 use Rattle.objects_text.proofs.walk.Goals as goal
 
@@ -15,12 +15,12 @@ put_object-put-requires c =
 pub loop-object-smaller : goal.loop-object-smaller
 loop-object-smaller c =
     let e = sym c.in-Some.is ∙ c.object.ensures in
-    less c.loop-object.invariant _ (is-whole _ _ _ e) (its-end _ _ _ e)
+    less c.loop-object.invariant _ (is-whole _ _ _ e) c.after-at.ensures
 
 pub loop-object-preserved : goal.loop-object-preserved
 loop-object-preserved c =
     let e = sym c.in-Some.is ∙ c.object.ensures in
-    goes_on c.loop-object.invariant _ _ _ (is-whole _ _ _ e) (its-end _ _ _ e)
+    goes_on c.loop-object.invariant _ _ _ (is-whole _ _ _ e) c.after-at.ensures
     (same_text _ _ c.put_object-put.ensures (its-line _ _ _ e))
 
 pub put_stop-requires : goal.put_stop-requires
