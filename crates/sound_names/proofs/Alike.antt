@@ -41,7 +41,7 @@ name-short img n s h l = (name_padded img n s h l).short
 
 module _ (r q : List ℕ) (long : length r ≡ 64) (long' : length q ≡ 64) (pad : Padded 16 r 16) (pad' : Padded 16 q 16)
     (same : name_of r ≡ name_of q) where
-  same_length : get_or r 16 0 ≡ get_or q 16 0
+  pub same_length : get_or r 16 0 ≡ get_or q 16 0
   unfolding name_of field_at
   same_length =
       omega (
@@ -73,7 +73,7 @@ module _ (r q : List ℕ) (long : length r ≡ 64) (long' : length q ≡ 64) (pa
           ∙ sym (pad'.zeros j (omega (arith, same_length)))
           ∙ ap (λ (x : ℕ). get_or q x 0) b
 
-  same_word : (i k : ℕ) → i ≡ 17 + k → k + 4 ≤ 16 → u32_at r i ≡ u32_at q i
+  pub same_word : (i k : ℕ) → i ≡ 17 + k → k + 4 ≤ 16 → u32_at r i ≡ u32_at q i
   unfolding u32_at
   same_word i k e l =
       rw (
@@ -103,6 +103,9 @@ name-key r a b c d k e f g h q = q ∙ rw (e, f, g, h)
 module _ (img : List ℕ) (s : ℕ) (r : List ℕ) (e : r ≡ rec_at img s) where
   pub record_long : (n : ℕ) → Sized img n → s < n → length r ≡ 64
   record_long n sized l = ap length e ∙ length_record img s (within-sized img n s sized l).0
+
+  pub record_padded : (n : ℕ) → recordsb img n ≡ true → s < n → Padded 16 r 16
+  record_padded n good low = rw e (name_padded img n s good low)
 
   pub name-key-at : (k : ℕ) → k ≡ name_key r → k ≡ name_key_at img s
   name-key-at k f = f ∙ ap name_key e

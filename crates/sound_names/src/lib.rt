@@ -4,16 +4,56 @@
 // has no pair to look at. Any key would be right; this one is spread so that few names share one.
 #![tactic(auto)]
 
-ghost use Rattle.std.specs.Prelude.{◌≡◌, true, ◌+◌, ◌<◌, length};
+ghost use Rattle.std.specs.Prelude.{◌≡◌, [], true, not, ◌&&◌, ◌+◌, ◌*◌, ◌<◌, ◌≤◌, length};
+ghost use Rattle.laws.specs.Lists.{same_list};
 ghost use Rattle.keys.specs.Marks.{Keyed};
-ghost use Rattle.image.specs.Layout.{Sized};
+ghost use Rattle.numbers.specs.Numbers.{u32_at};
+ghost use Rattle.image.specs.Layout.{Sized, name_of};
 ghost use Rattle.sound.specs.Table.{view_at};
 ghost use Rattle.sound.specs.Kin.{same_name, namesb};
+ghost use Rattle.sound.specs.Own.{Padded};
 ghost use Rattle.sound.specs.Sound.{recordsb};
 ghost use Rattle.sound_names.specs.Key.{name_key, name_key_at, has_name, LooksBack};
 
 use image::fields;
 use keys::Keys;
+
+// The eight bytes of a record from `at` on, as one number.
+#[tactic(auto, unfolding(numbers::specs::Numbers::u32_at, numbers::specs::Numbers::u16_at))]
+fn eight_at(r: &[u8], at: usize) -> u64
+    requires { at + 8 ≤ length r.now }
+    ensures { result ≡ u32_at r.now at * 4294967296 + u32_at r.now (at + 4) }
+{
+    u64::from_be_bytes([
+        r[at],
+        r[at + 1],
+        r[at + 2],
+        r[at + 3],
+        r[at + 4],
+        r[at + 5],
+        r[at + 6],
+        r[at + 7],
+    ])
+}
+
+// Whether record a has a name, and b the same: the sixteen bytes, in which zeros follow a name, as two numbers, and the length. By numbers,
+// for this is most of soundness where names share a key; the last is asked first, since names of one maker begin alike.
+fn one_name(a: &[u8], b: &[u8]) -> bool
+    requires long { (length a.now ≡ 64) × (length b.now ≡ 64) }
+    requires padded { Padded 16 a.now 16 × Padded 16 b.now 16 }
+    ensures { result ≡ (not (same_list (name_of a.now) []) && same_list (name_of b.now) (name_of a.now)) }
+{
+    if a[16] == 0 {
+        return false;
+    }
+    if eight_at(b, 25) != eight_at(a, 25) {
+        return false;
+    }
+    if eight_at(b, 17) != eight_at(a, 17) {
+        return false;
+    }
+    b[16] == a[16]
+}
 
 // Whether s has a name, and t the same.
 fn same_name(image: &[u8], n: usize, s: usize, t: usize) -> bool
@@ -21,11 +61,7 @@ fn same_name(image: &[u8], n: usize, s: usize, t: usize) -> bool
     requires n_value { recordsb image.now n ≡ true }
     ensures { result ≡ same_name (view_at image.now) s t }
 {
-    let name = fields::name(image, s);
-    if name.len() == 0 {
-        return false;
-    }
-    kinship::names::same(fields::name(image, t), name)
+    one_name(fields::record(image, s), fields::record(image, t))
 }
 
 // The name of a record in 16 bits.

@@ -1,17 +1,13 @@
--- `same_name`: s has a name, and it is that of t.
-use Rattle.sound_names.proofs.Alike.{name-short}
-use Rattle.sound_names.proofs.Pairs.{name-none, name_is}
-use borrow.Author.Rules.{rules}
+-- `same_name`: what is asked of the two records.
+use Rattle.sound_names.proofs.Alike.{record_long, record_padded}
+use Rattle.sound_names.proofs.Pairs.{name_is}
 use Rattle.sound_names.proofs.same_name.Goals as goal
 
-pub name-name-requires : goal.name-name-requires
-name-name-requires c = (search rules, search name-short)
+pub one_name-requires-clause-long : goal.one_name-requires-clause-long
+one_name-requires-clause-long c = (search record_long, search record_long)
 
-pub returns-then-name-eq0 : goal.returns-then-name-eq0
-returns-then-name-eq0 c = search name-none
-
-pub name-requires : goal.name-requires
-name-requires c = (search rules, search name-short)
+pub one_name-requires-clause-padded : goal.one_name-requires-clause-padded
+one_name-requires-clause-padded c = (search record_padded, search record_padded)
 
 pub returns : goal.returns
 returns c = search name_is
