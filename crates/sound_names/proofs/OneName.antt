@@ -1,4 +1,4 @@
--- Two records have one name where the two numbers that stand for its bytes are the same, and its length; and nowhere else.
+-- A record with a name and another have one where the two numbers that stand for its bytes are the same, and its length; else they do not.
 use mathlib.Core.Path.{◌≡◌, refl, sym, ◌∙◌, ap}
 use mathlib.Core.Bool.{Bool, true, false, not, ◌&&◌, false≢true}
 use mathlib.Core.List.{List, []}
@@ -46,12 +46,16 @@ module _ (r q : List ℕ) (bytes : Bytes r) (bytes' : Bytes q) where
   four : (j : ℕ) → u32_at r j ≡ u32_at q j → (k : ℕ) → j ≤ k → k < j + 4 → get_or r k 0 ≡ get_or q k 0
   unfolding u32_at
   four j e k l m =
-      let both = halves (u16_at r j) (u16_at r (j + 2)) (u16_at q j) (u16_at q (j + 2)) (u16_at-lt r (j + 2) bytes) (u16_at-lt q (j + 2) bytes') e in
+      let less = u16_at-lt r (j + 2) bytes in
+      let less' = u16_at-lt q (j + 2) bytes' in
+      let both = halves (u16_at r j) (u16_at r (j + 2)) (u16_at q j) (u16_at q (j + 2)) less less' e in
       ⊎_elim (λ h. pair j both.0 k l h) (λ h. pair (j + 2) both.1 k h (omega arith)) (lt-or k (j + 2))
 
   each : (i : ℕ) → eight r i ≡ eight q i → (k : ℕ) → i ≤ k → k < i + 8 → get_or r k 0 ≡ get_or q k 0
   each i e k l m =
-      let both = parts (u32_at r i) (u32_at r (i + 4)) (u32_at q i) (u32_at q (i + 4)) (u32_at-lt r (i + 4) bytes) (u32_at-lt q (i + 4) bytes') e in
+      let less = u32_at-lt r (i + 4) bytes in
+      let less' = u32_at-lt q (i + 4) bytes' in
+      let both = parts (u32_at r i) (u32_at r (i + 4)) (u32_at q i) (u32_at q (i + 4)) less less' e in
       ⊎_elim (λ h. four i both.0 k l h) (λ h. four (i + 4) both.1 k h (omega arith)) (lt-or k (i + 4))
 
 -- x and y are the numbers of b and a that were read, and the same

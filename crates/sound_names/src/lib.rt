@@ -18,7 +18,7 @@ ghost use Rattle.sound_names.specs.Key.{name_key, name_key_at, has_name, LooksBa
 use image::fields;
 use keys::Keys;
 
-// The eight bytes of a record from `at` on, as one number.
+// The eight bytes of a record from `at` on, as one number. Written as one, not as two of four bytes, so that it is one load and one comparison.
 #[tactic(auto, unfolding(numbers::specs::Numbers::u32_at, numbers::specs::Numbers::u16_at))]
 fn eight_at(r: &[u8], at: usize) -> u64
     requires { at + 8 ≤ length r.now }

@@ -201,8 +201,8 @@ fn all_names(slots: usize) -> Card {
 }
 
 /// The same, but all names share the key by which soundness tells most names
-/// apart (crates/sound_names), and their last byte too, so that each is compared
-/// with all before it.
+/// apart (crates/sound_names), so that each is compared with all before it. They
+/// share their last byte too, which CREATE asks first (`kinship::names::same`).
 fn names_of_one_key(slots: usize) -> Card {
     let mut filling = Filling::new(slots);
     while filling.card.room(0) >= 65 {
