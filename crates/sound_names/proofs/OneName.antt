@@ -3,60 +3,69 @@ use mathlib.Core.Path.{◌≡◌, refl, sym, ◌∙◌, ap}
 use mathlib.Core.Bool.{Bool, true, false, not, ◌&&◌, false≢true}
 use mathlib.Core.List.{List, []}
 use mathlib.Core.Logic.{⊎_elim}
-use Prim.Native.Nat.{ℕ, ◌+◌, ◌*◌, ◌-◌, ◌<◌, ◌≤◌}
+use Prim.Native.Nat.{ℕ, ◌+◌, ◌*◌, ◌/◌, ◌%◌, ◌-◌, ◌<◌, ◌≤◌}
 use native.Mathlib.Omega.{arith}
 use lib.Dec.{eqb}
 use lib.ListN.{length, get_or}
 use Rattle.std.proofs.lemmas.List.{ext_get_or}
+use Rattle.std.proofs.lemmas.Nat.{div-mul-add, mod-mul-add}
 use mir.Val.{Fits}
 use mir.Syntax.{w8}
 use borrow.Author.Tests.{eq-eqb, eqb-true}
 use Rattle.laws.specs.Lists.{Bytes, same_list}
 use Rattle.laws.proofs.Chains.{and_off}
-use Rattle.laws.proofs.Says.{and-says, same-says, lt-or, same_or, same_test, untrue}
+use Rattle.laws.proofs.Says.{and-says, same-says, lt-or, same_test, untrue}
 use Rattle.laws.proofs.Splices.{length_part, get_or-part}
 use Rattle.numbers.specs.Numbers.{u16_at, u32_at}
 use Rattle.numbers.proofs.Reading.{u16_at-lt, u32_at-lt}
 use Rattle.image.specs.Layout.{name_of, field_at}
-use Rattle.image.proofs.Words.{halves}
 use Rattle.sound.specs.Own.{Padded}
 use Rattle.kinship.proofs.Sameness.{no_name, some-name}
 use Rattle.sound_names.proofs.Alike.{same_length, same_word}
 
-low : (s : List ℕ) → ((i : ℕ) → Fits w8 (get_or s i 0)) → Bytes s
-low s fits i = omega (arith, fits i)
+as-bytes : (s : List ℕ) → ((i : ℕ) → Fits w8 (get_or s i 0)) → Bytes s
+as-bytes s fits i = omega (arith, fits i)
 
 -- the number of the eight bytes from i on
 abbrev eight : List ℕ → ℕ → ℕ
 eight s i = u32_at s i * 4294967296 + u32_at s (i + 4)
 
-parts : (a b c d : ℕ) → b < 4294967296 → d < 4294967296 → a * 4294967296 + b ≡ c * 4294967296 + d → (a ≡ c) × (b ≡ d)
-parts a b c d l m e = (omega arith, omega arith)
+module _ (r q : List ℕ) where
+  -- where the numbers f of w bytes are the same, so are the bytes
+  abbrev Tells : (List ℕ → ℕ → ℕ) → ℕ → Type 0
+  Tells f w = (i : ℕ) → f r i ≡ f q i → (k : ℕ) → i ≤ k → k < i + w → get_or r k 0 ≡ get_or q k 0
 
--- a number that is the same has the same bytes
-module _ (r q : List ℕ) (bytes : Bytes r) (bytes' : Bytes q) where
-  pair : (j : ℕ) → u16_at r j ≡ u16_at q j → (k : ℕ) → j ≤ k → k < j + 2 → get_or r k 0 ≡ get_or q k 0
-  unfolding u16_at
-  pair j e k l m =
-      let below = bytes (j + 1) in
-      let below' = bytes' (j + 1) in
-      ⊎_elim (λ f. rw f (omega (arith, e, below, below')))
-      (λ (f : k ≡ j → ⊥). let next : k ≡ j + 1 = omega (arith, f) in rw next (omega (arith, e, below, below'))) (same_or k j)
+  one_byte : Tells (λ s i. get_or s i 0) 1
+  one_byte i e k l m = let here : k ≡ i = omega arith in rw here e
 
-  four : (j : ℕ) → u32_at r j ≡ u32_at q j → (k : ℕ) → j ≤ k → k < j + 4 → get_or r k 0 ≡ get_or q k 0
-  unfolding u32_at
-  four j e k l m =
-      let less = u16_at-lt r (j + 2) bytes in
-      let less' = u16_at-lt q (j + 2) bytes' in
-      let both = halves (u16_at r j) (u16_at r (j + 2)) (u16_at q j) (u16_at q (j + 2)) less less' e in
-      ⊎_elim (λ h. pair j both.0 k l h) (λ h. pair (j + 2) both.1 k h (omega arith)) (lt-or k (j + 2))
+  -- two such numbers below n side by side, as one
+  side-by-side : (f : List ℕ → ℕ → ℕ) (w n : ℕ) → ((i : ℕ) → f r i < n) → ((i : ℕ) → f q i < n) → Tells f w
+      → Tells (λ s i. f s i * n + f s (i + w)) (w + w)
+  side-by-side f w n less less' tells i e k l m = ⊎_elim (λ x. tells i high k l x) (λ x. tells (i + w) low k x (omega arith)) (lt-or k (i + w))
+    where
+      high : f r i ≡ f q i
+      high =
+          sym (div-mul-add (f r i) n (f r (i + w)) (less (i + w)))
+          ∙ ap (λ x. x / n) e
+          ∙ div-mul-add (f q i) n (f q (i + w)) (less' (i + w))
 
-  each : (i : ℕ) → eight r i ≡ eight q i → (k : ℕ) → i ≤ k → k < i + 8 → get_or r k 0 ≡ get_or q k 0
-  each i e k l m =
-      let less = u32_at-lt r (i + 4) bytes in
-      let less' = u32_at-lt q (i + 4) bytes' in
-      let both = parts (u32_at r i) (u32_at r (i + 4)) (u32_at q i) (u32_at q (i + 4)) less less' e in
-      ⊎_elim (λ h. four i both.0 k l h) (λ h. four (i + 4) both.1 k h (omega arith)) (lt-or k (i + 4))
+      low : f r (i + w) ≡ f q (i + w)
+      low =
+          sym (mod-mul-add (f r i) n (f r (i + w)) (less (i + w)))
+          ∙ ap (λ x. x % n) e
+          ∙ mod-mul-add (f q i) n (f q (i + w)) (less' (i + w))
+
+  module _ (bytes : Bytes r) (bytes' : Bytes q) where
+    two : Tells u16_at 2
+    unfolding u16_at
+    two = side-by-side (λ s i. get_or s i 0) 1 256 bytes bytes' one_byte
+
+    four : Tells u32_at 4
+    unfolding u32_at
+    four = side-by-side u16_at 2 65536 (λ i. u16_at-lt r i bytes) (λ i. u16_at-lt q i bytes') two
+
+    each : Tells eight 8
+    each = side-by-side u32_at 4 4294967296 (λ i. u32_at-lt r i bytes) (λ i. u32_at-lt q i bytes') four
 
 -- x and y are the numbers of b and a that were read, and the same
 pub same_at : (a b : List ℕ) (i x y : ℕ) → x ≡ eight b i → y ≡ eight a i → x ≡ y → eight b i ≡ eight a i
@@ -91,7 +100,7 @@ module _ (a b : List ℕ) (long : length a ≡ 64) (long' : length b ≡ 64) (pa
       (first : eight b 17 ≡ eight a 17) where
     byte : (k : ℕ) → 17 ≤ k → k < 33 → get_or b k 0 ≡ get_or a k 0
     byte k l m =
-        let number = each b a (low b bytes') (low a bytes) in
+        let number = each b a (as-bytes b bytes') (as-bytes a bytes) in
         ⊎_elim (λ h. number 17 first k l h) (λ h. number 25 last k h m) (lt-or k 25)
 
     alike : get_or b 16 0 ≡ get_or a 16 0 → name_of b ≡ name_of a
