@@ -36,6 +36,10 @@ module _ (s : List ℕ) (at : ℕ) (x : Object) (q : Some x ≡ object_at s at) 
   unfolding line_at
   its-line = ap (line_of s at) q
 
+  pub its-end : x.value.end ≡ place_after s at
+  unfolding place_after
+  its-end = ap (end_or at) q
+
 pub not-whole : (s : List ℕ) (at : ℕ) → None ≡ object_at s at → whole_at s at ≡ false
 unfolding whole_at
 not-whole s at q = ap is_some (sym q)

@@ -16,21 +16,25 @@ use Rattle.image.proofs.Records.{within-sized}
 use Rattle.sound.specs.Table.{View, view_at}
 use Rattle.sound.specs.Kin.{same_name, names_at, namesb}
 use Rattle.sound.specs.Sound.{recordsb}
-use Rattle.kinship.proofs.Sameness.{no_name}
+use Rattle.kinship.proofs.Sameness.{no_name, some-name}
 use Rattle.sound_names.specs.Key.{name_key, name_key_at, has_name, LooksBack}
 use Rattle.sound_names.proofs.Alike.{name_padded, same-name_key}
 
--- b is the name of s that was read
+-- b is the name of s that was read, and a that of t
 module _ (img : List ℕ) (s t : ℕ) (b : List ℕ) (q : b ≡ name_of (rec_at img s)) where
   pub name-none : length b ≡ 0 → false ≡ same_name (view_at img) s t
   unfolding same_name
   name-none h = rw (← q, no_name b h)
 
+  pub name_is : (length b ≡ 0 → ⊥) → (a : List ℕ) (r : Bool) → a ≡ name_of (rec_at img t) → r ≡ same_list a b → r ≡ same_name (view_at img) s t
+  unfolding same_name
+  name_is y a r p e = rw (← q, ← p, some-name b y) e
+
 -- a and b are the records of s and t that were read, and r is whether they have one name
-pub name_is : (img : List ℕ) (s t : ℕ) (a b : List ℕ) (r : Bool) → a ≡ rec_at img s → b ≡ rec_at img t
+pub same_name_is : (img : List ℕ) (s t : ℕ) (a b : List ℕ) (r : Bool) → a ≡ rec_at img s → b ≡ rec_at img t
     → r ≡ (not (same_list (name_of a) []) && same_list (name_of b) (name_of a)) → r ≡ same_name (view_at img) s t
 unfolding same_name
-name_is img s t a b r p q e = rw (← p, ← q) e
+same_name_is img s t a b r p q e = rw (← p, ← q) e
 
 -- the walk over pairs: no name of a pair (v, u), u < v < s, is one; nor of a pair (s, u), u < t
 pub record Apart (img : List ℕ) (s : ℕ) : Type 0 where
