@@ -1,7 +1,7 @@
 // CREATE's data judged (01 "CREATE", data): 62 LL, the objects of a DF's or an EF's list, and what their
 // values must obey on a card of version v. Any breach is bad: None. Each value goes to its reader as a part of the data.
 ghost use Rattle.std.specs.Prelude.{◌≡◌, ◌<◌};
-ghost use Rattle.template.specs.Objects.{Held, value_in};
+ghost use Rattle.template.specs.Objects.{InData, Held, value_in};
 ghost use Rattle.template.specs.Values.{first_of, pair_of, record_length_of, number_of};
 ghost use Rattle.create_data.specs.Data.{is_template, name_good, rule_good, both_good, new_file, df_of, ef_of, sized_ef, file_of};
 
@@ -17,12 +17,33 @@ pub fn is_template(s: &[u8]) -> bool
     2 <= s.len() && s[0] == 0x62 && s[1] <= 127 && s.len() - 2 == usize::from(s[1])
 }
 
-// CREATE's data, and the objects that were gathered in them: each value stands within the data.
+// CREATE's data, and objects in them: each value stands within the data.
 #[derive(Clone, Copy)]
 pub struct Sent<'a> {
     pub data: &'a [u8],
     pub objects: Objects,
+    pub ghost held: { InData data.now objects },
+}
+
+// Beside that, a value that starts at 0 ends there, as of objects that were gathered: for a caller who rests on it. `read` does not.
+#[derive(Clone, Copy)]
+pub struct Gathered<'a> {
+    pub data: &'a [u8],
+    pub objects: Objects,
     pub ghost held: { Held data.now objects },
+}
+
+impl Gathered<'_> {
+    // The file, as `Sent` has it.
+    pub fn file(&self, v: u32) -> Option<Data>
+        ensures { result ≡ file_of v self.now.data.now self.now.objects }
+    {
+        let sent = Sent {
+            data: self.data,
+            objects: self.objects,
+        };
+        sent.file(v)
+    }
 }
 
 impl Sent<'_> {
@@ -166,5 +187,64 @@ impl Sent<'_> {
             descriptor::EF => self.ef(descriptor, v),
             _ => None,
         }
+    }
+}
+
+#[cfg(test)]
+mod tests {
+    use super::*;
+    use template::gather;
+
+    // An EF of nine bytes, 6F07, as its descriptor, identifier, life cycle, rule and size say: 82 stands at place 0, where nothing that
+    // was gathered does.
+    #[test]
+    fn judges_an_object_at_place_0(rt: HostRuntime) {
+        let mut values = [None; 12];
+        values[0] = Some(Span { start: 0, end: 2 });
+        values[1] = Some(Span { start: 2, end: 4 });
+        values[3] = Some(Span { start: 4, end: 5 });
+        values[4] = Some(Span { start: 5, end: 7 });
+        values[7] = Some(Span { start: 7, end: 9 });
+        let sent = Sent {
+            data: &[0x41, 0x21, 0x6F, 0x07, 0x05, 0x01, 0x00, 0x00, 0x09],
+            objects: Objects { values, next: 9 },
+        };
+        let Some(Data::Ef(file)) = sent.file(1) else {
+            assert!(rt; false, "no EF");
+            return;
+        };
+        assert_eq!(rt; file.descriptor, 0x41);
+        assert_eq!(rt; file.identifier, 0x6F07);
+        assert_eq!(rt; file.life, 0x05);
+        assert_eq!(rt; file.form, access::COMPACT);
+        assert_eq!(rt; file.record_length, 0);
+        assert_eq!(rt; file.size, 9);
+        assert_eq!(rt; (file.rule.start, file.rule.end), (5, 7));
+        assert_eq!(rt; (file.name.start, file.name.end), (0, 0));
+    }
+
+    // The EF of 01's replay, gathered; and with a byte more behind it.
+    #[test]
+    fn judges_what_was_gathered(rt: HostRuntime) {
+        let data = [
+            0x62, 0x13, 0x82, 0x02, 0x41, 0x21, 0x83, 0x02, 0x6F, 0x07, 0x8A, 0x01, 0x05, 0x8C,
+            0x02, 0x01, 0x00, 0x80, 0x02, 0x00, 0x09, 0x00,
+        ];
+        let gathered = Gathered {
+            data: &data[..21],
+            objects: gather::all(&data[..21]),
+        };
+        let Some(Data::Ef(file)) = gathered.file(1) else {
+            assert!(rt; false, "no EF");
+            return;
+        };
+        assert_eq!(rt; file.identifier, 0x6F07);
+        assert_eq!(rt; file.size, 9);
+        assert_eq!(rt; (file.rule.start, file.rule.end), (15, 17));
+        let more = Gathered {
+            data: &data,
+            objects: gather::all(&data),
+        };
+        assert!(rt; more.file(1).is_none());
     }
 }

@@ -14,7 +14,7 @@ use Rattle.laws.proofs.Says.{same_or}
 use Rattle.template.specs.declared.Object.{Object}
 use Rattle.template.specs.declared.Objects.{Objects}
 use Rattle.template.specs.declared.Span.{Span}
-use Rattle.template.specs.Objects.{nowhere, object_at, order, noted, on_tag, taken_at, no_objects, taken_below, objects_of, Held}
+use Rattle.template.specs.Objects.{nowhere, object_at, order, noted, on_tag, taken_at, no_objects, taken_below, objects_of, InData, Held}
 
 -- the value of the object at a place stands behind its tag and length, has at most 127 bytes, and ends within the data
 abbrev pub Inside : List ℕ → ℕ → Option Object → Type 0
@@ -90,3 +90,6 @@ held_below s (suc n) l = held_taken s (taken_below n s) n l (held_below s n (ome
 pub held : (s : List ℕ) → Held s (objects_of s)
 unfolding objects_of
 held s = held_below s 12 (omega arith)
+
+pub in-data : (s : List ℕ) (o : Objects) → Held s o → InData s o
+in-data s o h = record { values_long = h.values_long; low = h.low; high = h.high }

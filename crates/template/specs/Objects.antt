@@ -67,7 +67,13 @@ taken_below (suc n) s = taken_at s (taken_below n s) n
 unfoldable pub objects_of : List ℕ → Objects
 objects_of s = taken_below 12 s
 
--- every value stands within the data, and one that is not there is empty
+-- every value stands within the data
+pub record InData (s : List ℕ) (o : Objects) : Type 0 where
+  pub values_long : length o.values ≡ 12
+  pub low : (k : ℕ) → start_in o k ≤ end_in o k
+  pub high : (k : ℕ) → end_in o k ≤ length s
+
+-- every value stands within the data, and one that starts at 0 ends there: it is not there, or empty
 pub record Held (s : List ℕ) (o : Objects) : Type 0 where
   pub values_long : length o.values ≡ 12
   pub absent : (k : ℕ) → start_in o k ≡ 0 → end_in o k ≡ 0

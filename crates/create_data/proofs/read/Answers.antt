@@ -4,12 +4,12 @@ use Rattle.template.specs.Objects.{Held}
 use Rattle.create_data.specs.Data.{data_of}
 use Rattle.create_data.specs.Good.{Good}
 use Rattle.create_data.proofs.Good.{good}
-use Rattle.template.proofs.Holding.{held}
+use Rattle.template.proofs.Holding.{held, in-data}
 use borrow.Author.Rules.{rules}
 use Rattle.create_data.proofs.read.Goals as goal
 
 pub invariant_of-sent : goal.invariant_of-sent
-invariant_of-sent c = record { held = subst (Held _) (sym c.all.ensures) (held _) }
+invariant_of-sent c = record { held = in-data _ _ (subst (Held _) (sym c.all.ensures) (held _)) }
 
 pub returns : goal.returns
 unfolding data_of
