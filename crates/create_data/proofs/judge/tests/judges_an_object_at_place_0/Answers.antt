@@ -4,6 +4,7 @@ use mathlib.Core.List.{List, [], ◌∷◌}
 use Prim.Native.Nat.{ℕ, zero, suc, ◌≤◌}
 use native.Mathlib.Omega.{arith}
 use lib.ListN.{length, get_or}
+use Rattle.std.specs.List.{AllByRecursion}
 use Rattle.std.specs.Prelude.{Option, None, unwrap_or}
 use Rattle.template.specs.declared.Span.{Span}
 use Rattle.template.specs.declared.Objects.{Objects}
@@ -14,20 +15,14 @@ module _ (n : ℕ) where
   abbrev Stands : Option Span → Type 0
   Stands x = ((unwrap_or x nowhere).start ≤ (unwrap_or x nowhere).end) × ((unwrap_or x nowhere).end ≤ n)
 
-  abbrev Each : List (Option Span) → Type 0
-  Each [] = Unit
-  Each (x ∷ l) = Stands x × Each l
-
-  none : Stands None
-  none = (omega arith, omega arith)
-
-  at : (l : List (Option Span)) → Each l → (k : ℕ) → Stands (get_or l k None)
-  at [] e k = none
+  -- behind the last there is none, which stands at 0
+  at : (l : List (Option Span)) → AllByRecursion Stands l → (k : ℕ) → Stands (get_or l k None)
+  at [] e k = (omega arith, omega arith)
   at (x ∷ l) e zero = e.0
   at (x ∷ l) e (suc k) = at l e.1 k
 
-in-data : (s : List ℕ) (o : Objects) → length o.values ≡ 12 → Each (length s) o.values → InData s o
-in-data s o l e = record { values_long = l; low = λ k. (at (length s) o.values e k).0; high = λ k. (at (length s) o.values e k).1 }
+all-in_data : (s : List ℕ) (o : Objects) → length o.values ≡ 12 → AllByRecursion (Stands (length s)) o.values → InData s o
+all-in_data s o l e = record { values_long = l; low = λ k. (at (length s) o.values e k).0; high = λ k. (at (length s) o.values e k).1 }
 
 pub invariant_of-sent : goal.invariant_of-sent
-invariant_of-sent g c = record { held = in-data _ _ refl (omega arith) }
+invariant_of-sent g c = record { held = all-in_data _ _ refl (omega arith) }
